@@ -1,0 +1,4 @@
+pub mod Case
+pub mod Cases
+pub mod Corners
+pub mod Forms

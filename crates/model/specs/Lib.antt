@@ -1,0 +1,15 @@
+pub mod Bytes
+pub mod Utf8
+pub mod Path
+pub mod Map
+pub mod Tree
+pub mod Listing
+pub mod Table
+pub mod Answer
+pub mod Checks
+pub mod Rename
+pub mod Calls
+pub mod Outcome
+pub mod Plain
+pub mod Cause
+pub mod Posix

@@ -1,0 +1,63 @@
+// What the calls answer, the record that a caller keeps beside a table, and the numbers of document 01, as declared types and constants.
+// No function stands here: what each case of an answer says, in 01's numbers, is defined in specs/Answer.antt.
+
+// "The record by value holds bytes used, count, charge and E".
+pub struct Record {
+    pub used: u64,
+    pub count: u64,
+    pub charge: u64,
+    pub entry_size: u64,
+}
+
+// Document 01, "Turning a call down", row by row: a path is 0 (only, or source) or 1 (destination), and comes before a length.
+pub enum Refusal {
+    MalformedTable,
+    MalformedListing,
+    MalformedPath(u64),
+    LinkOrRoot(u64, u64),
+    NotFound(u64, u64),
+    Exists(u64, u64),
+    NotADirectory(u64, u64),
+    IsADirectory(u64, u64),
+    NotEmpty(u64, u64),
+    BelowSource(u64),
+    Limit,
+    KeyTooLong,
+    NoRoom,
+}
+
+// A changing call's answer: accepted with a value (the data's length for write, else 0), or refused.
+pub enum Answer {
+    Accepted(u64),
+    Refused(Refusal),
+}
+
+// A query's answer.
+pub enum Finding {
+    Yes,
+    No,
+    Unanswered(Refusal),
+}
+
+// A changing call's answer, and the record that it leaves.
+pub struct Answered {
+    pub answer: Answer,
+    pub record: Record,
+}
+
+// The longest listing and the longest table, in bytes; the largest entry size.
+pub const MAX_BUFFER: usize = 16_777_216;
+
+pub const MAX_ENTRY_SIZE: u64 = 4_096;
+
+// A path's bytes and components, and a component's bytes.
+pub const MAX_PATH: usize = 512;
+
+pub const MAX_COMPONENTS: usize = 32;
+
+pub const MAX_COMPONENT: usize = 255;
+
+// What an entry is charged beside its key, its entry size and its body; what the walk adds beside a path's length. Names of the Rust.
+pub const ENTRY_MEMORY_USAGE: u64 = 256;
+
+pub const REAL_DESCENDANT_MEMORY_USAGE: u64 = 512;
