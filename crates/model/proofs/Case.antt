@@ -1,18 +1,18 @@
 -- What a case of the tables in Cases.antt and Corners.antt is, and how it is computed: on bytes, from a listing and a table encoded here.
 -- Assumes nothing. The encoding of a listing serves the cases alone: the port only reads listings.
-use mathlib.Core.Bool.{Bool, true, false, cond, _&&_}
-use mathlib.Core.List.{List, [], _∷_, _++_, map}
+use mathlib.Core.Bool.{Bool, true, false}
+use mathlib.Core.List.{List, [], _∷_, _++_}
 use Prim.Native.Nat.{ℕ}
 use Prim.Native.Char.{code}
 use Prim.Native.String.{String}
 use lib.ListN.{length, replicate}
 use Rattle.model.specs.Bytes.{Bytes, bytes, same}
 use Rattle.model.specs.Path.{Path}
-use Rattle.model.specs.Tree.{Body, listed, Node, dir, file, link, Table, Tree}
+use Rattle.model.specs.Tree.{listed, Node, dir, file, link, Table, Tree}
 use Rattle.model.specs.Table.{encode, padded, recordOf, isTable, tableIn}
 use Rattle.model.specs.Calls.{Call, write, mkdir, unlink, rmdir, rename, Query}
 use Rattle.model.specs.Answer.{Reply, accepted, refused}
-use Rattle.model.specs.Outcome.{Store, Request, Outcome, outcome, ask}
+use Rattle.model.specs.Outcome.{Store, Outcome, outcome, ask}
 
 -- the bytes of a text
 abbrev pub path : String → Path
@@ -35,37 +35,37 @@ abbrev pub listingBytes : Tree → Bytes
 listingBytes l = path "RDL" ++ (bytes 2 1 ++ (bytes 4 (length l) ++ treeBytes l))
 
 -- a directory, a file and a link of a listing
-abbrev pub aDir : String → ℕ → Path × Node
-aDir p m = (path p, dir m)
+abbrev pub dirAt : String → ℕ → Path × Node
+dirAt p m = (path p, dir m)
 
-abbrev pub aFile : String → ℕ → ℕ → Path × Node
-aFile p m z = (path p, file m z (listed (path p)))
+abbrev pub fileAt : String → ℕ → ℕ → Path × Node
+fileAt p m z = (path p, file m z (listed (path p)))
 
-abbrev pub aLink : String → Path × Node
-aLink p = (path p, link)
+abbrev pub linkAt : String → Path × Node
+linkAt p = (path p, link)
 
 pub data Step : Type 0 where
   call : (limit : ℕ) → Call → Step
   query : Query → (p : String) → Step
 
 -- the calls with their limits; mkdir without exist_ok, without and with parents; write and mkdir with mtime 7
-abbrev pub writes : ℕ → String → Bytes → Step
-writes limit p c = call limit (write (path p) 7 c)
+abbrev pub writing : ℕ → String → Bytes → Step
+writing limit p c = call limit (write (path p) 7 c)
 
-abbrev pub makes : ℕ → String → Step
-makes limit p = call limit (mkdir (path p) false false 7)
+abbrev pub making : ℕ → String → Step
+making limit p = call limit (mkdir (path p) false false 7)
 
-abbrev pub makesAll : ℕ → String → Step
-makesAll limit p = call limit (mkdir (path p) true false 7)
+abbrev pub makingAll : ℕ → String → Step
+makingAll limit p = call limit (mkdir (path p) true false 7)
 
-abbrev pub unlinks : ℕ → String → Step
-unlinks limit p = call limit (unlink (path p))
+abbrev pub unlinking : ℕ → String → Step
+unlinking limit p = call limit (unlink (path p))
 
-abbrev pub removes : ℕ → String → Step
-removes limit p = call limit (rmdir (path p))
+abbrev pub removing : ℕ → String → Step
+removing limit p = call limit (rmdir (path p))
 
-abbrev pub renames : ℕ → String → String → Step
-renames limit a b = call limit (rename (path a) (path b))
+abbrev pub renaming : ℕ → String → String → Step
+renaming limit a b = call limit (rename (path a) (path b))
 
 -- what is seen after a step: the answer, the record's charge, the entries; whether table and record are well-formed; whether the work buffer is all 0
 -- (accepted) or as it was (refused)

@@ -1,14 +1,12 @@
 -- The cases of document 01, "Corners in overlay.rs and overlay_state.rs", that are marked (P): one table, one theorem, computed.
 -- Each compares the whole answer (number, path, length), the charge and all entries after the call. Assumes nothing.
-use mathlib.Core.Bool.{true, false}
 use mathlib.Core.List.{List, [], _∷_, map}
 use mathlib.Core.Path.{_≡_, refl}
 use Prim.Native.Nat.{ℕ}
-use Rattle.model.specs.Path.{Path}
-use Rattle.model.specs.Tree.{Entry, own, reference, directory, deleted, Tree, Table}
+use Rattle.model.specs.Tree.{own, reference, directory, deleted, Tree, Table}
 use Rattle.model.specs.Calls.{exists}
 use Rattle.model.specs.Answer.{accepted, refused}
-use Rattle.model.proofs.Case.{path, aDir, aFile, aLink, query, writes, makes, makesAll, unlinks, removes, renames, Seen, Case, from, computed, stated}
+use Rattle.model.proofs.Case.{path, dirAt, fileAt, linkAt, query, writing, making, makingAll, unlinking, removing, renaming, Case, from, computed, stated}
 
 -- the bits of 1.0 and 2.0
 abbrev pub one : ℕ
@@ -19,7 +17,7 @@ two = 0x4000_0000_0000_0000
 
 -- "listing L: `a` directory, mtime 1.0; `a/f` file, size 5, mtime 2.0; `l` link; `z` file, size 0, mtime 0.0"
 abbrev pub L : Tree
-L = aDir "a" one ∷ aFile "a/f" two 5 ∷ aLink "l" ∷ aFile "z" 0 0 ∷ []
+L = dirAt "a" one ∷ fileAt "a/f" two 5 ∷ linkAt "l" ∷ fileAt "z" 0 0 ∷ []
 
 -- "Entries: `a` deleted 297, `a/f` deleted 299, `b` directory 297, `b/f` reference to `a/f` 302; charge 1,195."
 abbrev pub there : Table
@@ -36,31 +34,31 @@ ample = 99_999
 pub cases : List Case
 cases =
     -- rename
-    from L (renames 1195 "a" "b") [] (accepted 0) 1195 there
-    ∷ from L (renames 1194 "a" "b") [] (refused 11 0 0) 0 []
-    ∷ from L (renames 1195 "a" "b") (renames 1460 "b" "a" ∷ []) (accepted 0) 1195 back
-    ∷ from L (renames 1195 "a" "b") (renames 1459 "b" "a" ∷ []) (refused 11 0 0) 1195 there
-    ∷ from L (renames 298 "z" "z") [] (accepted 0) 298 ((path "z", reference 0 0 (path "z")) ∷ [])
-    ∷ from L (renames ample "a" "a") [] (refused 9 1 1) 0 []
-    ∷ from L (renames ample "a" "a/b") [] (refused 10 0 1) 0 []
-    ∷ from L (renames ample "a" "a/f") [] (refused 7 1 3) 0 []
-    ∷ from L (renames ample "q" "a") [] (refused 8 1 1) 0 []
-    ∷ from L (renames ample "q" "n") [] (refused 5 0 1) 0 []
-    ∷ from L (renames ample "z" "z/n") [] (refused 5 1 3) 0 []
-    ∷ from L (renames ample "" "b") [] (refused 4 0 0) 0 []
-    ∷ from L (renames ample "a" "") [] (refused 4 1 0) 0 []
+    from L (renaming 1195 "a" "b") [] (accepted 0) 1195 there
+    ∷ from L (renaming 1194 "a" "b") [] (refused 11 0 0) 0 []
+    ∷ from L (renaming 1195 "a" "b") (renaming 1460 "b" "a" ∷ []) (accepted 0) 1195 back
+    ∷ from L (renaming 1195 "a" "b") (renaming 1459 "b" "a" ∷ []) (refused 11 0 0) 1195 there
+    ∷ from L (renaming 298 "z" "z") [] (accepted 0) 298 ((path "z", reference 0 0 (path "z")) ∷ [])
+    ∷ from L (renaming ample "a" "a") [] (refused 9 1 1) 0 []
+    ∷ from L (renaming ample "a" "a/b") [] (refused 10 0 1) 0 []
+    ∷ from L (renaming ample "a" "a/f") [] (refused 7 1 3) 0 []
+    ∷ from L (renaming ample "q" "a") [] (refused 8 1 1) 0 []
+    ∷ from L (renaming ample "q" "n") [] (refused 5 0 1) 0 []
+    ∷ from L (renaming ample "z" "z/n") [] (refused 5 1 3) 0 []
+    ∷ from L (renaming ample "" "b") [] (refused 4 0 0) 0 []
+    ∷ from L (renaming ample "a" "") [] (refused 4 1 0) 0 []
     -- unlink, rmdir
-    ∷ from L (unlinks 297 "z") [] (accepted 0) 297 ((path "z", deleted) ∷ [])
-    ∷ from L (unlinks 296 "z") [] (refused 11 0 0) 0 []
-    ∷ from L (unlinks ample "l") [] (refused 4 0 1) 0 []
-    ∷ from L (unlinks ample "") [] (refused 8 0 0) 0 []
-    ∷ from L (removes ample "a") [] (refused 9 0 1) 0 []
-    ∷ from L (unlinks ample "a/f") (removes 596 "a" ∷ []) (accepted 0) 596 ((path "a", deleted) ∷ (path "a/f", deleted) ∷ [])
-    ∷ from L (removes ample "") [] (refused 4 0 0) 0 []
+    ∷ from L (unlinking 297 "z") [] (accepted 0) 297 ((path "z", deleted) ∷ [])
+    ∷ from L (unlinking 296 "z") [] (refused 11 0 0) 0 []
+    ∷ from L (unlinking ample "l") [] (refused 4 0 1) 0 []
+    ∷ from L (unlinking ample "") [] (refused 8 0 0) 0 []
+    ∷ from L (removing ample "a") [] (refused 9 0 1) 0 []
+    ∷ from L (unlinking ample "a/f") (removing 596 "a" ∷ []) (accepted 0) 596 ((path "a", deleted) ∷ (path "a/f", deleted) ∷ [])
+    ∷ from L (removing ample "") [] (refused 4 0 0) 0 []
     -- mkdir, write, queries
-    ∷ from L (makes ample "z/n") [] (refused 5 0 3) 0 []
-    ∷ from L (makesAll ample "z/n") [] (refused 7 0 1) 0 []
-    ∷ from L (writes 301 "a/f" (1 ∷ 2 ∷ [])) [] (accepted 2) 301 ((path "a/f", own 7 (1 ∷ 2 ∷ [])) ∷ [])
+    ∷ from L (making ample "z/n") [] (refused 5 0 3) 0 []
+    ∷ from L (makingAll ample "z/n") [] (refused 7 0 1) 0 []
+    ∷ from L (writing 301 "a/f" (1 ∷ 2 ∷ [])) [] (accepted 2) 301 ((path "a/f", own 7 (1 ∷ 2 ∷ [])) ∷ [])
     ∷ from L (query exists "l") [] (accepted 0) 0 []
     ∷ []
 

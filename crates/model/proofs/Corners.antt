@@ -3,186 +3,195 @@
 use mathlib.Core.Bool.{true, false}
 use mathlib.Core.List.{List, [], _∷_, _++_, map}
 use mathlib.Core.Path.{_≡_, refl}
-use Prim.Native.Nat.{ℕ}
 use Prim.Native.String.{String}
 use lib.ListN.{replicate}
 use Rattle.model.specs.Path.{Path}
-use Rattle.model.specs.Tree.{Entry, own, reference, directory, deleted, Tree, Table}
+use Rattle.model.specs.Tree.{own, reference, directory, deleted, Tree, Table}
 use Rattle.model.specs.Calls.{mkdir, exists, isFile, isDir}
 use Rattle.model.specs.Answer.{accepted, refused}
-use Rattle.model.proofs.Case.{path, aDir, aFile, aLink, call, query, writes, makes, makesAll, unlinks, removes, renames, Seen, Case, begun, from, computed, stated}
+use Rattle.model.proofs.Case.{path, dirAt, fileAt, linkAt, call, query, writing, making, makingAll, unlinking, removing, renaming, Case, begun, from, computed, stated}
 use Rattle.model.proofs.Cases.{one, two, L, there, ample}
 
 -- keys with bytes below `/` next to a directory: 2D is `-`, 2F is `/`, 30 is `0`
 abbrev near : Tree
-near = aDir "a" 1 ∷ aFile "a-b" 2 3 ∷ aFile "a/x" 4 5 ∷ aFile "a0" 6 7 ∷ []
+near = dirAt "a" 1 ∷ fileAt "a-b" 2 3 ∷ fileAt "a/x" 4 5 ∷ fileAt "a0" 6 7 ∷ []
 
 abbrev beside : Tree
-beside = aDir "a" 1 ∷ aFile "a-b" 2 3 ∷ aFile "a0" 6 7 ∷ []
+beside = dirAt "a" 1 ∷ fileAt "a-b" 2 3 ∷ fileAt "a0" 6 7 ∷ []
 
 pub belows : List Case
 belows =
     -- takes `a-b` or `a0` to be below `a` in the listing
-    from near (renames 1195 "a" "c") [] (accepted 0) 1195
+    from near (renaming 1195 "a" "c") [] (accepted 0) 1195
     ((path "a", deleted) ∷ (path "a/x", deleted) ∷ (path "c", directory 1) ∷ (path "c/x", reference 4 5 (path "a/x")) ∷ [])
     -- takes them to be below `a` in the table; keeps the entries in the order of a tree's walk, `a/x` before `a-b`
-    ∷ from near (writes ample "a/x" []) (writes ample "a0" [] ∷ writes ample "a-b" [] ∷ renames ample "a" "c" ∷ []) (accepted 0) 1789
+    ∷ from near (writing ample "a/x" []) (writing ample "a0" [] ∷ writing ample "a-b" [] ∷ renaming ample "a" "c" ∷ []) (accepted 0) 1789
     ((path "a", deleted) ∷ (path "a-b", own 7 []) ∷ (path "a/x", deleted) ∷ (path "a0", own 7 []) ∷ (path "c", directory 1) ∷ (path "c/x", own 7 []) ∷ [])
     -- takes them to be children of `a`
-    ∷ from beside (removes ample "a") [] (accepted 0) 297 ((path "a", deleted) ∷ [])
+    ∷ from beside (removing ample "a") [] (accepted 0) 297 ((path "a", deleted) ∷ [])
     -- takes `ab` to be a child of `a`: neither has a slash
-    ∷ from (aDir "a" 1 ∷ aFile "ab" 2 3 ∷ []) (removes ample "a") [] (accepted 0) 297 ((path "a", deleted) ∷ [])
+    ∷ from (dirAt "a" 1 ∷ fileAt "ab" 2 3 ∷ []) (removing ample "a") [] (accepted 0) 297 ((path "a", deleted) ∷ [])
     ∷ []
 
 -- two directories, one listed with a file
 abbrev pair : Tree
-pair = aDir "a" one ∷ aFile "a/f" two 5 ∷ aDir "d" 3 ∷ aFile "d/g" 4 6 ∷ []
+pair = dirAt "a" one ∷ fileAt "a/f" two 5 ∷ dirAt "d" 3 ∷ fileAt "d/g" 4 6 ∷ []
 
 -- a directory in a directory, with a file
 abbrev deep : Tree
-deep = aDir "a" 1 ∷ aDir "a/b" 2 ∷ aFile "a/b/f" 3 4 ∷ []
+deep = dirAt "a" 1 ∷ dirAt "a/b" 2 ∷ fileAt "a/b/f" 3 4 ∷ []
 
 pub deletions : List Case
 deletions =
     -- drops deleted entries when a directory moves
-    from L (unlinks ample "a/f") (renames 1192 "a" "b" ∷ []) (accepted 0) 1192
+    from L (unlinking ample "a/f") (renaming 1192 "a" "b" ∷ []) (accepted 0) 1192
     ((path "a", deleted) ∷ (path "a/f", deleted) ∷ (path "b", directory one) ∷ (path "b/f", deleted) ∷ [])
     -- the same, seen from outside: the listed file shows again when the directory comes back
-    ∷ from L (unlinks ample "a/f") (renames ample "a" "b" ∷ renames ample "b" "a" ∷ query exists "a/f" ∷ []) (accepted 0) 1192
+    ∷ from L (unlinking ample "a/f") (renaming ample "a" "b" ∷ renaming ample "b" "a" ∷ query exists "a/f" ∷ []) (accepted 0) 1192
     ((path "a", directory one) ∷ (path "a/f", deleted) ∷ (path "b", deleted) ∷ (path "b/f", deleted) ∷ [])
     -- reads the listing through a deleted destination (9, or `d/g` seen again), or forgets what was deleted below it
-    ∷ from pair (unlinks ample "d/g") (removes ample "d" ∷ renames 1494 "a" "d" ∷ []) (accepted 0) 1494
+    ∷ from pair (unlinking ample "d/g") (removing ample "d" ∷ renaming 1494 "a" "d" ∷ []) (accepted 0) 1494
     ((path "a", deleted) ∷ (path "a/f", deleted) ∷ (path "d", directory one) ∷ (path "d/f", reference two 5 (path "a/f")) ∷ (path "d/g", deleted) ∷ [])
     -- takes a deleted ancestor for a directory that is there, or refuses at it
-    ∷ from L (unlinks ample "a/f") (removes ample "a" ∷ makesAll 895 "a/n" ∷ []) (accepted 0) 895
+    ∷ from L (unlinking ample "a/f") (removing ample "a" ∷ makingAll 895 "a/n" ∷ []) (accepted 0) 895
     ((path "a", directory 7) ∷ (path "a/f", deleted) ∷ (path "a/n", directory 7) ∷ [])
     -- walks below a deleted path
-    ∷ from deep (unlinks ample "a/b/f") (removes ample "a/b" ∷ renames ample "a" "c" ∷ []) (accepted 0) 1794
+    ∷ from deep (unlinking ample "a/b/f") (removing ample "a/b" ∷ renaming ample "a" "c" ∷ []) (accepted 0) 1794
     ((path "a", deleted) ∷ (path "a/b", deleted) ∷ (path "a/b/f", deleted) ∷ (path "c", directory 1) ∷ (path "c/b", deleted) ∷ (path "c/b/f", deleted) ∷ [])
     -- takes what is deleted below a file along with it
-    ∷ from L (unlinks ample "a/f") (removes ample "a" ∷ writes ample "a" [] ∷ renames 893 "a" "b" ∷ []) (accepted 0) 893
+    ∷ from L (unlinking ample "a/f") (removing ample "a" ∷ writing ample "a" [] ∷ renaming 893 "a" "b" ∷ []) (accepted 0) 893
     ((path "a", deleted) ∷ (path "a/f", deleted) ∷ (path "b", own 7 []) ∷ [])
     -- refuses mkdir over a deleted file
-    ∷ from L (unlinks ample "z") (makes ample "z" ∷ []) (accepted 0) 297 ((path "z", directory 7) ∷ [])
-    -- unlinks what is deleted
-    ∷ from L (unlinks ample "z") (unlinks ample "z" ∷ []) (refused 5 0 1) 297 ((path "z", deleted) ∷ [])
+    ∷ from L (unlinking ample "z") (making ample "z" ∷ []) (accepted 0) 297 ((path "z", directory 7) ∷ [])
+    -- unlinking what is deleted
+    ∷ from L (unlinking ample "z") (unlinking ample "z" ∷ []) (refused 5 0 1) 297 ((path "z", deleted) ∷ [])
     -- takes the entry away instead of marking it deleted
-    ∷ from L (writes ample "b" []) (unlinks ample "b" ∷ []) (accepted 0) 297 ((path "b", deleted) ∷ [])
-    -- removes a deleted directory
-    ∷ from (aDir "a" 1 ∷ []) (removes ample "a") (removes ample "a" ∷ []) (refused 5 0 1) 297 ((path "a", deleted) ∷ [])
+    ∷ from L (writing ample "b" []) (unlinking ample "b" ∷ []) (accepted 0) 297 ((path "b", deleted) ∷ [])
+    -- removing a deleted directory
+    ∷ from (dirAt "a" 1 ∷ []) (removing ample "a") (removing ample "a" ∷ []) (refused 5 0 1) 297 ((path "a", deleted) ∷ [])
     -- answers a deleted source by what the plain tree would say of the clash, 8
-    ∷ from L (unlinks ample "a/f") (renames ample "a/f" "a" ∷ []) (refused 5 0 3) 299 ((path "a/f", deleted) ∷ [])
+    ∷ from L (unlinking ample "a/f") (renaming ample "a/f" "a" ∷ []) (refused 5 0 3) 299 ((path "a/f", deleted) ∷ [])
     ∷ []
 
 abbrev linked : Tree
-linked = aDir "a" 1 ∷ aDir "a/b" 2 ∷ aLink "a/b/l" ∷ []
+linked = dirAt "a" 1 ∷ dirAt "a/b" 2 ∷ linkAt "a/b/l" ∷ []
 
 -- the link is in the first of two directories, a file in the second
 abbrev twoDirs : Tree
-twoDirs = aDir "a" 1 ∷ aDir "a/b" 2 ∷ aLink "a/b/l" ∷ aDir "a/c" 3 ∷ aFile "a/c/f" 4 5 ∷ []
+twoDirs = dirAt "a" 1 ∷ dirAt "a/b" 2 ∷ linkAt "a/b/l" ∷ dirAt "a/c" 3 ∷ fileAt "a/c/f" 4 5 ∷ []
 
 pub walks : List Case
 walks =
     -- walks one level only
-    from deep (renames 1799 "a" "c") [] (accepted 0) 1799
+    from deep (renaming 1799 "a" "c") [] (accepted 0) 1799
     ((path "a", deleted) ∷ (path "a/b", deleted) ∷ (path "a/b/f", deleted)
     ∷ (path "c", directory 1) ∷ (path "c/b", directory 2) ∷ (path "c/b/f", reference 3 4 (path "a/b/f")) ∷ [])
     -- leaves a link behind, or takes it along
-    ∷ from linked (renames ample "a" "c") [] (refused 4 0 1) 0 []
+    ∷ from linked (renaming ample "a" "c") [] (refused 4 0 1) 0 []
     -- starts at another sum than 2 × source length + 1, or adds another sum for a directory
-    ∷ from linked (renames 524 "a" "c") [] (refused 4 0 1) 0 []
-    ∷ from linked (renames 523 "a" "c") [] (refused 11 0 0) 0 []
+    ∷ from linked (renaming 524 "a" "c") [] (refused 4 0 1) 0 []
+    ∷ from linked (renaming 523 "a" "c") [] (refused 11 0 0) 0 []
     -- enters the first found directory first: it meets the link before the file
-    ∷ from twoDirs (renames 1567 "a" "c") [] (refused 4 0 1) 0 []
-    ∷ from twoDirs (renames 1566 "a" "c") [] (refused 11 0 0) 0 []
+    ∷ from twoDirs (renaming 1567 "a" "c") [] (refused 4 0 1) 0 []
+    ∷ from twoDirs (renaming 1566 "a" "c") [] (refused 11 0 0) 0 []
     -- compares the start with the budget where nothing is added
-    ∷ from (aDir "a" 1 ∷ []) (removes ample "a") (makes ample "a" ∷ makes ample "b" ∷ renames 594 "a" "b" ∷ []) (accepted 0) 594
+    ∷ from (dirAt "a" 1 ∷ []) (removing ample "a") (making ample "a" ∷ making ample "b" ∷ renaming 594 "a" "b" ∷ []) (accepted 0) 594
     ((path "a", deleted) ∷ (path "b", directory 7) ∷ [])
+    -- leaves the walk's sum out: the plain tree's rules allow this move, and only the walk is above
+    ∷ begun (dirAt "a" 1 ∷ dirAt "a/d" 2 ∷ []) 0 400 [] (making ample "b") (making ample "b/d" ∷ removing ample "b/d" ∷ removing ample "b" ∷ renaming 1039 "a" "b" ∷ [])
+    (refused 11 0 0) 516 ((path "b", deleted) ∷ (path "b/d", deleted) ∷ [])
+    ∷ begun (dirAt "a" 1 ∷ dirAt "a/d" 2 ∷ []) 0 400 [] (making ample "b") (making ample "b/d" ∷ removing ample "b/d" ∷ removing ample "b" ∷ renaming 1040 "a" "b" ∷ [])
+    (accepted 0) 1032 ((path "a", deleted) ∷ (path "a/d", deleted) ∷ (path "b", directory 1) ∷ (path "b/d", directory 2) ∷ [])
+    -- leaves deleted keys out of the plan
+    ∷ from L (unlinking ample "a/f") (renaming ample "a" "b" ∷ renaming 1456 "b" "a" ∷ []) (refused 11 0 0) 1192
+    ((path "a", deleted) ∷ (path "a/f", deleted) ∷ (path "b", directory one) ∷ (path "b/f", deleted) ∷ [])
+    ∷ from L (unlinking ample "a/f") (renaming ample "a" "b" ∷ renaming 1457 "b" "a" ∷ []) (accepted 0) 1192
+    ((path "a", directory one) ∷ (path "a/f", deleted) ∷ (path "b", deleted) ∷ (path "b/f", deleted) ∷ [])
     -- charges the limit only after the walk: the link would come first
-    ∷ from linked (writes ample "a/x" []) (renames 298 "a" "c" ∷ []) (refused 11 0 0) 299 ((path "a/x", own 7 []) ∷ [])
+    ∷ from linked (writing ample "a/x" []) (renaming 298 "a" "c" ∷ []) (refused 11 0 0) 299 ((path "a/x", own 7 []) ∷ [])
     -- goes below an entry that is no deleted one: the link there would be met
-    ∷ begun linked 40 400 ((path "a/b", directory 9) ∷ []) (renames ample "a" "c") [] (accepted 0) 1192
+    ∷ begun linked 40 400 ((path "a/b", directory 9) ∷ []) (renaming ample "a" "c") [] (accepted 0) 1192
     ((path "a", deleted) ∷ (path "a/b", deleted) ∷ (path "c", directory 1) ∷ (path "c/b", directory 9) ∷ [])
     -- does not walk where the source has an entry, though it is a listed directory
-    ∷ begun L 40 400 ((path "a", directory 9) ∷ []) (renames ample "a" "b") [] (accepted 0) 1195
+    ∷ begun L 40 400 ((path "a", directory 9) ∷ []) (renaming ample "a" "b") [] (accepted 0) 1195
     ((path "a", deleted) ∷ (path "a/f", deleted) ∷ (path "b", directory 9) ∷ (path "b/f", reference two 5 (path "a/f")) ∷ [])
-    ∷ begun linked 40 400 ((path "a", directory 9) ∷ []) (renames ample "a" "c") [] (refused 4 0 1) 297 ((path "a", directory 9) ∷ [])
+    ∷ begun linked 40 400 ((path "a", directory 9) ∷ []) (renaming ample "a" "c") [] (refused 4 0 1) 297 ((path "a", directory 9) ∷ [])
     ∷ []
 
 pub links : List Case
 links =
     -- does not count a link as a child
-    from (aDir "a" 1 ∷ aLink "a/l" ∷ []) (removes ample "a") [] (refused 9 0 1) 0 []
-    -- writes over a link, or below it
-    ∷ from L (writes ample "l" []) [] (refused 4 0 1) 0 []
-    ∷ from L (writes ample "l/x" []) [] (refused 4 0 3) 0 []
-    ∷ from L (makes ample "l") [] (refused 4 0 1) 0 []
+    from (dirAt "a" 1 ∷ linkAt "a/l" ∷ []) (removing ample "a") [] (refused 9 0 1) 0 []
+    -- writing over a link, or below it
+    ∷ from L (writing ample "l" []) [] (refused 4 0 1) 0 []
+    ∷ from L (writing ample "l/x" []) [] (refused 4 0 3) 0 []
+    ∷ from L (making ample "l") [] (refused 4 0 1) 0 []
     -- names the link's length, not the whole path's
-    ∷ from L (makesAll ample "l/x") [] (refused 4 0 3) 0 []
-    ∷ from L (removes ample "l") [] (refused 4 0 1) 0 []
-    ∷ from L (renames ample "l" "b") [] (refused 4 0 1) 0 []
+    ∷ from L (makingAll ample "l/x") [] (refused 4 0 3) 0 []
+    ∷ from L (removing ample "l") [] (refused 4 0 1) 0 []
+    ∷ from L (renaming ample "l" "b") [] (refused 4 0 1) 0 []
     -- tests the source before a link at the destination
-    ∷ from L (renames ample "q" "l") [] (refused 4 1 1) 0 []
+    ∷ from L (renaming ample "q" "l") [] (refused 4 1 1) 0 []
     -- takes an entry over a link for the link
-    ∷ begun L 40 400 ((path "l", directory 9) ∷ []) (makes ample "l/x") [] (accepted 0) 596 ((path "l", directory 9) ∷ (path "l/x", directory 7) ∷ [])
+    ∷ begun L 40 400 ((path "l", directory 9) ∷ []) (making ample "l/x") [] (accepted 0) 596 ((path "l", directory 9) ∷ (path "l/x", directory 7) ∷ [])
     ∷ []
 
 pub orders : List Case
 orders =
     -- 10 before 9
-    from deep (renames ample "a" "a/b") [] (refused 9 1 3) 0 []
+    from deep (renaming ample "a" "a/b") [] (refused 9 1 3) 0 []
     -- the source's parents before the destination's, or not at all
-    ∷ from L (renames ample "z/n" "q/n") [] (refused 5 1 3) 0 []
-    ∷ from L (renames ample "z/n" "b") [] (refused 5 0 3) 0 []
+    ∷ from L (renaming ample "z/n" "q/n") [] (refused 5 1 3) 0 []
+    ∷ from L (renaming ample "z/n" "b") [] (refused 5 0 3) 0 []
     -- 9 for a destination that shows nothing
-    ∷ begun L 40 400 ((path "b/x/y", own 7 []) ∷ []) (renames ample "a" "b") [] (accepted 0) 1496
+    ∷ begun L 40 400 ((path "b/x/y", own 7 []) ∷ []) (renaming ample "a" "b") [] (accepted 0) 1496
     ((path "a", deleted) ∷ (path "a/f", deleted) ∷ (path "b", directory one) ∷ (path "b/f", reference two 5 (path "a/f")) ∷ (path "b/x/y", own 7 []) ∷ [])
     -- "not empty" as anything below, where no child is visible
-    ∷ begun (aDir "a" 1 ∷ []) 40 400 ((path "a/b/c", own 7 []) ∷ []) (removes ample "a") [] (accepted 0) 598
+    ∷ begun (dirAt "a" 1 ∷ []) 40 400 ((path "a/b/c", own 7 []) ∷ []) (removing ample "a") [] (accepted 0) 598
     ((path "a", deleted) ∷ (path "a/b/c", own 7 []) ∷ [])
     -- "not empty" by entries alone, where the directory has one
-    ∷ begun L 40 400 ((path "a", directory 9) ∷ []) (removes ample "a") [] (refused 9 0 1) 297 ((path "a", directory 9) ∷ [])
-    -- both paths empty: the destination's
-    ∷ from L (renames ample "" "") [] (refused 4 0 0) 0 []
+    ∷ begun L 40 400 ((path "a", directory 9) ∷ []) (removing ample "a") [] (refused 9 0 1) 297 ((path "a", directory 9) ∷ [])
+    -- names the destination where both paths are empty
+    ∷ from L (renaming ample "" "") [] (refused 4 0 0) 0 []
     -- moves a directory onto itself only where it is not empty
-    ∷ from L (makes ample "d") (renames ample "d" "d" ∷ []) (accepted 0) 297 ((path "d", directory 7) ∷ [])
+    ∷ from L (making ample "d") (renaming ample "d" "d" ∷ []) (accepted 0) 297 ((path "d", directory 7) ∷ [])
     -- moves a file onto a directory
-    ∷ from L (renames ample "z" "a") [] (refused 8 1 1) 0 []
+    ∷ from L (renaming ample "z" "a") [] (refused 8 1 1) 0 []
     -- keeps the destination's mtime
-    ∷ from L (writes ample "b" (1 ∷ [])) (renames ample "z" "b" ∷ []) (accepted 0) 595 ((path "b", reference 0 0 (path "z")) ∷ (path "z", deleted) ∷ [])
+    ∷ from L (writing ample "b" (1 ∷ [])) (renaming ample "z" "b" ∷ []) (accepted 0) 595 ((path "b", reference 0 0 (path "z")) ∷ (path "z", deleted) ∷ [])
     ∷ []
 
 pub smalls : List Case
 smalls =
     -- write: without parents, onto a directory or the root, keeping the old content's tail, not the data's length answered
-    from L (writes ample "n/x" []) [] (refused 5 0 3) 0 []
-    ∷ from L (writes ample "a" []) [] (refused 8 0 1) 0 []
-    ∷ from L (writes ample "" []) [] (refused 8 0 0) 0 []
-    ∷ from L (writes ample "z" (1 ∷ 2 ∷ 3 ∷ 4 ∷ 5 ∷ [])) (writes ample "z" (6 ∷ 7 ∷ []) ∷ []) (accepted 2) 299 ((path "z", own 7 (6 ∷ 7 ∷ [])) ∷ [])
+    from L (writing ample "n/x" []) [] (refused 5 0 3) 0 []
+    ∷ from L (writing ample "a" []) [] (refused 8 0 1) 0 []
+    ∷ from L (writing ample "" []) [] (refused 8 0 0) 0 []
+    ∷ from L (writing ample "z" (1 ∷ 2 ∷ 3 ∷ 4 ∷ 5 ∷ [])) (writing ample "z" (6 ∷ 7 ∷ []) ∷ []) (accepted 2) 299 ((path "z", own 7 (6 ∷ 7 ∷ [])) ∷ [])
     -- 11 only where the charge grows
-    ∷ from L (writes ample "z" (1 ∷ 2 ∷ 3 ∷ 4 ∷ 5 ∷ [])) (writes 298 "z" (6 ∷ 7 ∷ []) ∷ []) (refused 11 0 0) 302 ((path "z", own 7 (1 ∷ 2 ∷ 3 ∷ 4 ∷ 5 ∷ [])) ∷ [])
-    -- mkdir with parents: makes listed parents again, leaves parents out, gives them mtime 0; charges only the last; implies exist_ok
-    ∷ from L (makesAll ample "a/n/m") [] (accepted 0) 600 ((path "a/n", directory 7) ∷ (path "a/n/m", directory 7) ∷ [])
-    ∷ from L (makesAll 596 "b/f") [] (accepted 0) 596 ((path "b", directory 7) ∷ (path "b/f", directory 7) ∷ [])
-    ∷ from L (makesAll 595 "b/f") [] (refused 11 0 0) 0 []
-    ∷ from L (makesAll ample "a") [] (refused 6 0 1) 0 []
+    ∷ from L (writing ample "z" (1 ∷ 2 ∷ 3 ∷ 4 ∷ 5 ∷ [])) (writing 298 "z" (6 ∷ 7 ∷ []) ∷ []) (refused 11 0 0) 302 ((path "z", own 7 (1 ∷ 2 ∷ 3 ∷ 4 ∷ 5 ∷ [])) ∷ [])
+    -- mkdir with parents: making listed parents again, leaves parents out, gives them mtime 0; charges only the last; implies exist_ok
+    ∷ from L (makingAll ample "a/n/m") [] (accepted 0) 600 ((path "a/n", directory 7) ∷ (path "a/n/m", directory 7) ∷ [])
+    ∷ from L (makingAll 596 "b/f") [] (accepted 0) 596 ((path "b", directory 7) ∷ (path "b/f", directory 7) ∷ [])
+    ∷ from L (makingAll 595 "b/f") [] (refused 11 0 0) 0 []
+    ∷ from L (makingAll ample "a") [] (refused 6 0 1) 0 []
     -- mkdir: exist_ok takes a file; checks the limit though nothing is made; refuses the root that is there
-    ∷ from L (makes ample "a") [] (refused 6 0 1) 0 []
+    ∷ from L (making ample "a") [] (refused 6 0 1) 0 []
     ∷ from L (call ample (mkdir (path "z") false true 7)) [] (refused 6 0 1) 0 []
-    ∷ from L (unlinks ample "z") (call 0 (mkdir (path "a") false true 7) ∷ []) (accepted 0) 297 ((path "z", deleted) ∷ [])
-    ∷ from L (makes ample "") [] (refused 6 0 0) 0 []
+    ∷ from L (unlinking ample "z") (call 0 (mkdir (path "a") false true 7) ∷ []) (accepted 0) 297 ((path "z", deleted) ∷ [])
+    ∷ from L (making ample "") [] (refused 6 0 0) 0 []
     ∷ from L (call 0 (mkdir (path "") false true 7)) [] (accepted 0) 0 []
     -- unlink of an absent path, of a directory, listed or not
-    ∷ from L (unlinks ample "q") [] (refused 5 0 1) 0 []
-    ∷ from L (unlinks ample "a") [] (refused 8 0 1) 0 []
-    ∷ from L (makes ample "b") (unlinks ample "b" ∷ []) (refused 8 0 1) 297 ((path "b", directory 7) ∷ [])
+    ∷ from L (unlinking ample "q") [] (refused 5 0 1) 0 []
+    ∷ from L (unlinking ample "a") [] (refused 8 0 1) 0 []
+    ∷ from L (making ample "b") (unlinking ample "b" ∷ []) (refused 8 0 1) 297 ((path "b", directory 7) ∷ [])
     -- rmdir of an own directory with a child, of a file, of an absent path
-    ∷ from L (makes ample "b") (writes ample "b/x" [] ∷ removes ample "b" ∷ []) (refused 9 0 1) 596 ((path "b", directory 7) ∷ (path "b/x", own 7 []) ∷ [])
-    ∷ from L (removes ample "z") [] (refused 7 0 1) 0 []
-    ∷ from L (removes ample "q") [] (refused 5 0 1) 0 []
+    ∷ from L (making ample "b") (writing ample "b/x" [] ∷ removing ample "b" ∷ []) (refused 9 0 1) 596 ((path "b", directory 7) ∷ (path "b/x", own 7 []) ∷ [])
+    ∷ from L (removing ample "z") [] (refused 7 0 1) 0 []
+    ∷ from L (removing ample "q") [] (refused 5 0 1) 0 []
     -- E is not charged
-    ∷ begun L 0 400 [] (unlinks 257 "z") [] (accepted 0) 257 ((path "z", deleted) ∷ [])
-    ∷ begun L 4096 400 [] (unlinks 4352 "z") [] (refused 11 0 0) 0 []
+    ∷ begun L 0 400 [] (unlinking 257 "z") [] (accepted 0) 257 ((path "z", deleted) ∷ [])
+    ∷ begun L 4096 400 [] (unlinking 4352 "z") [] (refused 11 0 0) 0 []
     ∷ []
 
 pub queries : List Case
@@ -199,13 +208,13 @@ queries =
     ∷ from L (query isDir "") [] (accepted 1) 0 []
     ∷ from L (query isDir "z") [] (accepted 0) 0 []
     ∷ from L (query isDir "l") [] (accepted 0) 0 []
-    ∷ from L (unlinks ample "z") (query exists "z" ∷ []) (accepted 0) 297 ((path "z", deleted) ∷ [])
-    ∷ from L (renames ample "a" "b") (query isFile "b/f" ∷ []) (accepted 1) 1195 there
+    ∷ from L (unlinking ample "z") (query exists "z" ∷ []) (accepted 0) 297 ((path "z", deleted) ∷ [])
+    ∷ from L (renaming ample "a" "b") (query isFile "b/f" ∷ []) (accepted 1) 1195 there
     ∷ []
 
 -- two directories; a key of 511 bytes below one of them, and one of 32 components
 abbrev plots : Tree
-plots = aDir "a" 1 ∷ aDir "d" 2 ∷ []
+plots = dirAt "a" 1 ∷ dirAt "d" 2 ∷ []
 
 abbrev longRest : Path
 longRest = 47 ∷ replicate 255 120 ++ (47 ∷ replicate 253 121)
@@ -223,23 +232,25 @@ arrived b r = (path "a", deleted) ∷ (path "a" ++ r, deleted) ∷ (path b, dire
 pub sizes : List Case
 sizes =
     -- 12 by components only, or off by one: a moved key of 512 bytes, and of 513
-    begun plots 40 1200 (holds longRest) (renames ample "a" "bb") [] (accepted 0) 2210 (arrived "bb" longRest)
-    ∷ begun plots 40 1200 (holds longRest) (renames ample "a" "bbb") [] (refused 12 0 0) 807 (holds longRest)
+    begun plots 40 1200 (holds longRest) (renaming ample "a" "bb") [] (accepted 0) 2210 (arrived "bb" longRest)
+    ∷ begun plots 40 1200 (holds longRest) (renaming ample "a" "bbb") [] (refused 12 0 0) 807 (holds longRest)
     -- 12 by length only, or off by one: a moved key of 32 components, and of 33
-    ∷ begun plots 40 400 (holds deepRest) (renames ample "a" "b") [] (accepted 0) 1356 (arrived "b" deepRest)
-    ∷ begun plots 40 400 (holds deepRest) (renames ample "a" "d/b") [] (refused 12 0 0) 381 (holds deepRest)
+    ∷ begun plots 40 400 (holds deepRest) (renaming ample "a" "b") [] (accepted 0) 1356 (arrived "b" deepRest)
+    ∷ begun plots 40 400 (holds deepRest) (renaming ample "a" "d/b") [] (refused 12 0 0) 381 (holds deepRest)
+    -- 12 of visible entries only
+    ∷ begun plots 40 1200 ((path "a" ++ longRest, deleted) ∷ []) (renaming ample "a" "bbb") [] (refused 12 0 0) 807 ((path "a" ++ longRest, deleted) ∷ [])
     -- 12 before 11; 13 before 12
-    ∷ begun plots 4096 1200 (holds longRest) (renames 10_000 "a" "bbb") [] (refused 11 0 0) 4863 (holds longRest)
-    ∷ begun plots 40 535 (holds longRest) (renames ample "a" "bbb") [] (refused 12 0 0) 807 (holds longRest)
+    ∷ begun plots 4096 1200 (holds longRest) (renaming 10_000 "a" "bbb") [] (refused 11 0 0) 4863 (holds longRest)
+    ∷ begun plots 40 535 (holds longRest) (renaming ample "a" "bbb") [] (refused 12 0 0) 807 (holds longRest)
     -- 13 off by one
-    ∷ begun L 40 107 [] (renames ample "a" "b") [] (accepted 0) 1195 there
-    ∷ begun L 40 106 [] (renames ample "a" "b") [] (refused 13 0 0) 0 []
+    ∷ begun L 40 107 [] (renaming ample "a" "b") [] (accepted 0) 1195 there
+    ∷ begun L 40 106 [] (renaming ample "a" "b") [] (refused 13 0 0) 0 []
     -- 13 before 11
-    ∷ begun L 40 106 [] (renames 1194 "a" "b") [] (refused 11 0 0) 0 []
+    ∷ begun L 40 106 [] (renaming 1194 "a" "b") [] (refused 11 0 0) 0 []
     -- freed bytes not used again
-    ∷ begun L 40 36 [] (writes ample "z" (1 ∷ 2 ∷ 3 ∷ 4 ∷ 5 ∷ 6 ∷ 7 ∷ 8 ∷ 9 ∷ 10 ∷ [])) (writes ample "z" (1 ∷ 2 ∷ 3 ∷ 4 ∷ 5 ∷ 6 ∷ 7 ∷ 8 ∷ 9 ∷ 10 ∷ 11 ∷ []) ∷ []) (accepted 11) 308
+    ∷ begun L 40 36 [] (writing ample "z" (1 ∷ 2 ∷ 3 ∷ 4 ∷ 5 ∷ 6 ∷ 7 ∷ 8 ∷ 9 ∷ 10 ∷ [])) (writing ample "z" (1 ∷ 2 ∷ 3 ∷ 4 ∷ 5 ∷ 6 ∷ 7 ∷ 8 ∷ 9 ∷ 10 ∷ 11 ∷ []) ∷ []) (accepted 11) 308
     ((path "z", own 7 (1 ∷ 2 ∷ 3 ∷ 4 ∷ 5 ∷ 6 ∷ 7 ∷ 8 ∷ 9 ∷ 10 ∷ 11 ∷ [])) ∷ [])
-    ∷ begun L 40 35 [] (writes ample "z" (1 ∷ 2 ∷ 3 ∷ 4 ∷ 5 ∷ 6 ∷ 7 ∷ 8 ∷ 9 ∷ 10 ∷ 11 ∷ [])) [] (refused 13 0 0) 0 []
+    ∷ begun L 40 35 [] (writing ample "z" (1 ∷ 2 ∷ 3 ∷ 4 ∷ 5 ∷ 6 ∷ 7 ∷ 8 ∷ 9 ∷ 10 ∷ 11 ∷ [])) [] (refused 13 0 0) 0 []
     ∷ []
 
 pub corners : List Case

@@ -1,4 +1,4 @@
--- Computed cases of the forms of document 01: which bytes are a path, a listing, a table with its record; 1, 2 and 3 in their order; opening.
+-- Computed cases of the forms of document 01: which bytes are a path, a listing, a table with its record; 1, 2 and 3 in their order; answers; opening.
 -- Beside each stands what is wrong with it, or what a wrong check would make of it. Assumes nothing.
 use mathlib.Core.Bool.{Bool, true, false}
 use mathlib.Core.List.{List, [], _∷_, _++_, map}
@@ -8,14 +8,18 @@ use Prim.Native.String.{String}
 use lib.ListN.{length, replicate}
 use Rattle.model.specs.Bytes.{Bytes, bytes}
 use Rattle.model.specs.Path.{Path, isPath}
-use Rattle.model.specs.Tree.{Entry, own, reference, directory, deleted, Tree, Table}
+use Rattle.model.specs.Tree.{reference, deleted, Table}
 use Rattle.model.specs.Listing.{isListing}
 use Rattle.model.specs.Table.{encode, padded, recordOf, isTable}
 use Rattle.model.specs.Calls.{Call, unlink, rename, exists}
-use Rattle.model.specs.Answer.{Reply, accepted, refused}
-use Rattle.model.specs.Outcome.{Store, Request, Outcome, outcome, ask, Opened, opened}
+use Rattle.model.specs.Answer.{Reply, accepted, refused, told, toldFinding}
+use Rattle.model.specs.Outcome.{Store, outcome, ask, opened}
 use Rattle.model.specs.declared.Record.{Record}
-use Rattle.model.proofs.Case.{path, typed, aDir, aFile, aLink, listingBytes}
+use Rattle.model.specs.declared.Refusal.the-variants.{MalformedTable, MalformedListing, MalformedPath, LinkOrRoot, NotFound, Exists, NotADirectory}
+use Rattle.model.specs.declared.Refusal.the-variants.{IsADirectory, NotEmpty, BelowSource, Limit, KeyTooLong, NoRoom}
+use Rattle.model.specs.declared.Answer.the-variants.{Accepted, Refused}
+use Rattle.model.specs.declared.Finding.the-variants.{Yes, No, Unanswered}
+use Rattle.model.proofs.Case.{path, typed, dirAt, fileAt, linkAt, listingBytes}
 use Rattle.model.proofs.Cases.{L}
 
 -- bytes, and whether they are a path
@@ -43,7 +47,7 @@ paths =
     ∷ (path "1/2/3/4/5/6/7/8/9/0/1/2/3/4/5/6/7/8/9/0/1/2/3/4/5/6/7/8/9/0/1/2/3", false)
     ∷ (replicate 255 97 ++ (47 ∷ replicate 254 97 ++ (47 ∷ 97 ∷ [])), true)
     ∷ (replicate 255 97 ++ (47 ∷ replicate 255 97 ++ (47 ∷ 97 ∷ [])), false)
-    -- the first and the last character of each row of RFC 3629; overlong forms, surrogates, above 10FFFF; cut short
+    -- the first and the last character of each row of RFC 3629 beside what lies just outside: overlong forms, surrogates, above 10FFFF; cut short
     ∷ (0x7F ∷ [], true)
     ∷ (0x80 ∷ [], false)
     ∷ (0xC1 ∷ 0xBF ∷ [], false)
@@ -51,12 +55,20 @@ paths =
     ∷ (0xDF ∷ 0xBF ∷ [], true)
     ∷ (0xE0 ∷ 0x9F ∷ 0xBF ∷ [], false)
     ∷ (0xE0 ∷ 0xA0 ∷ 0x80 ∷ [], true)
+    ∷ (0xE0 ∷ 0xBF ∷ 0xBF ∷ [], true)
+    ∷ (0xE1 ∷ 0x80 ∷ 0x80 ∷ [], true)
+    ∷ (0xEC ∷ 0xBF ∷ 0xBF ∷ [], true)
+    ∷ (0xED ∷ 0x80 ∷ 0x80 ∷ [], true)
     ∷ (0xED ∷ 0x9F ∷ 0xBF ∷ [], true)
     ∷ (0xED ∷ 0xA0 ∷ 0x80 ∷ [], false)
     ∷ (0xEE ∷ 0x80 ∷ 0x80 ∷ [], true)
     ∷ (0xEF ∷ 0xBF ∷ 0xBF ∷ [], true)
     ∷ (0xF0 ∷ 0x8F ∷ 0xBF ∷ 0xBF ∷ [], false)
     ∷ (0xF0 ∷ 0x90 ∷ 0x80 ∷ 0x80 ∷ [], true)
+    ∷ (0xF0 ∷ 0xBF ∷ 0xBF ∷ 0xBF ∷ [], true)
+    ∷ (0xF1 ∷ 0x80 ∷ 0x80 ∷ 0x80 ∷ [], true)
+    ∷ (0xF3 ∷ 0xBF ∷ 0xBF ∷ 0xBF ∷ [], true)
+    ∷ (0xF4 ∷ 0x80 ∷ 0x80 ∷ 0x80 ∷ [], true)
     ∷ (0xF4 ∷ 0x8F ∷ 0xBF ∷ 0xBF ∷ [], true)
     ∷ (0xF4 ∷ 0x90 ∷ 0x80 ∷ 0x80 ∷ [], false)
     ∷ (0xF5 ∷ 0x80 ∷ 0x80 ∷ 0x80 ∷ [], false)
@@ -70,8 +82,8 @@ paths =
 abbrev listing : String → ℕ → ℕ → Bytes → Bytes
 listing mark version n rs = path mark ++ (bytes 2 version ++ (bytes 4 n ++ rs))
 
-abbrev one : ℕ → ℕ → ℕ → String → Bytes
-one type m z p = listing "RDL" 1 1 (typed type m z (path p))
+abbrev single : ℕ → ℕ → ℕ → String → Bytes
+single type m z p = listing "RDL" 1 1 (typed type m z (path p))
 
 pub listings : List (Bytes × Bool)
 listings =
@@ -89,30 +101,30 @@ listings =
     ∷ (listing "RDL" 1 1 (typed 1 0 0 (path "a") ++ (0 ∷ [])), false)
     ∷ (listing "RDL" 1 1 (bytes 2 2 ++ (1 ∷ replicate 16 0 ++ (97 ∷ []))), false)
     -- kinds 0 to 4; sizes below 0 (the highest bit) and above; mtimes
-    ∷ (one 0 0 0 "a", false)
-    ∷ (one 1 5 0 "a", true)
-    ∷ (one 2 5 5 "a", true)
-    ∷ (one 3 0 0 "a", true)
-    ∷ (one 4 0 0 "a", false)
-    ∷ (one 1 0 1 "a", false)
-    ∷ (one 2 0 0x7FFF_FFFF_FFFF_FFFF "a", true)
-    ∷ (one 2 0 0x8000_0000_0000_0000 "a", false)
-    ∷ (one 3 0 1 "a", false)
-    ∷ (one 3 1 0 "a", false)
-    ∷ (one 2 0xFFFF_FFFF_FFFF_FFFF 0 "a", true)
+    ∷ (single 0 0 0 "a", false)
+    ∷ (single 1 5 0 "a", true)
+    ∷ (single 2 5 5 "a", true)
+    ∷ (single 3 0 0 "a", true)
+    ∷ (single 4 0 0 "a", false)
+    ∷ (single 1 0 1 "a", false)
+    ∷ (single 2 0 0x7FFF_FFFF_FFFF_FFFF "a", true)
+    ∷ (single 2 0 0x8000_0000_0000_0000 "a", false)
+    ∷ (single 3 0 1 "a", false)
+    ∷ (single 3 1 0 "a", false)
+    ∷ (single 2 0xFFFF_FFFF_FFFF_FFFF 0 "a", true)
     -- the empty path; a path out of form; the same path twice; not ascending
-    ∷ (one 1 0 0 "", false)
-    ∷ (one 1 0 0 "..", false)
-    ∷ (listingBytes (aDir "a" 0 ∷ aDir "a" 0 ∷ []), false)
-    ∷ (listingBytes (aDir "b" 0 ∷ aDir "a" 0 ∷ []), false)
+    ∷ (single 1 0 0 "", false)
+    ∷ (single 1 0 0 "..", false)
+    ∷ (listingBytes (dirAt "a" 0 ∷ dirAt "a" 0 ∷ []), false)
+    ∷ (listingBytes (dirAt "b" 0 ∷ dirAt "a" 0 ∷ []), false)
     -- an ancestor that is missing, is a file, is a link, is missing further up; one before `a-b`; one in the order of a tree's walk
-    ∷ (listingBytes (aFile "a/x" 0 0 ∷ []), false)
-    ∷ (listingBytes (aFile "a" 0 0 ∷ aFile "a/x" 0 0 ∷ []), false)
-    ∷ (listingBytes (aLink "a" ∷ aFile "a/x" 0 0 ∷ []), false)
-    ∷ (listingBytes (aDir "a/b" 0 ∷ aFile "a/b/x" 0 0 ∷ []), false)
-    ∷ (listingBytes (aDir "a" 0 ∷ aFile "a-b" 0 0 ∷ aFile "a/x" 0 0 ∷ []), true)
-    ∷ (listingBytes (aFile "a-b" 0 0 ∷ aFile "a/x" 0 0 ∷ []), false)
-    ∷ (listingBytes (aDir "a" 0 ∷ aFile "a/x" 0 0 ∷ aFile "a-b" 0 0 ∷ []), false)
+    ∷ (listingBytes (fileAt "a/x" 0 0 ∷ []), false)
+    ∷ (listingBytes (fileAt "a" 0 0 ∷ fileAt "a/x" 0 0 ∷ []), false)
+    ∷ (listingBytes (linkAt "a" ∷ fileAt "a/x" 0 0 ∷ []), false)
+    ∷ (listingBytes (dirAt "a/b" 0 ∷ fileAt "a/b/x" 0 0 ∷ []), false)
+    ∷ (listingBytes (dirAt "a" 0 ∷ fileAt "a-b" 0 0 ∷ fileAt "a/x" 0 0 ∷ []), true)
+    ∷ (listingBytes (fileAt "a-b" 0 0 ∷ fileAt "a/x" 0 0 ∷ []), false)
+    ∷ (listingBytes (dirAt "a" 0 ∷ fileAt "a/x" 0 0 ∷ fileAt "a-b" 0 0 ∷ []), false)
     ∷ []
 
 -- a table's bytes, its record (used, count, charge, E), and whether they are well-formed
@@ -219,13 +231,36 @@ openings =
     ∷ (opening 4097, (refused 1 0 0, 1 ∷ 2 ∷ [], 4097))
     ∷ []
 
+-- the declared answers, by 01's numbers
+pub answers : List (Reply × Reply)
+answers =
+    (told (Accepted 7), accepted 7)
+    ∷ (told (Refused MalformedTable), refused 1 0 0)
+    ∷ (told (Refused MalformedListing), refused 2 0 0)
+    ∷ (told (Refused (MalformedPath 1)), refused 3 1 0)
+    ∷ (told (Refused (LinkOrRoot 1 9)), refused 4 1 9)
+    ∷ (told (Refused (NotFound 1 9)), refused 5 1 9)
+    ∷ (told (Refused (Exists 1 9)), refused 6 1 9)
+    ∷ (told (Refused (NotADirectory 1 9)), refused 7 1 9)
+    ∷ (told (Refused (IsADirectory 1 9)), refused 8 1 9)
+    ∷ (told (Refused (NotEmpty 1 9)), refused 9 1 9)
+    ∷ (told (Refused (BelowSource 9)), refused 10 0 9)
+    ∷ (told (Refused Limit), refused 11 0 0)
+    ∷ (told (Refused KeyTooLong), refused 12 0 0)
+    ∷ (told (Refused NoRoom), refused 13 0 0)
+    ∷ (toldFinding Yes, accepted 1)
+    ∷ (toldFinding No, accepted 0)
+    ∷ (toldFinding (Unanswered MalformedListing), refused 2 0 0)
+    ∷ []
+
 pub record Forms : Type 0 where
   pub of-paths : map (λ (x : Path × Bool). isPath (x .0)) paths ≡ map (λ x. x .1) paths
   pub of-listings : map (λ (x : Bytes × Bool). isListing (x .0)) listings ≡ map (λ x. x .1) listings
   pub of-tables : map fits tables ≡ map should tables
   pub of-refusals : map (λ (x : Reply × Reply). x .0) refusals ≡ map (λ x. x .1) refusals
+  pub of-answers : map (λ (x : Reply × Reply). x .0) answers ≡ map (λ x. x .1) answers
   pub of-openings : map (λ (x : (Reply × Bytes × ℕ) × (Reply × Bytes × ℕ)). x .0) openings ≡ map (λ x. x .1) openings
 
 pub forms-hold : Forms
-unfolding paths listings tables refusals openings
-forms-hold = record { of-paths = refl; of-listings = refl; of-tables = refl; of-refusals = refl; of-openings = refl }
+unfolding paths listings tables refusals answers openings
+forms-hold = record { of-paths = refl; of-listings = refl; of-tables = refl; of-refusals = refl; of-answers = refl; of-openings = refl }

@@ -1,7 +1,6 @@
 -- The calls of document 01 on a table and a tree: the checks in their order from 3 to 12, the table after an accepted call, and the queries.
 -- Assumes nothing.
 use mathlib.Core.Bool.{Bool, true, false}
-use mathlib.Core.List.{List, []}
 use Prim.Native.Nat.{ℕ}
 use lib.ListN.{length}
 use Rattle.model.specs.Bytes.{Bytes}

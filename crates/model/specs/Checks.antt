@@ -1,15 +1,15 @@
--- Document 01, "Order of checks": parents, write, mkdir, unlink and rmdir, up to 10; then the memory checks 11 and 12 that stand in every order.
+-- Document 01, "Order of checks": parents, write, mkdir, unlink and rmdir, up to 10; then 11, which stands in every order.
 -- Assumes nothing: on tables that no call built, and on trees that no listing gives, the checks are read to the letter.
 use mathlib.Core.Bool.{Bool, true, false, cond, not, _&&_, _||_}
-use mathlib.Core.List.{List, [], _∷_, _++_}
+use mathlib.Core.List.{List, [], _∷_}
 use mathlib.Core.Option.{Option, none, some}
 use Prim.Native.Nat.{ℕ}
 use lib.Dec.{leb}
 use lib.ListN.{length}
 use Rattle.model.specs.Bytes.{some?, consIf}
 use Rattle.model.specs.Path.{Path, isPath, ancestors, child}
-use Rattle.model.specs.Map.{Map, lookup, keys}
-use Rattle.model.specs.Tree.{Node, Entry, own, reference, directory, deleted, Table, Tree, View, shown, Kind, nothing, aDirectory, aFile, aLink, kind, isNothing}
+use Rattle.model.specs.Map.{lookup, keys}
+use Rattle.model.specs.Tree.{Entry, own, reference, directory, deleted, Table, Tree, View, shown, Kind, nothing, aDirectory, aFile, aLink, kind, isNothing}
 use Rattle.model.specs.Table.{charge}
 
 -- a check passes, or refuses with a number, a path (0: only or source, 1: destination) and a length
@@ -95,11 +95,11 @@ unlinkAt n aFile = pass
 unlinkAt n aLink = refuse 4 0 n
 
 abbrev pub unlinkEntry : ℕ → Option Entry → Check → Check
-unlinkEntry n none listed = listed
-unlinkEntry n (some (own m c)) listed = pass
-unlinkEntry n (some (reference m z q)) listed = pass
-unlinkEntry n (some (directory m)) listed = refuse 8 0 n
-unlinkEntry n (some deleted) listed = refuse 5 0 n
+unlinkEntry n none otherwise = otherwise
+unlinkEntry n (some (own m c)) otherwise = pass
+unlinkEntry n (some (reference m z q)) otherwise = pass
+unlinkEntry n (some (directory m)) otherwise = refuse 8 0 n
+unlinkEntry n (some deleted) otherwise = refuse 5 0 n
 
 abbrev pub unlinkChecks : Table → Tree → Path → Check
 unlinkChecks t l p = unlinkEntry (length p) (lookup t p) (parents 0 (shown t l) p then unlinkAt (length p) (kind (shown t l) p))
@@ -124,11 +124,11 @@ rmdirAt n aFile = refuse 7 0 n
 rmdirAt n aLink = refuse 4 0 n
 
 abbrev pub rmdirEntry : ℕ → Option Entry → Check → Check
-rmdirEntry n none listed = listed
-rmdirEntry n (some (own m c)) listed = refuse 7 0 n
-rmdirEntry n (some (reference m z q)) listed = refuse 7 0 n
-rmdirEntry n (some (directory m)) listed = pass
-rmdirEntry n (some deleted) listed = refuse 5 0 n
+rmdirEntry n none otherwise = otherwise
+rmdirEntry n (some (own m c)) otherwise = refuse 7 0 n
+rmdirEntry n (some (reference m z q)) otherwise = refuse 7 0 n
+rmdirEntry n (some (directory m)) otherwise = pass
+rmdirEntry n (some deleted) otherwise = refuse 5 0 n
 
 abbrev pub rmdirChecks : Table → Tree → Path → Check
 rmdirChecks t l p =

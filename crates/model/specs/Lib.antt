@@ -13,3 +13,4 @@ pub mod Outcome
 pub mod Plain
 pub mod Cause
 pub mod Posix
+pub mod Runs

@@ -1,6 +1,6 @@
 -- Document 01, "Paths and the published tree": the listing's bytes, its rules, and the tree that it gives.
 -- Assumes nothing.
-use mathlib.Core.Bool.{Bool, true, false, cond, _&&_, _||_}
+use mathlib.Core.Bool.{Bool, cond, _&&_, _||_}
 use mathlib.Core.List.{List, [], _∷_}
 use Prim.Native.Nat.{ℕ, zero, suc, _+_}
 use lib.Dec.{ltb, leb, eqb}
@@ -71,9 +71,10 @@ treeIn s = treeFrom (records s)
 abbrev pub placed : Tree → ListingRecord → Bool
 placed l r = every (λ q. isDirectory (kind (lookup l) q)) (ancestors (r .path))
 
--- "Paths ascend strictly by bytes, are in the form above and not empty, and each proper ancestor is listed as a directory."
+-- "Paths … are in the form above …, and each proper ancestor is listed as a directory."
 abbrev pub formedRecord : Tree → ListingRecord → Bool
 formedRecord l r = isPath (r .path) && ruled r && placed l r
 
+-- "Paths ascend strictly by bytes … and not empty": from the empty path on
 abbrev pub isListing : Bytes → Bool
 isListing s = let l = treeIn s in headed s && filled s (recordCount s) 9 && ascends [] l && every (formedRecord l) (records s)

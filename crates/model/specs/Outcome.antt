@@ -1,16 +1,16 @@
 -- Each call on bytes, for every input: the answer, and what it leaves as record, table and work buffer.
 -- Assumes nothing.
-use mathlib.Core.Bool.{Bool, true, false, cond, _&&_}
-use mathlib.Core.List.{List, []}
+use mathlib.Core.Bool.{Bool, cond, _&&_}
+use mathlib.Core.List.{[]}
 use Prim.Native.Nat.{ℕ}
 use lib.Dec.{leb}
 use lib.ListN.{length, replicate}
 use Rattle.model.specs.Bytes.{Bytes}
 use Rattle.model.specs.Path.{Path}
-use Rattle.model.specs.Tree.{Table, Tree, shown, kind}
+use Rattle.model.specs.Tree.{Table, shown, kind}
 use Rattle.model.specs.Listing.{isListing, treeIn}
 use Rattle.model.specs.Table.{encode, padded, recordOf, sized, isTable, tableIn}
-use Rattle.model.specs.Checks.{Check, pass, refuse, _then_, unless, form, Memory, limited}
+use Rattle.model.specs.Checks.{Check, pass, refuse, _then_, unless, form, limited}
 use Rattle.model.specs.Calls.{Call, changed, forms, rules, valueOf, Query, says}
 use Rattle.model.specs.Answer.{Reply, accepted, refused}
 use Rattle.model.specs.declared.Record.{Record}
@@ -77,7 +77,7 @@ ask q listing p s =
     (says q (kind (shown (tableIn (s .table) (s .rec)) (treeIn listing)) p))
 
 -- "Opening zeroes the buffer and gives the empty record; its one refusal is 1, for E or a buffer above 16 MiB."
--- The record is the empty one after a refusal too, and no call takes it then.
+-- The record is the empty one after a refusal too; with that buffer no call takes it.
 pub record Opened : Type 0 where
   pub reply : Reply
   pub store : Store

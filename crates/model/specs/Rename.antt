@@ -1,6 +1,6 @@
 -- Document 01, "Order of checks": rename, with its plan and its walk, and the table that it leaves.
 -- Assumes nothing.
-use mathlib.Core.Bool.{Bool, true, false, cond, not, _&&_, _||_}
+use mathlib.Core.Bool.{Bool, cond, not, _&&_, _||_}
 use mathlib.Core.List.{List, [], _∷_, _++_}
 use mathlib.Core.Option.{Option, none, some}
 use Prim.Native.Nat.{ℕ, zero, suc, _+_, _*_, _-_, max}
@@ -9,7 +9,7 @@ use lib.ListN.{length, drop}
 use Rattle.model.specs.Bytes.{every, same, consIf}
 use Rattle.model.specs.Path.{Path, components, short, ancestors, below, child}
 use Rattle.model.specs.Map.{isNone, lookup, puts, only, each, keys, rekey, mapped}
-use Rattle.model.specs.Tree.{held, listed, Node, dir, file, link, Entry, own, reference, directory, deleted, Table, Tree, View, shown, Kind, nothing, aDirectory, aFile, aLink, kindOf, kind, isDirectory}
+use Rattle.model.specs.Tree.{held, listed, Node, dir, file, link, Entry, own, reference, directory, deleted, Table, Tree, shown, Kind, nothing, aDirectory, aFile, aLink, kindOf, kind, isDirectory}
 use Rattle.model.specs.Table.{charge}
 use Rattle.model.specs.Checks.{Check, pass, refuse, _then_, unless, parents, notRoot, empty, Memory, limited, unlimited, charged}
 
@@ -29,11 +29,11 @@ notDeleted n (some (directory m)) = pass
 notDeleted n (some deleted) = refuse 5 0 n
 
 -- "type clash 8 or 7": the destination is a directory and the source is none, or the source is a directory and the destination is a file
-abbrev pub clash : ℕ → Kind → Kind → Check
-clash n source nothing = pass
-clash n source aDirectory = cond (isDirectory source) pass (refuse 8 1 n)
-clash n source aFile = cond (isDirectory source) (refuse 7 1 n) pass
-clash n source aLink = pass
+abbrev pub noClash : ℕ → Kind → Kind → Check
+noClash n source nothing = pass
+noClash n source aDirectory = cond (isDirectory source) pass (refuse 8 1 n)
+noClash n source aFile = cond (isDirectory source) (refuse 7 1 n) pass
+noClash n source aLink = pass
 
 -- "source absent 5"
 abbrev pub present : ℕ → Kind → Check
@@ -158,7 +158,7 @@ renameChecks m t l a b =
     then parents 0 f a
     then notDeleted (length a) (lookup t a)
     then notLink 0 (length a) (kind f a)
-    then clash (length b) (kind f a) (kind f b)
+    then noClash (length b) (kind f a) (kind f b)
     then ifDirectory (kind f a) (ifDirectory (kind f b) (empty 1 t l b))
     then cond (below a b) (refuse 10 0 (length a)) pass
     then present (length a) (kind f a)

@@ -1,12 +1,12 @@
--- Document 01, "The table and its charge": the table's bytes, its record, its charge, and opening.
+-- Document 01, "The table and its charge": the table's bytes, its record and its charge.
 -- Assumes nothing.
-use mathlib.Core.Bool.{Bool, true, false, cond, _&&_}
-use mathlib.Core.List.{List, [], _∷_, _++_}
+use mathlib.Core.Bool.{Bool, true, cond, _&&_}
+use mathlib.Core.List.{[], _∷_, _++_}
 use Prim.Native.Nat.{ℕ, zero, suc, _+_, _-_}
 use lib.Dec.{leb, ltb, eqb}
 use lib.ListN.{length, take, drop, replicate}
 use Rattle.model.specs.Bytes.{Bytes, every, numberAt, bytes, same}
-use Rattle.model.specs.Path.{Path, isPath, isRoot}
+use Rattle.model.specs.Path.{Path, isPath}
 use Rattle.model.specs.Map.{ascends}
 use Rattle.model.specs.Tree.{Entry, own, reference, directory, deleted, Table}
 use Rattle.model.specs.declared.Record.{Record}
@@ -57,7 +57,7 @@ encode (x ∷ xs) = entryBytes (x .0) (x .1) ++ encode xs
 abbrev pub padded : ℕ → Bytes → Bytes
 padded n s = s ++ replicate (n - length s) 0
 
--- what a body is charged
+-- what a body is charged, for its length: a definition of its own, since it is the part of the charge that can change
 abbrev pub bodyCharge : ℕ → ℕ
 bodyCharge n = n
 
@@ -98,7 +98,8 @@ entriesAt s (suc n) at = (keyAt s at, entryAt s at) ∷ entriesAt s n (entryEnd 
 abbrev pub tableIn : Bytes → Record → Table
 tableIn s r = entriesAt s (r .count) 0
 
--- "Keys and kind 2 bodies are paths in the form above and never empty"; "… kind 2, where [the size] is at least 0"
+-- "Keys and kind 2 bodies are paths in the form above and never empty" (a key, since the keys ascend from the empty one on); "… kind 2, where [the
+-- size] is at least 0"
 abbrev pub formedBody : Entry → Bool
 formedBody (own m c) = true
 formedBody (reference m z p) = isPath p && ltb 0 (length p) && ltb z 0x8000_0000_0000_0000

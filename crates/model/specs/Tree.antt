@@ -1,7 +1,7 @@
 -- Document 01, "The table and its charge" and "The list of calls and the plain tree": entries, nodes, and what is visible at a path.
 -- Assumes nothing.
 use mathlib.Core.Bool.{Bool, true, false}
-use mathlib.Core.List.{List, [], _∷_}
+use mathlib.Core.List.{[], _∷_}
 use mathlib.Core.Option.{Option, none, some}
 use Prim.Native.Nat.{ℕ}
 use lib.ListN.{length}

@@ -50,12 +50,12 @@ pub const MAX_BUFFER: usize = 16_777_216;
 
 pub const MAX_ENTRY_SIZE: u64 = 4_096;
 
-// A path's bytes and components, and a component's bytes.
-pub const MAX_PATH: usize = 512;
+// A path's bytes and components, and a component's bytes. Names of the Rust, where the first two are larger.
+pub const PATH_MAX: usize = 512;
 
-pub const MAX_COMPONENTS: usize = 32;
+pub const DEPTH_MAX: usize = 32;
 
-pub const MAX_COMPONENT: usize = 255;
+pub const NAME_MAX: usize = 255;
 
 // What an entry is charged beside its key, its entry size and its body; what the walk adds beside a path's length. Names of the Rust.
 pub const ENTRY_MEMORY_USAGE: u64 = 256;

@@ -1,0 +1,473 @@
+-- Demand 3 on lists, for one call: what is accepted the plain tree's rules accept, what they allow is refused only with a cause, and an accepted call keeps
+-- the invariant and the equality of the visible tree with the plain one.
+-- Assumes nothing.
+use mathlib.Core.Path.{_≡_, refl, ap, sym, _∙_, fun-ext, subst, subst⁻¹}
+use mathlib.Core.Logic.{_↔_, inl, inr}
+use mathlib.Core.List.{List, [], _∷_}
+use mathlib.Core.Bool.{Bool, true, false, cond}
+use mathlib.Core.Option.{Option, none, some}
+use Prim.Native.Nat.{ℕ, zero, suc, _-_}
+use native.Mathlib.Omega.{arith}
+use lib.Dec.{leb}
+use lib.ListN.{length}
+use borrow.Author.Tests.{leb-false}
+use Rattle.model.specs.Bytes.{every, same}
+use Rattle.model.specs.Path.{Path, short, below, ancestors, rest}
+use Rattle.model.specs.Map.{lookup, del, each, keys, rekey, outside}
+use Rattle.model.specs.Tree.{held, Node, dir, file, link, Entry, own, reference, directory, deleted, Table, Tree, View, view, shown}
+use Rattle.model.specs.Tree.{Kind, nothing, aDirectory, aFile, aLink, kindOf, kind, isDirectory}
+use Rattle.model.specs.Table.{charge}
+use Rattle.model.specs.Checks.{Check, pass, refuse, _then_, unless, parents, writeChecks, mkdirAt, mkdirParents, missing, makes, unlinkAt, unlinkChecks}
+use Rattle.model.specs.Checks.{notRoot, empty, rmdirChecks, Memory, limited, unlimited, charged}
+use Rattle.model.specs.Rename.{notLink, notDeleted, noClash, present, ifDirectory, planned, plan, budget, Walk, sum, overBudget, atLink, walkFrom, walked}
+use Rattle.model.specs.Rename.{carried, moved, keysFit, renameChecks}
+use Rattle.model.specs.Calls.{Call, write, mkdir, unlink, rmdir, rename, changed, rules}
+use Rattle.model.specs.Plain.{plainEffect}
+use Rattle.model.specs.Cause.{MovesDirectory, Exceeds, charge-above, plan-above, walk-above, key-above}
+use Rattle.model.proofs.Orders.{bot, yea, nay, test, is-none, is-some, opt, mem}
+use Rattle.model.proofs.Orders.{rest-self, rest-below, rest-nil, below-rest}
+use Rattle.model.proofs.Maps.{upd, lookup-put, lookup-del, lookup-puts, lookup-each, Ascending, ascending-put, ascending-del, ascending-puts, ascending-outside}
+use Rattle.model.proofs.Invariant.{kind-is, is-nothing, is-directory, is-file, is-link′, entry-at, at-none, at-own, at-reference, at-directory, at-deleted}
+use Rattle.model.proofs.Invariant.{Closed, Inv, shown-put, shown-over, kind-at, kind-entry, then-pass, parents-dirs, parents-pass, inv-empty}
+use Rattle.model.proofs.Small.{write-inv, unlink-inv, unlink-regular, rmdir-inv, RmdirOk, rmdir-ok, ok-rmdir, mkdir-inv, mkdir-up, mkdir-lookup, madeAt, childless-empty, empty-childless}
+use Rattle.model.proofs.Moves.{Held, RenameOk, moveView, move-inv, move-tree, plain-move, entry-free, listed-link, link-at, kind-link, kind-absent, proper-pass}
+use Rattle.model.proofs.Walks.{Met, walk-links, walk-met, walk-budget, walk-over}
+
+-- the table t over the listing l and the plain tree s: the invariant, and the same tree
+pub record Sound (t : Table) (l s : Tree) : Type 0 where
+  pub inv : Inv t l
+  pub tree : shown t l ≡ lookup s
+  pub sorted : Ascending s
+
+-- a check passes, or it refuses with 11 or 12 and with their cause
+pub data Caused (E limit : ℕ) (t : Table) (l : Tree) (c : Call) : Check → Type 0 where
+  passed : Caused E limit t l c pass
+  because : (n : ℕ) → Exceeds E limit t l c n → Caused E limit t l c (refuse n 0 0)
+
+-- without a limit it passes
+abbrev pub Allowed : Memory → Table → Tree → Call → Check → Type 0
+Allowed (limited E limit) t l c x = Caused E limit t l c x
+Allowed unlimited t l c x = x ≡ pass
+
+module _ (t : Table) (l : Tree) (c : Call) where
+  caused-then : {E limit : ℕ} {x y : Check} → Caused E limit t l c x → Caused E limit t l c y → Caused E limit t l c (x then y)
+  caused-then passed d = d
+  caused-then (because n e) d = because n e
+
+  allowed-then : (m : Memory) (x y : Check) → Allowed m t l c x → Allowed m t l c y → Allowed m t l c (x then y)
+  allowed-then (limited E limit) x y a b = caused-then a b
+  allowed-then unlimited x y a b = cc
+
+  allowed-pass : (m : Memory) (x : Check) → x ≡ pass → Allowed m t l c x
+  allowed-pass (limited E limit) x h = subst⁻¹ (Caused E limit t l c) h passed
+  allowed-pass unlimited x h = h
+
+  -- a refusal by a test that fails only with a cause
+  caused-unless : (E limit n : ℕ) (b : Bool) → (b ≡ false → Exceeds E limit t l c n) → Caused E limit t l c (unless n b)
+  caused-unless E limit n true h = passed
+  caused-unless E limit n false h = because n (h refl)
+
+  allowed-charged : (m : Memory) → Allowed m t l c (charged m (changed t l c))
+  allowed-charged (limited E limit) = caused-unless E limit 11 (leb (charge E (changed t l c)) limit) (λ h. charge-above (leb-false (charge E (changed t l c)) limit h))
+  allowed-charged unlimited = refl
+
+  allowed-plan : (m : Memory) (a b : Path) → MovesDirectory t l c a b → Allowed m t l c (plan m t a b)
+  allowed-plan (limited E limit) a b d = caused-then
+      (caused-unless E limit 11 (leb (charge E t) limit) (λ h. let e = leb-false (charge E t) limit h in plan-above a b d (omega arith)))
+      (caused-unless E limit 11 (leb (planned a b t) (limit - charge E t)) (λ h. let e = leb-false (planned a b t) (limit - charge E t) h in plan-above a b d (omega arith)))
+  allowed-plan unlimited a b d = refl
+
+  allowed-keys : (m : Memory) (a b : Path) → c ≡ rename a b → Allowed m t l c (keysFit m (rekey a b (carried t l a)))
+  allowed-keys (limited E limit) a b e = caused-unless E limit 12 (every short (keys (rekey a b (carried t l a)))) (λ h. key-above a b e h)
+  allowed-keys unlimited a b e = refl
+
+  -- the walk, where no link is to be met
+  allowed-walk : Ascending l → (m : Memory) (a b : Path) → MovesDirectory t l c a b → kind (lookup l) a ≡ aDirectory → (Met t l a → ⊥)
+      → Allowed m t l c (walked (length a) (walkFrom t l (budget m t a b) a))
+  allowed-walk asc (limited E limit) a b d k no-link = go (walkFrom t l (some B) a) refl
+    where
+      B : ℕ
+      B = limit - charge E t - planned a b t
+
+      go : (w : Walk) → walkFrom t l (some B) a ≡ w → Caused E limit t l c (walked (length a) w)
+      go (sum s) e = passed
+      go atLink e = absurd (no-link (walk-met t l (some B) a asc e))
+      go overBudget e = elim (walk-over t l a B e) [
+        | inl x ↦ absurd (no-link (walk-met t l none a asc x))
+        | inr x ↦ let h = x .2 in because 11 (walk-above a b (x .0) d k (x .1) (x .3) (omega arith))
+      ]
+  allowed-walk asc unlimited a b d k no-link = go (walkFrom t l none a) refl
+    where
+      go : (w : Walk) → walkFrom t l none a ≡ w → walked (length a) w ≡ pass
+      go (sum s) e = refl
+      go atLink e = absurd (no-link (walk-met t l none a asc e))
+      go overBudget e = absurd (walk-budget t l a e)
+
+-- rename's checks as a list
+abbrev pub firstOf : Check → List Check → Check
+firstOf x [] = x
+firstOf x (y ∷ ys) = x then firstOf y ys
+
+-- the check at a place of the list
+abbrev pub checkAt : ℕ → Check → List Check → Check
+checkAt zero x xs = x
+checkAt (suc n) x [] = x
+checkAt (suc n) x (y ∷ ys) = checkAt n y ys
+
+-- where the list passes, each check of it does
+pub pass-at : (n : ℕ) (x : Check) (xs : List Check) → firstOf x xs ≡ pass → checkAt n x xs ≡ pass
+pass-at zero x [] h = h
+pass-at zero x (y ∷ ys) h = then-pass x (firstOf y ys) h .0
+pass-at (suc n) x [] h = h
+pass-at (suc n) x (y ∷ ys) h = pass-at n y ys (then-pass x (firstOf y ys) h .1)
+
+abbrev pub later : Memory → Table → Tree → Path → Path → List Check
+later m t l a b =
+    let f = shown t l in
+    notRoot 1 b
+    ∷ parents 1 f b
+    ∷ notLink 1 (length b) (kind f b)
+    ∷ parents 0 f a
+    ∷ notDeleted (length a) (lookup t a)
+    ∷ notLink 0 (length a) (kind f a)
+    ∷ noClash (length b) (kind f a) (kind f b)
+    ∷ ifDirectory (kind f a) (ifDirectory (kind f b) (empty 1 t l b))
+    ∷ cond (below a b) (refuse 10 0 (length a)) pass
+    ∷ present (length a) (kind f a)
+    ∷ ifDirectory (kind f a) (plan m t a b)
+    ∷ ifDirectory (kind f a) (ifDirectory (kind (lookup l) a) (walked (length a) (walkFrom t l (budget m t a b) a)))
+    ∷ charged m (moved t l a b)
+    ∷ keysFit m (rekey a b (carried t l a))
+    ∷ []
+
+pub as-list : (m : Memory) (t : Table) (l : Tree) (a b : Path) → renameChecks m t l a b ≡ firstOf (notRoot 0 a) (later m t l a b)
+as-list m t l a b = refl
+
+module _ (t : Table) (l : Tree) (cl : Closed (lookup l)) (i : Inv t l) (a b : Path) where
+  -- a walk that goes through has met no visible link
+  no-link-inside : (a ≡ [] → ⊥) → kind (shown t l) a ≡ aDirectory → (B : Option ℕ) (n : ℕ) → ifDirectory (kind (lookup l) a) (walked n (walkFrom t l B a)) ≡ pass
+      → (q s : Path) → rest a q ≡ some s → shown t l q ≡ some link → ⊥
+  no-link-inside r k B n h q [] e g = bot (cc (kind-at (shown t l) a (some link) (cc (rest-nil a q e)) r))
+  no-link-inside r k B n h q (c ∷ s) e g =
+      let y = rest-below a q c s e in
+      let z = listed-link t l i a b q g in
+      let free = i .uncovered q z in
+      let d = cl a q link y z in
+      go y z free d (walkFrom t l B a) refl
+    where
+      go : below a q ≡ true → lookup l q ≡ some link → lookup t q ≡ none → kind (lookup l) a ≡ aDirectory → (w : Walk) → walkFrom t l B a ≡ w → ⊥
+      go y z free d (sum x) u = walk-links t l B a cl x u q y z free (λ p v w. entry-free t l cl i p q link w z free)
+      go y z free d overBudget u = bot (cc)
+      go y z free d atLink u = bot (cc)
+
+  pub rename-ok : (m : Memory) → renameChecks m t l a b ≡ pass → RenameOk (shown t l) a b
+  rename-ok m h = build (at 0) (at 1) (at 2) (at 3) (at 6) (at 7) (at 8) (at 9) (at 10) (at 12)
+    where
+      at : (n : ℕ) → checkAt n (notRoot 0 a) (later m t l a b) ≡ pass
+      at n = pass-at n (notRoot 0 a) (later m t l a b) h
+
+      sa : notRoot 0 a ≡ pass → a ≡ [] → ⊥
+      sa h e = bot (cc)
+
+      sb : notRoot 1 b ≡ pass → b ≡ [] → ⊥
+      sb h e = bot (cc)
+
+      found′ : present (length a) (kind (shown t l) a) ≡ pass → (a ≡ [] → ⊥) → shown t l a ≡ none → ⊥
+      found′ h r e = bot (cc (kind-at (shown t l) a none e r))
+
+      apart′ : cond (below a b) (refuse 10 0 (length a)) pass ≡ pass → below a b ≡ true → ⊥
+      apart′ h e = bot (cc)
+
+      dir′ : noClash (length b) (kind (shown t l) a) (kind (shown t l) b) ≡ pass → kind (shown t l) b ≡ aDirectory → kind (shown t l) a ≡ aDirectory
+      dir′ h e = elim (kind-is (kind (shown t l) a)) [ is-directory k ↦ k | is-nothing k ↦ cc | is-file k ↦ cc | is-link′ k ↦ cc ]
+
+      free′ : noClash (length b) (kind (shown t l) a) (kind (shown t l) b) ≡ pass
+          → ifDirectory (kind (shown t l) a) (ifDirectory (kind (shown t l) b) (empty 1 t l b)) ≡ pass → (q : Path) (n : Node) → below b q ≡ true → shown t l q ≡ some n → ⊥
+      free′ h g q n z e = let c = i .closed b q n z e in let d = dir′ h c in childless-empty t l b 1 (i .closed) (cc) q n z e
+
+      unlinked′ : ifDirectory (kind (shown t l) a) (ifDirectory (kind (lookup l) a) (walked (length a) (walkFrom t l (budget m t a b) a))) ≡ pass
+          → notLink 0 (length a) (kind (shown t l) a) ≡ pass → (a ≡ [] → ⊥) → (q s : Path) → rest a q ≡ some s → shown t l q ≡ some link → ⊥
+      unlinked′ h g r q s e z = elim (kind-is (kind (shown t l) a)) [
+        | is-directory k ↦ no-link-inside r k (budget m t a b) (length a) (cc) q s e z
+        | is-nothing k ↦ bot (link-at t l i a b r q s e z (λ u. cc) (λ u. cc))
+        | is-file k ↦ bot (link-at t l i a b r q s e z (λ u. cc) (λ u. cc))
+        | is-link′ k ↦ bot (cc)
+      ]
+
+      link′ : notLink 1 (length b) (kind (shown t l) b) ≡ pass → (b ≡ [] → ⊥) → shown t l b ≡ some link → ⊥
+      link′ h r e = bot (cc (kind-at (shown t l) b (some link) e r))
+
+      file′ : noClash (length b) (kind (shown t l) a) (kind (shown t l) b) ≡ pass → present (length a) (kind (shown t l) a) ≡ pass
+          → notLink 0 (length a) (kind (shown t l) a) ≡ pass → kind (shown t l) b ≡ aFile → kind (shown t l) a ≡ aFile
+      file′ h g r e = elim (kind-is (kind (shown t l) a)) [ is-directory k ↦ cc | is-nothing k ↦ cc | is-file k ↦ k | is-link′ k ↦ cc ]
+
+      build : notRoot 0 a ≡ pass → notRoot 1 b ≡ pass → parents 1 (shown t l) b ≡ pass → notLink 1 (length b) (kind (shown t l) b) ≡ pass
+          → notLink 0 (length a) (kind (shown t l) a) ≡ pass → noClash (length b) (kind (shown t l) a) (kind (shown t l) b) ≡ pass
+          → ifDirectory (kind (shown t l) a) (ifDirectory (kind (shown t l) b) (empty 1 t l b)) ≡ pass → cond (below a b) (refuse 10 0 (length a)) pass ≡ pass
+          → present (length a) (kind (shown t l) a) ≡ pass
+          → ifDirectory (kind (shown t l) a) (ifDirectory (kind (lookup l) a) (walked (length a) (walkFrom t l (budget m t a b) a))) ≡ pass → RenameOk (shown t l) a b
+      build ra rb pb nb na ty em un an wa = record {
+        source = sa ra;
+        target = sb rb;
+        up = λ q z. parents-dirs 1 (length b) (kind (shown t l)) b q pb z;
+        found = found′ an (sa ra);
+        apart = apart′ un;
+        free = free′ ty em;
+        unlinked = unlinked′ wa na (sa ra);
+        target-link = link′ nb (sb rb);
+        over-dir = dir′ ty;
+        over-file = file′ ty an na;
+      }
+
+  ok-rename : Ascending l → RenameOk (shown t l) a b → (m : Memory) → Allowed m t l (rename a b) (renameChecks m t l a b)
+  ok-rename asc o m =
+      next (notRoot 0 a) _ (fine (notRoot 0 a) (proper-pass t l i a b 0 a (o .source))) (
+      next (notRoot 1 b) _ (fine (notRoot 1 b) (proper-pass t l i a b 1 b (o .target))) (
+      next (parents 1 (shown t l) b) _ (fine (parents 1 (shown t l) b) (parents-pass 1 (length b) (kind (shown t l)) b (o .up))) (
+      next (notLink 1 (length b) kb) _ (fine (notLink 1 (length b) kb) link-b) (
+      next (parents 0 (shown t l) a) _ (fine (parents 0 (shown t l) a) (parents-pass 0 (length a) (kind (shown t l)) a up-a)) (
+      next (notDeleted (length a) (lookup t a)) _ (fine (notDeleted (length a) (lookup t a)) there) (
+      next (notLink 0 (length a) ka) _ (fine (notLink 0 (length a) ka) link-a) (
+      next (noClash (length b) ka kb) _ (fine (noClash (length b) ka kb) types) (
+      next (ifDirectory ka (ifDirectory kb (empty 1 t l b))) _ (fine (ifDirectory ka (ifDirectory kb (empty 1 t l b))) vacant) (
+      next (cond (below a b) (refuse 10 0 (length a)) pass) _ (fine (cond (below a b) (refuse 10 0 (length a)) pass) apart′) (
+      next (present (length a) ka) _ (fine (present (length a) ka) found′) (
+      next (ifDirectory ka (plan m t a b)) _ planned′ (
+      next (ifDirectory ka (ifDirectory (kind (lookup l) a) (walked (length a) (walkFrom t l (budget m t a b) a)))) _ walked′ (
+      next (charged m (moved t l a b)) _ (allowed-charged t l (rename a b) m) (allowed-keys t l (rename a b) m a b refl))))))))))))))
+    where
+      ka : Kind
+      ka = kind (shown t l) a
+
+      kb : Kind
+      kb = kind (shown t l) b
+
+      next : (x y : Check) → Allowed m t l (rename a b) x → Allowed m t l (rename a b) y → Allowed m t l (rename a b) (x then y)
+      next = allowed-then t l (rename a b) m
+
+      fine : (x : Check) → x ≡ pass → Allowed m t l (rename a b) x
+      fine = allowed-pass t l (rename a b) m
+
+      no-a : ka ≡ aLink → ⊥
+      no-a z = o .unlinked a [] (rest-self a) (kind-link t l i a b a (o .source) z)
+
+      no-b : kb ≡ aLink → ⊥
+      no-b z = o .target-link (kind-link t l i a b b (o .target) z)
+
+      is-a : ka ≡ nothing → ⊥
+      is-a z = o .found (kind-absent t l i a b a (o .source) z)
+
+      link-b : notLink 1 (length b) kb ≡ pass
+      link-b = elim (kind-is kb) [ is-link′ z ↦ absurd (no-b z) | is-nothing z ↦ cc | is-file z ↦ cc | is-directory z ↦ cc ]
+
+      link-a : notLink 0 (length a) ka ≡ pass
+      link-a = elim (kind-is ka) [ is-link′ z ↦ absurd (no-a z) | is-nothing z ↦ cc | is-file z ↦ cc | is-directory z ↦ cc ]
+
+      up-a : (q : Path) → below q a ≡ true → kind (shown t l) q ≡ aDirectory
+      up-a q z = elim (opt (shown t l a)) [ is-none e ↦ absurd (o .found e) | is-some n e ↦ i .closed q a n z e ]
+
+      there : notDeleted (length a) (lookup t a) ≡ pass
+      there = elim (entry-at (lookup t a)) [ at-none z ↦ cc | at-own m d z ↦ cc | at-reference m s p z ↦ cc | at-directory m z ↦ cc | at-deleted z ↦ absurd (o .found (cc)) ]
+
+      types : noClash (length b) ka kb ≡ pass
+      types = elim (kind-is kb) [
+        | is-link′ z ↦ cc
+        | is-nothing z ↦ cc
+        | is-directory z ↦ cc (o .over-dir z)
+        | is-file z ↦ cc (o .over-file z)
+      ]
+
+      vacant : ifDirectory ka (ifDirectory kb (empty 1 t l b)) ≡ pass
+      vacant = let e = empty-childless t l b 1 (o .free) in elim (test (isDirectory ka)) [ nay z ↦ cc | yea z ↦ elim (test (isDirectory kb)) [ yea y ↦ cc | nay y ↦ cc ] ]
+
+      apart′ : cond (below a b) (refuse 10 0 (length a)) pass ≡ pass
+      apart′ = elim (test (below a b)) [ yea z ↦ absurd (o .apart z) | nay z ↦ cc ]
+
+      found′ : present (length a) ka ≡ pass
+      found′ = elim (kind-is ka) [ is-nothing z ↦ absurd (is-a z) | is-link′ z ↦ cc | is-file z ↦ cc | is-directory z ↦ cc ]
+
+      if-dir : (k : Kind) (x : Check) → (k ≡ aDirectory → Allowed m t l (rename a b) x) → Allowed m t l (rename a b) (ifDirectory k x)
+      if-dir nothing x h = fine pass refl
+      if-dir aDirectory x h = h refl
+      if-dir aFile x h = fine pass refl
+      if-dir aLink x h = fine pass refl
+
+      planned′ : Allowed m t l (rename a b) (ifDirectory ka (plan m t a b))
+      planned′ = if-dir ka (plan m t a b) (λ k. allowed-plan t l (rename a b) m a b (record { renames = refl; moves = k }))
+
+      met : Met t l a → ⊥
+      met x = let r = below-rest a (x .path) (x .under) in o .unlinked (x .path) (47 ∷ r .0) (r .1) (cc (x .is-link, x .free))
+
+      walked′ : Allowed m t l (rename a b) (ifDirectory ka (ifDirectory (kind (lookup l) a) (walked (length a) (walkFrom t l (budget m t a b) a))))
+      walked′ = if-dir ka (ifDirectory (kind (lookup l) a) (walked (length a) (walkFrom t l (budget m t a b) a))) (λ k.
+          if-dir (kind (lookup l) a) (walked (length a) (walkFrom t l (budget m t a b) a)) (λ d.
+          allowed-walk t l (rename a b) asc m a b (record { renames = refl; moves = k }) d met))
+
+module _ (t : Table) (l s : Tree) (g : Sound t l s) where
+  plain-closed : Closed (lookup s)
+  plain-closed = subst Closed (g .tree) (g .inv .closed)
+
+  plain-inv : Inv [] s
+  plain-inv = inv-empty s plain-closed
+
+  agree-write : (p : Path) → writeChecks (shown t l) p ≡ writeChecks (lookup s) p
+  agree-write p = ap (λ (f : View). writeChecks f p) (g .tree)
+
+  agree-kind : (p : Path) → kind (shown t l) p ≡ kind (lookup s) p
+  agree-kind p = ap (λ (f : View). kind f p) (g .tree)
+
+  agree-mkdir : (p : Path) (up : Bool) → mkdirParents (shown t l) p up ≡ mkdirParents (lookup s) p up
+  agree-mkdir p up = ap (λ (f : View). mkdirParents f p up) (g .tree)
+
+  agree-unlink : (p : Path) → (unlinkChecks t l p ≡ pass) ↔ (unlinkChecks [] s p ≡ pass)
+  agree-unlink p = (forth, back)
+    where
+      e : (parents 0 (shown t l) p then unlinkAt (length p) (kind (shown t l) p)) ≡ unlinkChecks [] s p
+      e = ap (λ (f : View). parents 0 f p then unlinkAt (length p) (kind f p)) (g .tree)
+
+      shows : (x : Entry) (n : Node) → lookup t p ≡ some x → view x ≡ some n → kindOf (view x) ≡ aFile → unlinkChecks [] s p ≡ pass
+      shows x n h v r = sym e ∙ cc (kind-entry t l (g .inv) p x h, parents-pass 0 (length p) (kind (shown t l)) p (λ q b. g .inv .closed q p n b (cc)))
+
+      forth : unlinkChecks t l p ≡ pass → unlinkChecks [] s p ≡ pass
+      forth h = elim (entry-at (lookup t p)) [
+        | at-none a ↦ cc (e)
+        | at-own m d a ↦ shows (own m d) _ a refl refl
+        | at-reference m z q a ↦ shows (reference m z q) _ a refl refl
+        | at-directory m a ↦ cc
+        | at-deleted a ↦ cc
+      ]
+
+      back : unlinkChecks [] s p ≡ pass → unlinkChecks t l p ≡ pass
+      back h =
+          let k = unlink-regular (length p) (kind (shown t l) p) (then-pass (parents 0 (shown t l) p) (unlinkAt (length p) (kind (shown t l) p)) (e ∙ h) .1) in
+          elim (entry-at (lookup t p)) [
+            | at-none a ↦ cc (e)
+            | at-own m d a ↦ cc
+            | at-reference m z q a ↦ cc
+            | at-directory m a ↦ cc (kind-entry t l (g .inv) p (directory m) a)
+            | at-deleted a ↦ cc (kind-entry t l (g .inv) p deleted a)
+          ]
+
+  agree-rmdir : (p : Path) → (rmdirChecks t l p ≡ pass) ↔ (rmdirChecks [] s p ≡ pass)
+  agree-rmdir p = (
+    λ h. ok-rmdir [] s plain-inv p (subst (λ (f : View). RmdirOk f p) (g .tree) (rmdir-ok t l (g .inv) p h)),
+    λ h. ok-rmdir t l (g .inv) p (subst⁻¹ (λ (f : View). RmdirOk f p) (g .tree) (rmdir-ok [] s plain-inv p h)),
+  )
+
+  -- a check and then one that passes
+  then-both : (x y : Check) → x ≡ pass → y ≡ pass → (x then y) ≡ pass
+  then-both x y h k = cc
+
+  -- no call is accepted that the plain tree's rules refuse
+  pub accepts : Closed (lookup l) → (m : Memory) (c : Call) → rules m t l c ≡ pass → rules unlimited [] s c ≡ pass
+  accepts cl m (write p d x) h = let e = then-pass (writeChecks (shown t l) p) (charged m (changed t l (write p d x))) h in cc (e .0, agree-write p)
+  accepts cl m (mkdir p up ok d) h = elim (kind-is (kind (shown t l) p)) [
+    | is-nothing k ↦ let e = then-pass (mkdirParents (shown t l) p up) (charged m (changed t l (mkdir p up ok d))) (cc) in cc (e .0, agree-mkdir p up, agree-kind p)
+    | is-directory k ↦ cc (agree-kind p)
+    | is-file k ↦ cc
+    | is-link′ k ↦ cc
+  ]
+  accepts cl m (unlink p) h = let e = then-pass (unlinkChecks t l p) (charged m (changed t l (unlink p))) h in cc (agree-unlink p .0 (e .0))
+  accepts cl m (rmdir p) h = let e = then-pass (rmdirChecks t l p) (charged m (changed t l (rmdir p))) h in
+      then-both (rmdirChecks [] s p) pass (agree-rmdir p .0 (e .0)) refl
+  accepts cl m (rename a b) h =
+      ok-rename [] s plain-closed plain-inv a b (g .sorted) (subst (λ (f : View). RenameOk f a b) (g .tree) (rename-ok t l cl (g .inv) a b m h)) unlimited
+
+  -- and none that they allow is refused but by 11 or 12, with its cause
+  pub allows : Closed (lookup l) → Ascending l → (m : Memory) (c : Call) → rules unlimited [] s c ≡ pass → Allowed m t l c (rules m t l c)
+  allows cl al m (write p d x) h = allowed-then t l (write p d x) m (writeChecks (shown t l) p) (charged m (changed t l (write p d x)))
+      (allowed-pass t l (write p d x) m (writeChecks (shown t l) p) (agree-write p ∙ then-pass (writeChecks (lookup s) p) pass h .0))
+      (allowed-charged t l (write p d x) m)
+  allows cl al m (mkdir p up ok d) h = go (kind (shown t l) p) (agree-kind p)
+    where
+      go : (k : Kind) → k ≡ kind (lookup s) p
+          → Allowed m t l (mkdir p up ok d) (mkdirAt (length p) ok k (mkdirParents (shown t l) p up then charged m (changed t l (mkdir p up ok d))))
+      go nothing e = allowed-then t l (mkdir p up ok d) m (mkdirParents (shown t l) p up) (charged m (changed t l (mkdir p up ok d)))
+          (allowed-pass t l (mkdir p up ok d) m (mkdirParents (shown t l) p up) (agree-mkdir p up ∙ then-pass (mkdirParents (lookup s) p up) pass (cc) .0))
+          (allowed-charged t l (mkdir p up ok d) m)
+      go aDirectory e = allowed-pass t l (mkdir p up ok d) m (cond ok pass (refuse 6 0 (length p))) (cc)
+      go aFile e = absurd (bot (cc))
+      go aLink e = absurd (bot (cc))
+  allows cl al m (unlink p) h = allowed-then t l (unlink p) m (unlinkChecks t l p) (charged m (changed t l (unlink p)))
+      (allowed-pass t l (unlink p) m (unlinkChecks t l p) (agree-unlink p .1 (then-pass (unlinkChecks [] s p) pass h .0)))
+      (allowed-charged t l (unlink p) m)
+  allows cl al m (rmdir p) h = allowed-then t l (rmdir p) m (rmdirChecks t l p) (charged m (changed t l (rmdir p)))
+      (allowed-pass t l (rmdir p) m (rmdirChecks t l p) (agree-rmdir p .1 (then-pass (rmdirChecks [] s p) pass h .0)))
+      (allowed-charged t l (rmdir p) m)
+  allows cl al m (rename a b) h =
+      ok-rename t l cl (g .inv) a b al (subst⁻¹ (λ (f : View). RenameOk f a b) (g .tree) (rename-ok [] s plain-closed plain-inv a b unlimited h)) m
+
+  sort : (c : Call) → Ascending (plainEffect s c)
+  sort (write p m c) = ascending-put p _ s (g .sorted)
+  sort (mkdir p up ok m) = elim (test (isDirectory (kind (lookup s) p))) [
+    | yea e ↦ rw e (g .sorted)
+    | nay e ↦ rw e (ascending-puts (each (dir m) (p ∷ missing (kind (lookup s)) (ancestors p))) s (g .sorted))
+  ]
+  sort (unlink p) = ascending-del p s (g .sorted)
+  sort (rmdir p) = ascending-del p s (g .sorted)
+  sort (rename a b) = elim (test (same a b)) [
+    | yea e ↦ rw e (g .sorted)
+    | nay e ↦ rw e (ascending-puts (rekey a b (del b s)) (outside a (del b s)) (ascending-outside a (del b s) (ascending-del b s (g .sorted))))
+  ]
+
+  mkdir-kept : (p : Path) (up ok : Bool) (m : ℕ) (y : Check) → mkdirAt (length p) ok (kind (shown t l) p) (mkdirParents (shown t l) p up then y) ≡ pass
+      → Sound (changed t l (mkdir p up ok m)) l (plainEffect s (mkdir p up ok m))
+  mkdir-kept p up ok m y h = elim (kind-is (kind (shown t l) p)) [
+    | is-nothing e ↦ record {
+      inv = mkdir-inv t l (g .inv) p m e (mkdir-up t l (g .inv) p m (shown t l) up (then-pass (mkdirParents (shown t l) p up) y (cc) .0));
+      tree = tree e;
+      sorted = sort (mkdir p up ok m);
+    }
+    | is-directory e ↦ record {
+      inv = subst⁻¹ (λ (x : Table). Inv x l) (cc) (g .inv);
+      tree = ap (λ (x : Table). shown x l) (still e) ∙ g .tree ∙ sym (ap lookup (plain e));
+      sorted = sort (mkdir p up ok m);
+    }
+    | is-file e ↦ absurd (bot (cc))
+    | is-link′ e ↦ absurd (bot (cc))
+  ]
+    where
+      still : kind (shown t l) p ≡ aDirectory → changed t l (mkdir p up ok m) ≡ t
+      still e = cc
+
+      plain : kind (shown t l) p ≡ aDirectory → plainEffect s (mkdir p up ok m) ≡ s
+      plain e = cc (agree-kind p)
+
+      tree : kind (shown t l) p ≡ nothing → shown (changed t l (mkdir p up ok m)) l ≡ lookup (plainEffect s (mkdir p up ok m))
+      tree e = shown-over t (changed t l (mkdir p up ok m)) l (madeAt m (makes (shown t l) p)) (mkdir-lookup t l (g .inv) p m) ∙ fun-ext (λ q.
+          let k = agree-kind p in
+          let n = p ∷ missing (kind (lookup s)) (ancestors p) in
+          let a = lookup-puts (each (dir m) n) s q in
+          let b = lookup-each (dir m) n q in
+          let v : makes (shown t l) p ≡ n = ap (λ (f : View). makes f p) (g .tree) ∙ cc in
+          let w = ap (λ (f : View). f q) (g .tree) in
+          elim (test (mem q n)) [ yea z ↦ cc | nay z ↦ cc ])
+
+  -- an accepted call keeps the invariant and the tree
+  pub keeps : Held l → Closed (lookup l) → (m : Memory) (c : Call) → rules m t l c ≡ pass → Sound (changed t l c) l (plainEffect s c)
+  keeps hl cl m (write p d x) h = let e = then-pass (writeChecks (shown t l) p) (charged m (changed t l (write p d x))) h in record {
+    inv = write-inv t l (g .inv) p d x (e .0);
+    tree = shown-put t l p (own d x) ∙ ap (λ (f : View). upd f p (some (file d (length x) (held x)))) (g .tree)
+        ∙ sym (fun-ext (lookup-put p (file d (length x) (held x)) s));
+    sorted = sort (write p d x);
+  }
+  keeps hl cl m (mkdir p up ok d) h = mkdir-kept p up ok d (charged m (changed t l (mkdir p up ok d))) h
+  keeps hl cl m (unlink p) h = let e = then-pass (unlinkChecks t l p) (charged m (changed t l (unlink p))) h in record {
+    inv = unlink-inv t l (g .inv) p (e .0);
+    tree = shown-put t l p deleted ∙ ap (λ (f : View). upd f p none) (g .tree) ∙ sym (fun-ext (lookup-del p s));
+    sorted = sort (unlink p);
+  }
+  keeps hl cl m (rmdir p) h = let e = then-pass (rmdirChecks t l p) (charged m (changed t l (rmdir p))) h in record {
+    inv = rmdir-inv t l (g .inv) p (e .0);
+    tree = shown-put t l p deleted ∙ ap (λ (f : View). upd f p none) (g .tree) ∙ sym (fun-ext (lookup-del p s));
+    sorted = sort (rmdir p);
+  }
+  keeps hl cl m (rename a b) h = let o = rename-ok t l cl (g .inv) a b m h in record {
+    inv = move-inv t l hl cl (g .inv) a b o;
+    tree = move-tree t l hl cl (g .inv) a b o ∙ ap (moveView a b) (g .tree) ∙ sym (plain-move s a b (subst (λ (f : View). RenameOk f a b) (g .tree) o));
+    sorted = sort (rename a b);
+  }
+
+-- the empty table over a listing, with the listing as the plain tree
+pub sound-empty : (l : Tree) → Closed (lookup l) → Ascending l → Sound [] l l
+sound-empty l c a = record { inv = inv-empty l c; tree = refl; sorted = a }
