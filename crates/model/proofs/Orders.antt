@@ -2,14 +2,14 @@
 -- Assumes nothing.
 use mathlib.Core.Path.{_≡_, refl, ap, ap₂, sym, _∙_}
 use mathlib.Core.List.{List, [], _∷_, _++_, map, append-nil}
-use mathlib.Core.Bool.{Bool, true, false, _&&_, _||_}
+use mathlib.Core.Bool.{Bool, true, false, _&&_, _||_, not}
 use mathlib.Core.Logic.{_⊎_, inl, inr}
 use mathlib.Core.Option.{Option, none, some}
 use Prim.Native.Nat.{ℕ, zero, suc, _<_, compare, Ordering, Ordering·lt, Ordering·eq, Ordering·gt}
 use Prim.Native.Nat.{compare·zero-zero, compare·zero-suc, compare·suc-zero, compare·suc-suc}
 use native.Mathlib.Omega.{arith}
 use lib.Dec.{isEq, eqb, eqb→eq}
-use Rattle.model.specs.Bytes.{byOrder, order, same}
+use Rattle.model.specs.Bytes.{byOrder, order, same, before}
 use Rattle.model.specs.Path.{Path, below, ancestors, endsHere, rest}
 
 -- `bot (cc)`: what the facts in reach rule out
@@ -66,27 +66,27 @@ Lt-trans (x ∷ xs) (y ∷ ys) (z ∷ zs) (inr h) (inl k) = inl (omega arith)
 Lt-trans (x ∷ xs) (y ∷ ys) (z ∷ zs) (inr h) (inr k) = inr (omega arith, Lt-trans xs ys zs (h .1) (k .1))
 
 pub data PathOrder (a b : Path) : Ordering → Type 0 where
-  before : Lt a b → PathOrder a b Ordering·lt
+  less : Lt a b → PathOrder a b Ordering·lt
   equal : a ≡ b → PathOrder a b Ordering·eq
-  after : Lt b a → PathOrder a b Ordering·gt
+  more : Lt b a → PathOrder a b Ordering·gt
 
 under : {a b : ℕ} {as′ bs : Path} {o : Ordering} → a ≡ b → PathOrder as′ bs o → PathOrder (a ∷ as′) (b ∷ bs) o
-under e (before h) = before (inr (e, h))
+under e (less h) = less (inr (e, h))
 under e (equal p) = equal (ap₂ _∷_ e p)
-under e (after h) = after (inr (sym e, h))
+under e (more h) = more (inr (sym e, h))
 
 -- trichotomy
 pub path-order : (a b : Path) → PathOrder a b (order a b)
 path-order [] [] = equal refl
-path-order [] (b ∷ bs) = before tt
-path-order (a ∷ as′) [] = after tt
+path-order [] (b ∷ bs) = less tt
+path-order (a ∷ as′) [] = more tt
 path-order (a ∷ as′) (b ∷ bs) = go (nat-order a b) (path-order as′ bs)
   where
     go : {o : Ordering} → NatOrder a b o → PathOrder as′ bs (order as′ bs)
         → PathOrder (a ∷ as′) (b ∷ bs) (byOrder o Ordering·lt (order as′ bs) Ordering·gt)
-    go (nat-lt h) r = before (inl h)
+    go (nat-lt h) r = less (inl h)
     go (nat-eq e) r = under e r
-    go (nat-gt h) r = after (inl h)
+    go (nat-gt h) r = more (inl h)
 
 pub data Same (a b : Path) : Bool → Type 0 where
   is : a ≡ b → Same a b true
@@ -97,9 +97,9 @@ Lt-≢ a b h e = Lt-irrefl b (rw e at h)
 
 pub path-same : (a b : Path) → Same a b (same a b)
 path-same a b = elim (path-order a b) as (λ o y. Same a b (isEq o)) [
-  | before h ↦ isnt (Lt-≢ a b h)
+  | less h ↦ isnt (Lt-≢ a b h)
   | equal e ↦ is e
-  | after h ↦ isnt (λ e. Lt-≢ b a h (sym e))
+  | more h ↦ isnt (λ e. Lt-≢ b a h (sym e))
 ]
 
 pub same-no : (a b : Path) → (a ≡ b → ⊥) → same a b ≡ false
@@ -129,9 +129,9 @@ pub cmp : (a b : Path) → Cmp a b
 cmp a b = go (path-order a b) refl
   where
     go : {o : Ordering} → PathOrder a b o → order a b ≡ o → Cmp a b
-    go (before h) w = lt h w
+    go (less h) w = lt h w
     go (equal e) w = eq e w
-    go (after h) w = gt h w
+    go (more h) w = gt h w
 
 pub eqb-true : (n : ℕ) → eqb n n ≡ true
 eqb-true n = elim (nat-order n n) as (λ o y. isEq o ≡ true) [ nat-lt h ↦ absurd (omega arith) | nat-eq e ↦ refl | nat-gt h ↦ absurd (omega arith) ]
@@ -286,3 +286,33 @@ below-split b q k r h g e = let f = below-rest q k g in go (inside-both q b k (4
 
 pub below-moved : (a b q k s r : Path) → rest b q ≡ some s → rest b k ≡ some r → below q k ≡ true → below (a ++ s) (a ++ r) ≡ true
 below-moved a b q k s r h g e = cc (below-app a s r, below-app b s r, rest-is b q s h .0, rest-is b k r g .0)
+
+-- "below means from `a/` up to, not including, `a0`": 47 is the slash, 48 the 0
+none-before : (k : Path) → before k [] ≡ false
+none-before [] = refl
+none-before (d ∷ k) = refl
+
+slash-only : (c : ℕ) (k : Path) → eqb c 47 ≡ (not (before (c ∷ k) (47 ∷ [])) && before (c ∷ k) (48 ∷ []))
+slash-only c k = go (nat-order c 47) refl (nat-order c 48) refl
+  where
+    go : {o p : Ordering} → NatOrder c 47 o → compare c 47 ≡ o → NatOrder c 48 p → compare c 48 ≡ p
+        → eqb c 47 ≡ (not (before (c ∷ k) (47 ∷ [])) && before (c ∷ k) (48 ∷ []))
+    go (nat-lt h) e g f = cc
+    go (nat-eq h) e (nat-lt g) f = cc (none-before k)
+    go (nat-eq h) e (nat-eq g) f = absurd (omega arith)
+    go (nat-eq h) e (nat-gt g) f = absurd (omega arith)
+    go (nat-gt h) e (nat-lt g) f = absurd (omega arith)
+    go (nat-gt h) e (nat-eq g) f = cc (none-before k)
+    go (nat-gt h) e (nat-gt g) f = cc
+
+pub below-range : (a k : Path) → below a k ≡ (not (before k (a ++ (47 ∷ []))) && before k (a ++ (48 ∷ [])))
+below-range [] [] = refl
+below-range [] (c ∷ k) = slash-only c k
+below-range (a ∷ p) [] = refl
+below-range (a ∷ p) (c ∷ k) = go (nat-order c a) refl (below-range p k)
+  where
+    go : {o : Ordering} → NatOrder c a o → compare c a ≡ o → below p k ≡ (not (before k (p ++ (47 ∷ []))) && before k (p ++ (48 ∷ [])))
+        → (eqb a c && below p k) ≡ (not (before (c ∷ k) (a ∷ p ++ (47 ∷ []))) && before (c ∷ k) (a ∷ p ++ (48 ∷ [])))
+    go (nat-lt h) e ih = cc (eqb-comm a c)
+    go (nat-eq h) e ih = cc (eqb-comm a c)
+    go (nat-gt h) e ih = cc (eqb-comm a c)

@@ -331,5 +331,6 @@ bad-path-refused l q s n w k h g f =
   where
     later : Check
     later = rules (limited (s .rec .«entry_size») (q .limit)) (tableIn (s .table) (s .rec)) (treeIn l) (q .call) then unless 13 (room l q s)
+
     ap₃ : (f : Bool → Bool → Check → Check) {a a′ b b′ : Bool} {c c′ : Check} → a ≡ a′ → b ≡ b′ → c ≡ c′ → f a b c ≡ f a′ b′ c′
     ap₃ f x y z = λ i. f (x i) (y i) (z i)
