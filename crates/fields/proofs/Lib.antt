@@ -1,0 +1,4 @@
+pub mod Common
+pub mod Numbers
+pub mod Writes
+pub mod Zeros

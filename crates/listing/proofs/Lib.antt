@@ -1,0 +1,4 @@
+pub mod Heads
+pub mod Pass
+pub mod Flags
+pub mod Turns

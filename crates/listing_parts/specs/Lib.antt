@@ -1,0 +1,4 @@
+pub mod Found
+pub mod Place
+pub mod Parts
+pub mod Walk

@@ -1,0 +1,34 @@
+-- A positive `i64` is a `u64`.
+use mathlib.Core.Path.{_≡_, sym, subst}
+use mathlib.Core.Bool.{true}
+use lib.Dec.{T}
+use lib.IntN.{ℤ, pos, negsuc, natAbs}
+use lib.Signed.{ltZ, nonNeg}
+use mir.Syntax.{w64}
+use mir.Val.{Fits, SFits, toZ, ofZ}
+use mir.Facts.{toZ-ofZ, fits-natAbs}
+use borrow.Author.Needs.{needs}
+use Rattle.listing_run.proofs.micros.Statement.{statement}
+use Rattle.listing_run.proofs.micros.Tie as tie
+
+plain : (z : ℤ) → SFits w64 z → ltZ (pos 0) z ≡ true → T (nonNeg z) × Fits w64 (natAbs z)
+plain (pos n) f e = (tt, fits-natAbs {w = w64} {w′ = w64} tt f)
+plain (negsuc n) f e = absurd (subst T (sym e) tt)
+
+positive : (z : ℤ) → SFits w64 z → ltZ (pos 0) (toZ w64 (ofZ w64 z)) ≡ true → T (nonNeg (toZ w64 (ofZ w64 z))) × Fits w64 (natAbs (toZ w64 (ofZ w64 z)))
+positive z f = subst (λ (y : ℤ). ltZ (pos 0) y ≡ true → T (nonNeg y) × Fits w64 (natAbs y)) (sym (toZ-ofZ {w = w64} f)) (plain z f)
+
+clock-requires : tie.Need-clock-requires
+clock-requires c κs = search needs
+
+cast-result : tie.Need-cast-result
+cast-result c = positive (c .before .clock .result) (record { sfits = c .before .clock .ok }) (c .if1 .taken)
+
+returns : tie.Need-returns
+returns c = search needs
+
+returns-2 : tie.Need-returns-2
+returns-2 c = search needs
+
+pub micros-spec : {M : Type 1} → statement M
+micros-spec = tie.close (tie.spec clock-requires cast-result returns returns-2)

@@ -1,0 +1,4 @@
+pub mod Classes
+pub mod Scan
+pub mod Ancestors
+pub mod Grammar
