@@ -4,12 +4,12 @@
 ghost use mathlib.Core.Path.{_≡_};
 ghost use mathlib.Core.Bool.{true, not};
 ghost use mathlib.Core.Option.{some};
-ghost use Prim.Native.Nat.{_+_, _≤_, _<_};
+ghost use Prim.Native.Nat.{_+_, _-_, _≤_, _<_};
 ghost use lib.ListN.{length, take, drop};
 ghost use Rattle.model.specs.Path.{Path, below, endsHere};
 ghost use Rattle.model.specs.Map.{lookup};
 ghost use Rattle.model.specs.Tree.{kind, isDirectory};
-ghost use Rattle.model.specs.Listing.{recordAt, nodeOf, treeIn, isListing};
+ghost use Rattle.model.specs.Listing.{recordAt, recordEnd, recordCount, nodeOf, treeIn, isListing};
 ghost use Rattle.listing_parts.specs.Found.{foundOf, foundKind, targetKind};
 ghost use Rattle.listing_parts.specs.Place.{Standing, seekFrom, firstAt};
 ghost use Rattle.listing_parts.specs.Parts.{PartOf};
@@ -37,6 +37,42 @@ pub struct Place {
     pub left: u64,
 }
 
+// A cursor over the records: where they begin, the place behind the record at a place, and that record's path.
+pub fn first_record(listing: &[u8]) -> Place
+    requires { ⌜ isListing (now listing) ≡ true ⌝ }
+    ensures { λ r. ⌜ r ≡ record { at = 9; left = recordCount (now (listing .entry)) } ⌝ }
+    ensures { λ r. ⌜ Standing (now (listing .entry)) (r .left) (r .at) ⌝ }
+{
+    let count = fields::le32(listing, 5);
+    Place { at: 9, left: count }
+}
+
+pub fn next_record(listing: &[u8], place: Place) -> Place
+    requires { ⌜ Standing (now listing) (place .left) (place .at) ⌝ }
+    requires { ⌜ 0 < place .left ⌝ }
+    ensures { λ r. ⌜ r ≡ record { at = recordEnd (now (listing .entry)) (place .at); left = place .left - 1 } ⌝ }
+    ensures { λ r. ⌜ Standing (now (listing .entry)) (r .left) (r .at) ⌝ }
+{
+    let at = place.at;
+    let left = place.left;
+    let to = at + 19 + fields::le16(listing, at) as usize;
+    Place {
+        at: to,
+        left: left - 1,
+    }
+}
+
+pub fn record_path(listing: &[u8], place: Place) -> &[u8]
+    requires { ⌜ Standing (now listing) (place .left) (place .at) ⌝ }
+    requires { ⌜ 0 < place .left ⌝ }
+    ensures { λ r. ⌜ now r ≡ recordAt (now (listing .entry)) (place .at) .path ⌝ }
+{
+    let at = place.at;
+    let start = at + 19;
+    let to = start + fields::le16(listing, at) as usize;
+    &listing[start..to]
+}
+
 // The first of the `count` records from `from` on whose path is not before `path`; the end where there is none.
 fn seek(listing: &[u8], path: &[u8], from: usize, count: u64) -> Place
     requires { ⌜ Standing (now listing) count from ⌝ }
@@ -59,7 +95,7 @@ fn seek(listing: &[u8], path: &[u8], from: usize, count: u64) -> Place
 }
 
 // The node of the record at `at`.
-fn node_at(listing: &[u8], at: usize) -> Found
+pub fn node_at(listing: &[u8], at: usize) -> Found
     requires { ⌜ (at + 19 ≤ length (now listing)) × (length (now listing) ≤ 16777216) ⌝ }
     ensures { λ r. ⌜ r ≡ foundOf (some (nodeOf (recordAt (now (listing .entry)) at))) ⌝ }
 {
