@@ -16,9 +16,11 @@ use Rattle.path_security.specs.Scan.{ranges}
 use Rattle.path_security.proofs.Table.{each, at, below}
 
 -- the table of the code, in runs of one class
+abbrev fromE0 : List ℕ
+fromE0 = 2 ∷ (replicate 0xC 3 ++ (4 ∷ 5 ∷ 5 ∷ 6 ∷ 7 ∷ 7 ∷ 7 ∷ 8 ∷ replicate 0xB 9))
+
 abbrev pub classes : List ℕ
-classes =
-    replicate 0x80 0 ++ (replicate 0x42 9 ++ (replicate 0x1E 1 ++ (2 ∷ replicate 0xC 3 ++ (4 ∷ 5 ∷ 5 ∷ 6 ∷ 7 ∷ 7 ∷ 7 ∷ 8 ∷ replicate 0xB 9))))
+classes = replicate 0x80 0 ++ (replicate 0x42 9 ++ (replicate 0x1E 1 ++ fromE0))
 
 abbrev right : ℕ → ℕ → Bool
 right b k = eqb k (rowIn rows b)
@@ -34,7 +36,9 @@ class-row b h = eqb-true (getD classes b 0) (rowIn rows b) (at right classes all
 -- and so its ranges
 row-le : (rs : List Row) (b : ℕ) → rowIn rs b ≤ length rs
 row-le [] b = omega arith
-row-le (r ∷ rs) b = let ih = row-le rs b in elim (test (within (r .first) b)) [ yea e ↦ rw e (omega arith) | nay e ↦ rw e (omega arith) ]
+row-le (r ∷ rs) b =
+    let ih = row-le rs b in
+    elim (test (within (r .first) b)) [ yea e ↦ rw e (omega arith) | nay e ↦ rw e (omega arith) ]
 
 pub class-below : (b : ℕ) → b < 256 → getD classes b 0 < 10
 class-below b h = omega (arith, class-row b h, row-le rows b)

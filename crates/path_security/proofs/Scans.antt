@@ -20,7 +20,8 @@ module _ (ok : Bool) (n : ℕ) (d : Bool) (k b : ℕ) (s : Bytes) where
   pub at-slash : (r : Bool) → b ≡ 47 → r ≡ (ok && sized n d) → (r && scan 0 true (k + 1) s) ≡ (ok && scan n d k (b ∷ s))
   at-slash r h e = rw (e, eq-eqb b 47 h) (and-assoc ok (sized n d) (scan 0 true (k + 1) s))
 
-  pub at-byte : (r : Bool) → (b ≡ 47 → ⊥) → r ≡ allowed b → (ok && r && scan (n + 1) (d && eqb b 46) k s) ≡ (ok && scan n d k (b ∷ s))
+  pub at-byte : (r : Bool) → (b ≡ 47 → ⊥) → r ≡ allowed b
+      → (ok && r && scan (n + 1) (d && eqb b 46) k s) ≡ (ok && scan n d k (b ∷ s))
   at-byte r h e = rw (e, ne-eqb b 47 h) (and-assoc ok (allowed b) (scan (n + 1) (d && eqb b 46) k s))
 
 abbrev dots : Bytes → Bool

@@ -51,14 +51,16 @@ loop-again c =
     let y = x .before .before .before in
     let l = y .loop in
     let s = y .before .before .before .before .args .s .now in
-    let t = x .next-tail .result in
-    let n = c .next-names .result in
+    let t = x .next-tail in
+    let n = c .next-names in
+    let texts = advance (characters (pending (l .t))) (characters (pending (t .result))) in
+    let names = advance (rest (l .n)) (rest (n .result)) in
     record {
       within = omega arith;
       few-bytes = omega arith;
       few-names = omega arith;
-      text = advance (characters (pending (l .t))) (characters (pending t)) s (l .i) _ (search needs) (x .next-tail .ensures) (l .inv .text);
-      names = advance (rest (l .n)) (rest n) s (l .i) _ (search needs) (c .next-names .ensures .0) (l .inv .names);
+      text = texts s (l .i) _ (search needs) (t .ensures) (l .inv .text);
+      names = names s (l .i) _ (search needs) (n .ensures .0) (l .inv .names);
     }
 
 is-ended-requires : tie.Need-is-ended-requires Inv-loop μ-loop
