@@ -1,0 +1,5 @@
+pub mod Entries
+pub mod Cuts
+pub mod Real
+pub mod Says
+pub mod Seeks
