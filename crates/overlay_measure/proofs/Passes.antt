@@ -21,10 +21,10 @@ use Rattle.overlay_state.proofs.Entries.{table-stands}
 use Rattle.overlay_state.proofs.Cuts.{up-since, put-cut, encode-append, charge-append}
 use Rattle.overlay_measure.specs.Measure.{startsAt, added, replaced, Passed, Measured}
 
-abbrev allBefore : Path → Table → Bool
+abbrev pub allBefore : Path → Table → Bool
 allBefore q t = every (λ x. before (x .0) q) t
 
-before-trans : (a b c : Path) → before a b ≡ true → before b c ≡ true → before a c ≡ true
+pub before-trans : (a b c : Path) → before a b ≡ true → before b c ≡ true → before a c ≡ true
 before-trans a b c h g = Lt-before a c (Lt-trans a b c (before-Lt a b h) (before-Lt b c g))
 
 all-append : (q : Path) (a b : Table) → allBefore q a ≡ true → allBefore q b ≡ true → allBefore q (a ++ b) ≡ true
@@ -37,7 +37,7 @@ all-up k q (x ∷ xs) h =
     elim (test (before (x .0) k)) [ yea a ↦ rw (a, before-trans (x .0) k q a h) (all-up k q xs h) | nay a ↦ rw a ]
 
 -- what is before q stays before what is put at q
-put-passed : (q : Path) (v : Entry) (a b : Table) → allBefore q a ≡ true → put q v (a ++ b) ≡ a ++ put q v b
+pub put-passed : (q : Path) (v : Entry) (a b : Table) → allBefore q a ≡ true → put q v (a ++ b) ≡ a ++ put q v b
 put-passed q v [] b h = refl
 put-passed q v (x ∷ xs) b h =
     let e = and-true (before (x .0) q) (allBefore q xs) h in
@@ -73,18 +73,26 @@ module _ (s : Bytes) (t : Table) (k q : Path) (v : Entry) (left at : ℕ) (p : P
   pub put-whole : put q v t ≡ done ++ put q v ahead
   put-whole = ap (put q v) (p .whole) ∙ put-passed q v done ahead (p .low q up)
 
+  -- the whole is then what is passed, and what is behind q
+  pub put-parts : put q v t ≡ beyond done q v ahead ++ behind q ahead
+  put-parts =
+      put-whole
+      ∙ ap (λ (l : Table). done ++ l) (put-cut q v ahead)
+      ∙ ap (λ (l : Table). done ++ l) (sym (append-assoc (upTo q ahead) ((q, v) ∷ []) (behind q ahead)))
+      ∙ sym (append-assoc done (upTo q ahead ++ ((q, v) ∷ [])) (behind q ahead))
+
+  pub low-on : (j : Path) → before q j ≡ true → allBefore j (beyond done q v ahead) ≡ true
+  low-on j b =
+      all-append j done (upTo q ahead ++ ((q, v) ∷ [])) (p .low j (before-trans k q j up b))
+      (all-append j (upTo q ahead) ((q, v) ∷ []) (all-up q j ahead b) (rw b))
+
   module _ (left′ at′ : ℕ) (stand : Standing s left′ at′) (are : entriesAt s left′ at′ ≡ behind q ahead) where
     pub put-on : Passed s (put q v t) q left′ at′
     put-on = record {
       stand = stand;
       done = beyond done q v ahead;
-      whole =
-          put-whole
-          ∙ ap (λ (l : Table). done ++ l) (put-cut q v ahead ∙ ap (λ (l : Table). upTo q ahead ++ ((q, v) ∷ l)) (sym are))
-          ∙ ap (λ (l : Table). done ++ l) (sym (append-assoc (upTo q ahead) ((q, v) ∷ []) (entriesAt s left′ at′)))
-          ∙ sym (append-assoc done (upTo q ahead ++ ((q, v) ∷ [])) (entriesAt s left′ at′));
-      low = λ j b. all-append j done (upTo q ahead ++ ((q, v) ∷ [])) (p .low j (before-trans k q j up b))
-          (all-append j (upTo q ahead) ((q, v) ∷ []) (all-up q j ahead b) (rw b));
+      whole = put-parts ∙ ap (λ (l : Table). beyond done q v ahead ++ l) (sym are);
+      low = low-on;
     }
 
     pub put-on-done : put-on .done ≡ beyond done q v ahead
@@ -96,10 +104,10 @@ module _ (E : ℕ) where
   abbrev bytesOf : Table → ℕ
   bytesOf t = length (encode t)
 
-  bytes-append : (a b : Table) → bytesOf (a ++ b) ≡ bytesOf a + bytesOf b
+  pub bytes-append : (a b : Table) → bytesOf (a ++ b) ≡ bytesOf a + bytesOf b
   bytes-append a b = ap length (encode-append a b) ∙ length-append (encode a) (encode b)
 
-  bytes-cons : (k : Path) (e : Entry) (t : Table) → bytesOf ((k, e) ∷ t) ≡ 24 + length k + length (bodyOf e) + bytesOf t
+  pub bytes-cons : (k : Path) (e : Entry) (t : Table) → bytesOf ((k, e) ∷ t) ≡ 24 + length k + length (bodyOf e) + bytesOf t
   bytes-cons k e t = length-append (entryBytes k e) (encode t) ∙ ap (λ (n : ℕ). n + bytesOf t) (entry-length k e)
 
   -- v put at q, in the place of what `since` begins with, if that has the key q

@@ -1,0 +1,4 @@
+pub mod Befores
+pub mod Children
+pub mod Cutting
+pub mod Sums
