@@ -57,7 +57,7 @@ room-next s t k q v left at p xs h =
     let ahead : Table = entriesAt s left at in
     let new : Table = beyond (p .done) q v ahead in
     let f : into ((q, v) ∷ xs) t ≡ new ++ into xs (behind q ahead) =
-        ap (into xs) (put-parts s t k q v left at p (e .0)) ∙ into-passed xs q new (behind q ahead) (low-on s t k q v left at p (e .0)) (e .1) in
+    ap (into xs) (put-parts s t k q v left at p (e .0)) ∙ into-passed xs q new (behind q ahead) (low-on s t k q v left at p (e .0)) (e .1) in
     let a = ap (λ (x : Table). length (encode x)) f ∙ bytes-append 0 new (into xs (behind q ahead)) in
     let b = bytes-append 0 (p .done) (upTo q ahead ++ ((q, v) ∷ [])) in
     let c = bytes-append 0 (upTo q ahead) ((q, v) ∷ []) in

@@ -1,0 +1,4 @@
+pub mod Absences
+pub mod Searches
+pub mod Sublists
+pub mod Visibles

@@ -1,0 +1,4 @@
+pub mod Checked
+pub mod Parents
+pub mod Ends
+pub mod Missing
