@@ -29,7 +29,7 @@ use Rattle.overlay_insert.specs.declared.Inserted.{Inserted}
 use Rattle.overlay_insert.specs.declared.Inserted.the-variants.{Done, MemoryUsageLimitExceeded, NoRoom}
 
 -- a table in form is small: its bytes are at least 24 for an entry, and its charge is at most 256 + 4,096 for each byte
-bounds : (E : ℕ) (t : Table) → E ≤ 4096 → (24 * length t ≤ length (encode t)) × (charge E t ≤ 4352 * length (encode t))
+pub bounds : (E : ℕ) (t : Table) → E ≤ 4096 → (24 * length t ≤ length (encode t)) × (charge E t ≤ 4352 * length (encode t))
 bounds E [] h = (omega arith, omega arith)
 bounds E (x ∷ xs) h =
     let i = bounds E xs h in
