@@ -1,0 +1,2 @@
+pub mod Thens
+pub mod Asked
