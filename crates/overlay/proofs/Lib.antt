@@ -1,0 +1,3 @@
+pub mod Settles
+pub mod Firsts
+pub mod Changes
