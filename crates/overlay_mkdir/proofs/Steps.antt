@@ -11,15 +11,14 @@ use borrow.Author.Tests.{leb-true}
 use Rattle.model.specs.Bytes.{Bytes}
 use Rattle.model.specs.Path.{Path, isPath, ancestors}
 use Rattle.model.specs.Tree.{View, Kind, nothing, aDirectory, aFile, aLink, kind, isNothing}
-use Rattle.model.specs.Checks.{Check, pass, refuse, _then_, mkdirAt, mkdirParents, parents, ancestorsIn, makes}
 use Rattle.model.specs.Listing.{isListing}
 use Rattle.model.specs.Table.{isTable}
+use Rattle.model.specs.Checks.{Check, pass, refuse, _then_, mkdirAt, mkdirParents, parents, ancestorsIn, makes}
 use Rattle.model.specs.Answer.{toldRefusal}
 use Rattle.model.specs.declared.Record.{Record}
 use Rattle.model.specs.declared.Refusal.{Refusal}
 use Rattle.model.proofs.Orders.{bot}
 use Rattle.overlay_view.specs.declared.Visible.{Visible}
-use Rattle.overlay_view.specs.declared.Visible.the-variants as visible
 use Rattle.overlay_view.specs.Sight.{visibleKind}
 use Rattle.overlay_parents.specs.declared.Judged.{Judged}
 use Rattle.overlay_parents.specs.declared.Judged.the-variants as judge
@@ -34,9 +33,14 @@ use Rattle.overlay_mkdir.specs.declared.Step.the-variants as step
 pub at-case : (n : ℕ) (ok : Bool) (v u : Visible) → v ≡ u → (later : Check) → mkdirAt n ok (visibleKind v) later ≡ mkdirAt n ok (visibleKind u) later
 at-case n ok v u e later = ap (λ (x : Visible). mkdirAt n ok (visibleKind x) later) e
 
-pub at-directory : (n : ℕ) (ok b : Bool) (v : Visible) → v ≡ visible.Directory → ok ≡ b → (later : Check)
-    → mkdirAt n ok (visibleKind v) later ≡ cond b pass (refuse 6 0 n)
-at-directory n ok b v e h later = at-case n ok v visible.Directory e later ∙ ap (λ (x : Bool). cond x pass (refuse 6 0 n)) h
+-- something is there, and the code's step x is what the definition gives in that case
+pub at-taken : (n : ℕ) (ok : Bool) (v u : Visible) → v ≡ u → (x : Step) → ((later : Check) → mkdirAt n ok (visibleKind u) later ≡ afterStep x later)
+    → (later : Check) → mkdirAt n ok (visibleKind v) later ≡ afterStep x later
+at-taken n ok v u e x a later = at-case n ok v u e later ∙ a later
+
+-- a is whether it is accepted
+pub taken-so : (a b : Bool) (n : ℕ) → a ≡ b → (later : Check) → cond a pass (refuse 6 0 n) ≡ cond b pass (refuse 6 0 n)
+taken-so a b n e later = ap (λ (x : Bool). cond x pass (refuse 6 0 n)) e
 
 -- the parents' check by the flag
 pub parents-made : (f : View) (p : Path) (up : Bool) (c : Check) → up ≡ true → c ≡ ancestorsIn (length p) (kind f) (ancestors p)

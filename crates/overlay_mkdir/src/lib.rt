@@ -2,7 +2,7 @@
 // Nothing is assumed: any bytes can be given as listing, table, work buffer and path, and any numbers as record, mtime and limit.
 // A refused call leaves all as it was; an accepted one leaves the work buffer all 0. It is a constant number of passes over what it is lent.
 ghost use mathlib.Core.Path.{_≡_};
-ghost use mathlib.Core.Bool.{true, _&&_};
+ghost use mathlib.Core.Bool.{true, cond, _&&_};
 ghost use mathlib.Core.List.{[]};
 ghost use Prim.Native.Nat.{ℕ, _≤_, _<_};
 ghost use lib.Dec.{leb};
@@ -12,7 +12,7 @@ ghost use Rattle.model.specs.Map.{puts, each};
 ghost use Rattle.model.specs.Tree.{directory, shown, kind, isNothing};
 ghost use Rattle.model.specs.Listing.{treeIn, isListing};
 ghost use Rattle.model.specs.Table.{tableIn, isTable};
-ghost use Rattle.model.specs.Checks.{Check, pass, _then_, unless, form, mkdirAt, mkdirParents, makes};
+ghost use Rattle.model.specs.Checks.{Check, pass, refuse, _then_, unless, form, mkdirAt, mkdirParents, makes};
 ghost use Rattle.model.specs.Calls as calls;
 ghost use Rattle.model.specs.Outcome.{outcome};
 ghost use Rattle.overlay_view.specs.Sight.{visibleKind};
@@ -43,7 +43,17 @@ pub struct Plan {
     pub dirs: Dirs,
 }
 
-// What is done where this is visible at the path of `len` bytes.
+// What is done where something is at the path of `len` bytes: it is accepted, or refused as existing.
+fn taken(accept: bool, len: u64) -> Step
+    ensures { λ r. ⌜ ((later : Check) → cond accept pass (refuse 6 0 len) ≡ afterStep r later) ⌝ }
+{
+    if accept {
+        return Step::There;
+    }
+    Step::Refused(Refusal::Exists(0, len))
+}
+
+// What is done where this is visible at the path of `len` bytes. A file is refused with exist_ok too.
 fn at_path(visible: Visible, exist_ok: bool, len: u64) -> Step
     ensures { λ r. ⌜ ((later : Check) → mkdirAt len «exist_ok» (visibleKind visible) later ≡ afterStep r later) ⌝ }
 {
@@ -52,13 +62,10 @@ fn at_path(visible: Visible, exist_ok: bool, len: u64) -> Step
             return Step::Make;
         }
         Visible::Directory => {
-            if exist_ok {
-                return Step::There;
-            }
-            return Step::Refused(Refusal::Exists(0, len));
+            return taken(exist_ok, len);
         }
         Visible::File => {
-            return Step::Refused(Refusal::Exists(0, len));
+            return taken(false, len);
         }
         Visible::Link => {
             return Step::Refused(Refusal::LinkOrRoot(0, len));
