@@ -25,7 +25,8 @@ use overlay_view::Visible;
 
 // 1, 2 and 3 for a call with one path.
 pub fn ready(listing: &[u8], table: &[u8], rec: Record, room: usize, path: &[u8]) -> Judged
-    ensures { λ r. ⌜ checkOf r ≡ (unless 1 (isTable (now (table .entry)) rec && leb (length (now (table .entry))) room) then unless 2 (isListing (now (listing .entry))) then form 0 (now (path .entry))) ⌝ }
+    ensures { λ r. ⌜ checkOf r ≡ (unless 1 (isTable (now (table .entry)) rec && leb (length (now (table .entry))) room)
+        then unless 2 (isListing (now (listing .entry))) then form 0 (now (path .entry))) ⌝ }
 {
     let admitted = overlay_checks::admitted(listing, table, rec, room);
     if overlay_parents::is_refused(admitted) {
@@ -167,7 +168,9 @@ pub fn answered(inserted: Inserted, rec: Record, value: u64) -> Answered
 
 // 1 to 8 for write.
 fn judge_write(listing: &[u8], table: &[u8], rec: Record, room: usize, path: &[u8]) -> Judged
-    ensures { λ r. ⌜ checkOf r ≡ ((unless 1 (isTable (now (table .entry)) rec && leb (length (now (table .entry))) room) then unless 2 (isListing (now (listing .entry))) then form 0 (now (path .entry))) then writeChecks (shown (tableIn (now (table .entry)) rec) (treeIn (now (listing .entry)))) (now (path .entry))) ⌝ }
+    ensures { λ r. ⌜ checkOf r ≡ ((unless 1 (isTable (now (table .entry)) rec && leb (length (now (table .entry))) room)
+        then unless 2 (isListing (now (listing .entry))) then form 0 (now (path .entry)))
+        then writeChecks (shown (tableIn (now (table .entry)) rec) (treeIn (now (listing .entry)))) (now (path .entry))) ⌝ }
 {
     let ready = ready(listing, table, rec, room, path);
     if overlay_parents::is_refused(ready) {
@@ -187,7 +190,8 @@ pub fn write_bytes(
     data: &[u8],
     limit: u64,
 ) -> Answered
-    ensures { λ r. ⌜ Meets (outcome (now (listing .entry)) (requested (calls.write (now (path .entry)) mtime (now («data» .entry))) limit (now (work .entry))) (stored (now (table .entry)) rec)) r (now (table .exit)) (now (work .exit)) ⌝ }
+    ensures { λ r. ⌜ Meets (outcome (now (listing .entry)) (requested (calls.write (now (path .entry)) mtime (now («data» .entry))) limit
+        (now (work .entry))) (stored (now (table .entry)) rec)) r (now (table .exit)) (now (work .exit)) ⌝ }
 {
     let judged = judge_write(listing, table, rec, work.len(), path);
     match judged {
@@ -206,7 +210,9 @@ pub fn write_bytes(
 
 // 1 to 8 for unlink.
 fn judge_unlink(listing: &[u8], table: &[u8], rec: Record, room: usize, path: &[u8]) -> Judged
-    ensures { λ r. ⌜ checkOf r ≡ ((unless 1 (isTable (now (table .entry)) rec && leb (length (now (table .entry))) room) then unless 2 (isListing (now (listing .entry))) then form 0 (now (path .entry))) then unlinkChecks (tableIn (now (table .entry)) rec) (treeIn (now (listing .entry))) (now (path .entry))) ⌝ }
+    ensures { λ r. ⌜ checkOf r ≡ ((unless 1 (isTable (now (table .entry)) rec && leb (length (now (table .entry))) room)
+        then unless 2 (isListing (now (listing .entry))) then form 0 (now (path .entry)))
+        then unlinkChecks (tableIn (now (table .entry)) rec) (treeIn (now (listing .entry))) (now (path .entry))) ⌝ }
 {
     let ready = ready(listing, table, rec, room, path);
     if overlay_parents::is_refused(ready) {
@@ -224,7 +230,8 @@ pub fn unlink(
     path: &[u8],
     limit: u64,
 ) -> Answered
-    ensures { λ r. ⌜ Meets (outcome (now (listing .entry)) (requested (calls.unlink (now (path .entry))) limit (now (work .entry))) (stored (now (table .entry)) rec)) r (now (table .exit)) (now (work .exit)) ⌝ }
+    ensures { λ r. ⌜ Meets (outcome (now (listing .entry)) (requested (calls.unlink (now (path .entry))) limit (now (work .entry)))
+        (stored (now (table .entry)) rec)) r (now (table .exit)) (now (work .exit)) ⌝ }
 {
     let judged = judge_unlink(listing, table, rec, work.len(), path);
     match judged {
@@ -244,7 +251,9 @@ pub fn unlink(
 
 // 1 to 9 for rmdir.
 fn judge_rmdir(listing: &[u8], table: &[u8], rec: Record, room: usize, path: &[u8]) -> Judged
-    ensures { λ r. ⌜ checkOf r ≡ ((unless 1 (isTable (now (table .entry)) rec && leb (length (now (table .entry))) room) then unless 2 (isListing (now (listing .entry))) then form 0 (now (path .entry))) then rmdirChecks (tableIn (now (table .entry)) rec) (treeIn (now (listing .entry))) (now (path .entry))) ⌝ }
+    ensures { λ r. ⌜ checkOf r ≡ ((unless 1 (isTable (now (table .entry)) rec && leb (length (now (table .entry))) room)
+        then unless 2 (isListing (now (listing .entry))) then form 0 (now (path .entry)))
+        then rmdirChecks (tableIn (now (table .entry)) rec) (treeIn (now (listing .entry))) (now (path .entry))) ⌝ }
 {
     let ready = ready(listing, table, rec, room, path);
     if overlay_parents::is_refused(ready) {
@@ -262,7 +271,8 @@ pub fn rmdir(
     path: &[u8],
     limit: u64,
 ) -> Answered
-    ensures { λ r. ⌜ Meets (outcome (now (listing .entry)) (requested (calls.rmdir (now (path .entry))) limit (now (work .entry))) (stored (now (table .entry)) rec)) r (now (table .exit)) (now (work .exit)) ⌝ }
+    ensures { λ r. ⌜ Meets (outcome (now (listing .entry)) (requested (calls.rmdir (now (path .entry))) limit (now (work .entry)))
+        (stored (now (table .entry)) rec)) r (now (table .exit)) (now (work .exit)) ⌝ }
 {
     let judged = judge_rmdir(listing, table, rec, work.len(), path);
     match judged {

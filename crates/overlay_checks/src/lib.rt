@@ -21,7 +21,8 @@ use overlay_view::Visible;
 
 // 1 and 2: the table and its record, a work buffer of `room` bytes, the listing.
 pub fn admitted(listing: &[u8], table: &[u8], rec: model::Record, room: usize) -> Judged
-    ensures { λ r. ⌜ checkOf r ≡ (unless 1 (isTable (now (table .entry)) rec && leb (length (now (table .entry))) room) then unless 2 (isListing (now (listing .entry)))) ⌝ }
+    ensures { λ r. ⌜ checkOf r ≡ (unless 1 (isTable (now (table .entry)) rec && leb (length (now (table .entry))) room)
+        then unless 2 (isListing (now (listing .entry)))) ⌝ }
 {
     if !overlay_open::check(table, rec) {
         return Judged::Refused(Refusal::MalformedTable);
@@ -105,7 +106,9 @@ fn unlink_listed(listing: &[u8], table: &[u8], rec: model::Record, path: &[u8]) 
     requires { ⌜ isListing (now listing) ≡ true ⌝ }
     requires { ⌜ isTable (now table) rec ≡ true ⌝ }
     requires { ⌜ isPath (now path) ≡ true ⌝ }
-    ensures { λ r. ⌜ checkOf r ≡ (parents 0 (shown (tableIn (now (table .entry)) rec) (treeIn (now (listing .entry)))) (now (path .entry)) then unlinkAt (length (now (path .entry))) (kind (shown (tableIn (now (table .entry)) rec) (treeIn (now (listing .entry)))) (now (path .entry)))) ⌝ }
+    ensures { λ r. ⌜ checkOf r ≡ (parents 0 (shown (tableIn (now (table .entry)) rec) (treeIn (now (listing .entry)))) (now (path .entry))
+        then unlinkAt (length (now (path .entry))) (kind (shown (tableIn (now (table .entry)) rec)
+        (treeIn (now (listing .entry)))) (now (path .entry)))) ⌝ }
 {
     let parents = overlay_parents::ensure_parent_exists(listing, table, rec, path, 0);
     if overlay_parents::is_refused(parents) {
@@ -172,7 +175,9 @@ fn rmdir_listed(listing: &[u8], table: &[u8], rec: model::Record, path: &[u8]) -
     requires { ⌜ isListing (now listing) ≡ true ⌝ }
     requires { ⌜ isTable (now table) rec ≡ true ⌝ }
     requires { ⌜ isPath (now path) ≡ true ⌝ }
-    ensures { λ r. ⌜ checkOf r ≡ (parents 0 (shown (tableIn (now (table .entry)) rec) (treeIn (now (listing .entry)))) (now (path .entry)) then rmdirAt (length (now (path .entry))) (kind (shown (tableIn (now (table .entry)) rec) (treeIn (now (listing .entry)))) (now (path .entry)))) ⌝ }
+    ensures { λ r. ⌜ checkOf r ≡ (parents 0 (shown (tableIn (now (table .entry)) rec) (treeIn (now (listing .entry)))) (now (path .entry))
+        then rmdirAt (length (now (path .entry))) (kind (shown (tableIn (now (table .entry)) rec)
+        (treeIn (now (listing .entry)))) (now (path .entry)))) ⌝ }
 {
     let parents = overlay_parents::ensure_parent_exists(listing, table, rec, path, 0);
     if overlay_parents::is_refused(parents) {
@@ -187,7 +192,10 @@ fn rmdir_entry(listing: &[u8], table: &[u8], rec: model::Record, path: &[u8]) ->
     requires { ⌜ isListing (now listing) ≡ true ⌝ }
     requires { ⌜ isTable (now table) rec ≡ true ⌝ }
     requires { ⌜ isPath (now path) ≡ true ⌝ }
-    ensures { λ r. ⌜ checkOf r ≡ rmdirEntry (length (now (path .entry))) (lookup (tableIn (now (table .entry)) rec) (now (path .entry))) (parents 0 (shown (tableIn (now (table .entry)) rec) (treeIn (now (listing .entry)))) (now (path .entry)) then rmdirAt (length (now (path .entry))) (kind (shown (tableIn (now (table .entry)) rec) (treeIn (now (listing .entry)))) (now (path .entry)))) ⌝ }
+    ensures { λ r. ⌜ checkOf r ≡ rmdirEntry (length (now (path .entry))) (lookup (tableIn (now (table .entry)) rec) (now (path .entry))) (parents 0
+        (shown (tableIn (now (table .entry)) rec) (treeIn (now (listing .entry)))) (now (path .entry))
+        then rmdirAt (length (now (path .entry))) (kind (shown (tableIn (now (table .entry)) rec)
+        (treeIn (now (listing .entry)))) (now (path .entry)))) ⌝ }
 {
     let entry = overlay_state::get(table, rec, path);
     let bytes = path.len() as u64;

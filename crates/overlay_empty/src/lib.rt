@@ -66,7 +66,8 @@ fn listed_without_entry(
 ) -> bool
     requires { ⌜ listing.Standing (now part) count 0 ⌝ }
     requires { ⌜ Standing (now table) (place .left) (place .at) ⌝ }
-    ensures { λ r. ⌜ r ≡ listedIn (entriesAt (now (table .entry)) (place .left) (place .at)) (now (dir .entry)) (treeAt (now (part .entry)) count 0) ⌝ }
+    ensures { λ r. ⌜ r ≡ listedIn (entriesAt (now (table .entry)) (place .left) (place .at)) (now (dir .entry))
+        (treeAt (now (part .entry)) count 0) ⌝ }
 {
     let mut at: usize = 0;
     let mut left = count;
@@ -119,7 +120,9 @@ pub fn real_directory_has_visible_children(
 pub fn has_visible_children(listing: &[u8], table: &[u8], rec: model::Record, dir: &[u8]) -> bool
     requires { ⌜ isListing (now listing) ≡ true ⌝ }
     requires { ⌜ isTable (now table) rec ≡ true ⌝ }
-    ensures { λ r. ⌜ r ≡ (visibleChild (shown (tableIn (now (table .entry)) rec) (treeIn (now (listing .entry)))) (now (dir .entry)) (keys (tableIn (now (table .entry)) rec)) || visibleChild (shown (tableIn (now (table .entry)) rec) (treeIn (now (listing .entry)))) (now (dir .entry)) (keys (treeIn (now (listing .entry))))) ⌝ }
+    ensures { λ r. ⌜ r ≡ (visibleChild (shown (tableIn (now (table .entry)) rec) (treeIn (now (listing .entry)))) (now (dir .entry)) (keys
+        (tableIn (now (table .entry)) rec)) || visibleChild (shown (tableIn (now (table .entry)) rec)
+        (treeIn (now (listing .entry)))) (now (dir .entry)) (keys (treeIn (now (listing .entry))))) ⌝ }
 {
     if overlay_directory_has_children(table, rec, dir) {
         return true;

@@ -33,7 +33,8 @@ pub fn memory_usage(table: &[u8], rec: model::Record) -> u64
 pub fn projected_record(table: &[u8], rec: model::Record, key: &[u8], len: u64) -> model::Record
     requires { ⌜ isTable (now table) rec ≡ true ⌝ }
     requires { ⌜ (before [] (now key) ≡ true) × (length (now key) ≤ 512) × (len ≤ 0x8000_0000_0000_0000) ⌝ }
-    ensures { λ r. ⌜ ((v : Entry) → length (bodyOf v) ≡ len → r ≡ recordOf (rec .«entry_size») (put (now (key .entry)) v (tableIn (now (table .entry)) rec))) ⌝ }
+    ensures { λ r. ⌜ ((v : Entry) → length (bodyOf v) ≡ len
+        → r ≡ recordOf (rec .«entry_size») (put (now (key .entry)) v (tableIn (now (table .entry)) rec))) ⌝ }
 {
     let first = overlay_state::first_entry(table, rec);
     let after = overlay_measure::projected(table, first, rec, key, len);
@@ -44,7 +45,8 @@ pub fn projected_record(table: &[u8], rec: model::Record, key: &[u8], len: u64) 
 pub fn projected_usage(table: &[u8], rec: model::Record, key: &[u8], len: u64) -> u64
     requires { ⌜ isTable (now table) rec ≡ true ⌝ }
     requires { ⌜ (before [] (now key) ≡ true) × (length (now key) ≤ 512) × (len ≤ 0x8000_0000_0000_0000) ⌝ }
-    ensures { λ r. ⌜ ((v : Entry) → length (bodyOf v) ≡ len → r ≡ charge (rec .«entry_size») (put (now (key .entry)) v (tableIn (now (table .entry)) rec))) ⌝ }
+    ensures { λ r. ⌜ ((v : Entry) → length (bodyOf v) ≡ len
+        → r ≡ charge (rec .«entry_size») (put (now (key .entry)) v (tableIn (now (table .entry)) rec))) ⌝ }
 {
     let after = projected_record(table, rec, key, len);
     after.charge
@@ -60,7 +62,8 @@ pub fn check_file_replacement(
 ) -> bool
     requires { ⌜ isTable (now table) rec ≡ true ⌝ }
     requires { ⌜ (before [] (now key) ≡ true) × (length (now key) ≤ 512) × (len ≤ 0x8000_0000_0000_0000) ⌝ }
-    ensures { λ r. ⌜ ((v : Entry) → length (bodyOf v) ≡ len → r ≡ leb (charge (rec .«entry_size») (put (now (key .entry)) v (tableIn (now (table .entry)) rec))) limit) ⌝ }
+    ensures { λ r. ⌜ ((v : Entry) → length (bodyOf v) ≡ len
+        → r ≡ leb (charge (rec .«entry_size») (put (now (key .entry)) v (tableIn (now (table .entry)) rec))) limit) ⌝ }
 {
     let usage = projected_usage(table, rec, key, len);
     usage <= limit
@@ -95,7 +98,8 @@ pub fn insert_unchecked(
     requires { ⌜ isTable (now table) rec ≡ true ⌝ }
     requires { ⌜ (before [] (now key) ≡ true) × Written kind mtime size (now body) × (length (now table) ≤ length (now work)) ⌝ }
     requires { ⌜ length (encode (put (now key) (entryOf kind mtime size (now body)) (tableIn (now table) rec))) ≤ length (now table) ⌝ }
-    ensures { λ _. ⌜ now (table .exit) ≡ padded (length (now (table .entry))) (encode (put (now (key .entry)) (entryOf kind mtime size (now (body .entry))) (tableIn (now (table .entry)) rec))) ⌝ }
+    ensures { λ _. ⌜ now (table .exit) ≡ padded (length (now (table .entry))) (encode (put (now (key .entry))
+        (entryOf kind mtime size (now (body .entry))) (tableIn (now (table .entry)) rec))) ⌝ }
     ensures { λ _. ⌜ now (work .exit) ≡ replicate (length (now (work .entry))) 0 ⌝ }
 {
     let start = overlay_write::Merge {
@@ -123,8 +127,10 @@ pub fn insert(
     requires { ⌜ isTable (now table) rec ≡ true ⌝ }
     requires { ⌜ (before [] (now key) ≡ true) × (length (now key) ≤ 512) ⌝ }
     requires { ⌜ Written kind mtime size (now body) × (length (now table) ≤ length (now work)) ⌝ }
-    ensures { λ r. ⌜ r ≡ insertion (rec .«entry_size») limit (length (now (table .entry))) (put (now (key .entry)) (entryOf kind mtime size (now (body .entry))) (tableIn (now (table .entry)) rec)) ⌝ }
-    ensures { λ r. ⌜ now (table .exit) ≡ ifDone r (padded (length (now (table .entry))) (encode (put (now (key .entry)) (entryOf kind mtime size (now (body .entry))) (tableIn (now (table .entry)) rec)))) (now (table .entry)) ⌝ }
+    ensures { λ r. ⌜ r ≡ insertion (rec .«entry_size») limit (length (now (table .entry))) (put (now (key .entry))
+        (entryOf kind mtime size (now (body .entry))) (tableIn (now (table .entry)) rec)) ⌝ }
+    ensures { λ r. ⌜ now (table .exit) ≡ ifDone r (padded (length (now (table .entry))) (encode (put (now (key .entry))
+        (entryOf kind mtime size (now (body .entry))) (tableIn (now (table .entry)) rec)))) (now (table .entry)) ⌝ }
     ensures { λ r. ⌜ now (work .exit) ≡ ifDone r (replicate (length (now (work .entry))) 0) (now (work .entry)) ⌝ }
 {
     let after = projected_record(table, rec, key, body.len() as u64);

@@ -31,7 +31,7 @@ all-append : (q : Path) (a b : Table) → allBefore q a ≡ true → allBefore q
 all-append q [] b h g = g
 all-append q (x ∷ xs) b h g = let e = and-true (before (x .0) q) (allBefore q xs) h in rw (e .0) (all-append q xs b (e .1) g)
 
-all-up : (k q : Path) (t : Table) → before k q ≡ true → allBefore q (upTo k t) ≡ true
+pub all-up : (k q : Path) (t : Table) → before k q ≡ true → allBefore q (upTo k t) ≡ true
 all-up k q [] h = refl
 all-up k q (x ∷ xs) h =
     elim (test (before (x .0) k)) [ yea a ↦ rw (a, before-trans (x .0) k q a h) (all-up k q xs h) | nay a ↦ rw a ]

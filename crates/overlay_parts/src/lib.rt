@@ -102,7 +102,8 @@ pub fn is_child(dir: &[u8], path: &[u8]) -> bool
 fn is_visible_child(part: &[u8], place: overlay_state::Place, dir: &[u8]) -> bool
     requires { ⌜ Standing (now part) (place .left) (place .at) ⌝ }
     requires { ⌜ 0 < place .left ⌝ }
-    ensures { λ r. ⌜ r ≡ (child (now (dir .entry)) (keyAt (now (part .entry)) (place .at)) && not (isDeleted (entryAt (now (part .entry)) (place .at)))) ⌝ }
+    ensures { λ r. ⌜ r ≡ (child (now (dir .entry)) (keyAt (now (part .entry)) (place .at)) && not (isDeleted (entryAt (now (part .entry))
+        (place .at)))) ⌝ }
 {
     let at = place.at;
     let kind = fields::le16(part, at + 2);

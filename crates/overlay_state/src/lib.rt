@@ -220,7 +220,8 @@ fn entry_if(table: &[u8], place: Place, key: &[u8]) -> OverlayEntry
 // the one before gave.
 pub fn get_from(table: &[u8], place: Place, key: &[u8]) -> Got
     requires { ⌜ Standing (now table) (place .left) (place .at) ⌝ }
-    ensures { λ r. ⌜ saidOf (now (table .entry)) (r .entry) ≡ said (lookup (entriesAt (now (table .entry)) (place .left) (place .at)) (now (key .entry))) ⌝ }
+    ensures { λ r. ⌜ saidOf (now (table .entry)) (r .entry) ≡ said (lookup
+        (entriesAt (now (table .entry)) (place .left) (place .at)) (now (key .entry))) ⌝ }
     ensures { λ r. ⌜ Sought (now (table .entry)) (now (key .entry)) (place .left) (place .at) (r .place .left) (r .place .at) ⌝ }
 {
     let found = seek(table, place, key);

@@ -57,7 +57,8 @@ fn of_target(target: listing_parts::RealTarget) -> Visible
 
 // What is visible where the table has this entry, or none, and the listing this.
 fn over(entry: overlay_state::OverlayEntry, target: listing_parts::RealTarget) -> Visible
-    ensures { λ r. ⌜ ((s : Bytes) (e : Option Entry) (n : Option Node) → saidOf s entry ≡ said e → targetKind target ≡ kindOf n → visibleKind r ≡ kindOf (tree.over e n)) ⌝ }
+    ensures { λ r. ⌜ ((s : Bytes) (e : Option Entry) (n : Option Node) → saidOf s entry ≡ said e → targetKind target ≡ kindOf n
+        → visibleKind r ≡ kindOf (tree.over e n)) ⌝ }
 {
     match entry {
         overlay_state::OverlayEntry::File { mtime, at, len } => {
@@ -108,7 +109,8 @@ pub fn look(
 ) -> Seen
     requires { ⌜ Sees (now listing) (now table) rec (now path) sight end ⌝ }
     requires { ⌜ (0 < end) × (end ≤ length (now path)) × (endsHere (drop end (now path)) ≡ true) ⌝ }
-    ensures { λ r. ⌜ visibleKind (r .visible) ≡ kind (shown (tableIn (now (table .entry)) rec) (treeIn (now (listing .entry)))) (take end (now (path .entry))) ⌝ }
+    ensures { λ r. ⌜ visibleKind (r .visible) ≡ kind (shown (tableIn (now (table .entry)) rec)
+        (treeIn (now (listing .entry)))) (take end (now (path .entry))) ⌝ }
     ensures { λ r. ⌜ Sees (now (listing .entry)) (now (table .entry)) rec (now (path .entry)) (r .sight) (end + 1) ⌝ }
 {
     let place = sight.place;

@@ -52,7 +52,8 @@ pub fn put_entry(
 )
     requires { ⌜ at + 24 + length (now key) + length (now body) ≤ length (now work) ⌝ }
     requires { ⌜ Written kind mtime size (now body) ⌝ }
-    ensures { λ _. ⌜ now (work .exit) ≡ overwritten (now (work .entry)) at (entryBytes (now (key .entry)) (entryOf kind mtime size (now (body .entry)))) ⌝ }
+    ensures { λ _. ⌜ now (work .exit) ≡ overwritten (now (work .entry)) at (entryBytes (now (key .entry))
+        (entryOf kind mtime size (now (body .entry)))) ⌝ }
 {
     let n = key.len();
     put_sizes(work, at, n as u64, kind, body.len() as u64);
@@ -74,10 +75,12 @@ pub fn put_next(
 ) -> Merge
     requires { ⌜ Standing (now table) (merge .left) (merge .at) ⌝ }
     requires { ⌜ Written kind mtime size (now body) ⌝ }
-    requires { ⌜ merge .out + length (encode (upTo (now key) (entriesAt (now table) (merge .left) (merge .at)))) + (24 + length (now key) + length (now body)) ≤ length (now work) ⌝ }
+    requires { ⌜ merge .out + length (encode (upTo (now key) (entriesAt (now table) (merge .left) (merge .at)))) + (24 + length (now key) + length
+        (now body)) ≤ length (now work) ⌝ }
     ensures { λ r. ⌜ ((t : Table) (k : Path) → Merged (now (table .entry)) (now (work .entry)) t k (merge .left) (merge .at) (merge .out)
         → before k (now (key .entry)) ≡ true
-        → Merged (now (table .entry)) (now (work .exit)) (put (now (key .entry)) (entryOf kind mtime size (now (body .entry))) t) (now (key .entry)) (r .left) (r .at) (r .out)) ⌝ }
+        → Merged (now (table .entry)) (now (work .exit)) (put (now (key .entry))
+        (entryOf kind mtime size (now (body .entry))) t) (now (key .entry)) (r .left) (r .at) (r .out)) ⌝ }
     ensures { λ _. ⌜ length (now (work .exit)) ≡ length (now (work .entry)) ⌝ }
     ensures { λ r. ⌜ endOf (now (table .entry)) (r .left) (r .at) ≡ endOf (now (table .entry)) (merge .left) (merge .at) ⌝ }
 {
