@@ -1,4 +1,3 @@
-pub mod Absences
 pub mod Searches
 pub mod Sublists
 pub mod Visibles

@@ -3,17 +3,14 @@
 // Entries and records below a directory are one part each; both ascend, so each part is read once, beside one pass to find it.
 ghost use mathlib.Core.Path.{_≡_};
 ghost use mathlib.Core.Bool.{true, _||_};
-ghost use mathlib.Core.Option.{Option};
-ghost use Rattle.model.specs.Bytes.{Bytes};
-ghost use Rattle.model.specs.Map.{isNone, keys};
-ghost use Rattle.model.specs.Tree.{Entry, shown};
+ghost use Rattle.model.specs.Map.{keys};
+ghost use Rattle.model.specs.Tree.{shown};
 ghost use Rattle.model.specs.Listing.{treeIn, isListing};
 ghost use Rattle.model.specs.Table.{entriesAt, tableIn, isTable};
 ghost use Rattle.model.specs.Checks.{visibleChild};
 ghost use Rattle.listing_parts.specs.Place.{treeAt};
 ghost use Rattle.listing_parts.specs.Place as listing;
 ghost use Rattle.overlay_state.specs.Place.{Standing};
-ghost use Rattle.overlay_state.specs.Said.{said, saidOf};
 ghost use Rattle.overlay_parts.specs.Parts.{visibleIn};
 ghost use Rattle.overlay_empty.specs.Children.{listedIn};
 
@@ -26,34 +23,6 @@ pub fn overlay_directory_has_children(table: &[u8], rec: model::Record, dir: &[u
     let from = part.from;
     let to = part.to;
     overlay_parts::has_visible_child(&table[from..to], part.count, dir)
-}
-
-// Whether there is no entry.
-fn is_absent(entry: overlay_state::OverlayEntry) -> bool
-    ensures { λ r. ⌜ ((s : Bytes) (e : Option Entry) → saidOf s entry ≡ said e → r ≡ isNone e) ⌝ }
-{
-    match entry {
-        overlay_state::OverlayEntry::File { mtime, at, len } => {
-            return false;
-        }
-        overlay_state::OverlayEntry::RealFileRef {
-            mtime,
-            size,
-            at,
-            len,
-        } => {
-            return false;
-        }
-        overlay_state::OverlayEntry::Directory { mtime } => {
-            return false;
-        }
-        overlay_state::OverlayEntry::Deleted => {
-            return false;
-        }
-        overlay_state::OverlayEntry::Absent => {
-            return true;
-        }
-    }
 }
 
 // Whether some record of a part is a child and has no entry from a place on.
@@ -85,7 +54,7 @@ fn listed_without_entry(
             path,
         );
         let entry = got.entry;
-        if overlay_parts::is_child(dir, path) & is_absent(entry) {
+        if overlay_parts::is_child(dir, path) & overlay_state::is_absent(entry) {
             return true;
         }
         let next = listing_parts::next_record(part, here);

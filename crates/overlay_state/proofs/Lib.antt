@@ -3,3 +3,4 @@ pub mod Cuts
 pub mod Real
 pub mod Says
 pub mod Seeks
+pub mod Absences

@@ -3,12 +3,13 @@
 // Each function is one pass forward over the entries up to its answer, and reads no body.
 ghost use mathlib.Core.Path.{_≡_};
 ghost use mathlib.Core.Bool.{true};
-ghost use mathlib.Core.Option.{some};
+ghost use mathlib.Core.Option.{Option, some};
 ghost use Prim.Native.Nat.{_+_, _-_, _≤_, _<_};
 ghost use lib.ListN.{length};
 ghost use lib.Ieee.{ofBits, binary64};
-ghost use Rattle.model.specs.Bytes.{numberAt};
-ghost use Rattle.model.specs.Map.{lookup};
+ghost use Rattle.model.specs.Bytes.{Bytes, numberAt};
+ghost use Rattle.model.specs.Map.{isNone, lookup};
+ghost use Rattle.model.specs.Tree.{Entry};
 ghost use Rattle.model.specs.Table.{typeOf, mtimeOf, sizeOf, bodyOf, keyAt, entryAt, entryEnd, entriesAt, tableIn, isTable};
 ghost use Rattle.overlay_state.specs.Place.{Standing, Sought};
 ghost use Rattle.overlay_state.specs.Cut.{firstAt};
@@ -240,4 +241,32 @@ pub fn get(table: &[u8], rec: model::Record, key: &[u8]) -> OverlayEntry
     let first = first_entry(table, rec);
     let got = get_from(table, first, key);
     got.entry
+}
+
+// Whether there is no entry.
+pub fn is_absent(entry: OverlayEntry) -> bool
+    ensures { λ r. ⌜ ((s : Bytes) (e : Option Entry) → saidOf s entry ≡ said e → r ≡ isNone e) ⌝ }
+{
+    match entry {
+        OverlayEntry::File { mtime, at, len } => {
+            return false;
+        }
+        OverlayEntry::RealFileRef {
+            mtime,
+            size,
+            at,
+            len,
+        } => {
+            return false;
+        }
+        OverlayEntry::Directory { mtime } => {
+            return false;
+        }
+        OverlayEntry::Deleted => {
+            return false;
+        }
+        OverlayEntry::Absent => {
+            return true;
+        }
+    }
 }

@@ -2,10 +2,10 @@
 -- Assumes nothing.
 use mathlib.Core.Path.{ap, sym, _∙_}
 use borrow.Author.Needs.{needs}
 use Rattle.overlay_state.specs.Said.{saidOf}
-use Rattle.overlay_empty.proofs.Absences.{of-file, of-reference, of-directory, of-deleted, of-absent}
-use Rattle.overlay_empty.proofs.is_absent.Statement.{statement}
-use Rattle.overlay_empty.proofs.is_absent.Tie as tie
+use Rattle.overlay_state.proofs.Absences.{of-file, of-reference, of-directory, of-deleted, of-absent}
+use Rattle.overlay_state.proofs.is_absent.Statement.{statement}
+use Rattle.overlay_state.proofs.is_absent.Tie as tie
 
 enum-known-entry : tie.Need-enum-known-entry
 enum-known-entry c = search needs

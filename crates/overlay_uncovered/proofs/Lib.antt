@@ -1,0 +1,4 @@
+pub mod Parents
+pub mod Covers
+pub mod Passes
+pub mod Belows
