@@ -22,7 +22,7 @@ pub struct Part {
 }
 
 // Whether a key comes before a directory's path with one byte behind it. With a slash, what is not before it and is before the same with '0' is below.
-fn is_before_with(key: &[u8], dir: &[u8], b: u8) -> bool
+pub fn is_before_with(key: &[u8], dir: &[u8], b: u8) -> bool
     ensures { λ r. ⌜ r ≡ before (now (key .entry)) (now (dir .entry) ++ (b ∷ [])) ⌝ }
 {
     let n = fields::shared(key, dir);

@@ -1,0 +1,92 @@
+-- How deep a walk goes: as deep as the tree or deeper is the same, and a listing is at most 32 deep.
+-- Assumes nothing.
+use mathlib.Core.Path.{_≡_, refl, _∙_}
+use mathlib.Core.List.{List, [], _∷_}
+use mathlib.Core.Bool.{true, cond, _&&_, _||_}
+use mathlib.Core.Option.{Option}
+use Prim.Native.Nat.{ℕ, zero, suc, _+_, _≤_}
+use native.Mathlib.Omega.{arith}
+use lib.Dec.{eqb, leb}
+use lib.ListN.{length}
+use borrow.Author.Tests.{leb-true}
+use Rattle.model.specs.Bytes.{Bytes, every}
+use Rattle.model.specs.Utf8.{utf8}
+use Rattle.model.specs.Path.{Path, components, onFirst, component, short, isRoot, isPath, slashless, child}
+use Rattle.model.specs.Map.{lookup, isNone}
+use Rattle.model.specs.Tree.{Table, Tree}
+use Rattle.model.specs.Listing.{ListingRecord, ruled, placed, formedRecord, treeFrom}
+use Rattle.model.specs.Rename.{Walk, visits, children, lastFirst, walk, depth}
+use Rattle.model.proofs.Orders.{bot, yea, nay, test, and-true, eqb-eq}
+use Rattle.overlay_walk.proofs.Cuts.{each-of, each-only}
+use Rattle.overlay_walk.proofs.Enters.{met, all-found, enter-same}
+
+-- how deep a path stands
+abbrev level : Path → ℕ
+level p = length (components p)
+
+level-same : (b : ℕ) (cs : List Bytes) → length (onFirst b cs) ≡ length cs
+level-same b [] = refl
+level-same b (c ∷ cs) = refl
+
+level-cons : (b : ℕ) (s : Path) → level (b ∷ s) ≡ cond (eqb b 47) 1 0 + level s
+level-cons b s = elim (test (eqb b 47)) [
+  | yea e ↦ rw e (omega arith)
+  | nay e ↦ let f = level-same b (components s) in rw e (omega arith)
+]
+
+slashless-level : (u : Path) → slashless u ≡ true → level u ≡ 1
+slashless-level [] h = refl
+slashless-level (c ∷ u) h = elim (test (eqb c 47)) [
+  | yea e ↦ absurd (bot (cc))
+  | nay e ↦ let ih = slashless-level u (cc) in level-cons c u ∙ rw e (omega arith)
+]
+
+child-level : (d q : Path) → child d q ≡ true → level q ≡ suc (level d)
+child-level [] [] h = absurd (bot (cc))
+child-level [] (c ∷ q) h =
+    let e = and-true (eqb c 47) (slashless q) h in
+    let f = slashless-level q (e .1) in
+    level-cons c q ∙ rw (e .0) (omega arith)
+child-level (a ∷ d) [] h = absurd (bot (cc))
+child-level (a ∷ d) (c ∷ q) h =
+    let e = and-true (eqb a c) (child d q) h in
+    let ih = child-level d q (e .1) in
+    rw (level-cons a d, level-cons c q, eqb-eq a c (e .0)) (omega arith)
+
+-- at the tree's depth a directory has no children
+no-children : (t : Table) (d : Path) (l : Tree) → depth l ≤ level d → children t l d ≡ []
+no-children t d [] h = refl
+no-children t d (x ∷ xs) h = elim (test (child d (x .0))) [
+  | yea e ↦ (let f = child-level d (x .0) e in absurd (omega arith))
+  | nay e ↦ rw e (no-children t d xs (omega arith))
+]
+
+module _ (t : Table) (l : Tree) (b : Option ℕ) where
+  pub walk-deep : (n m : ℕ) (d : Path) → depth l ≤ n + level d → depth l ≤ m + level d → (w : Walk) → walk n t l b d w ≡ walk m t l b d w
+  walk-deep zero zero d h k w = refl
+  walk-deep zero (suc m) d h k w = rw (no-children t d l (omega arith))
+  walk-deep (suc n) zero d h k w = rw (no-children t d l (omega arith))
+  walk-deep (suc n) (suc m) d h k w =
+      let c = children t l d in
+      let P : Path → Type 0 = λ p. child d p ≡ true in
+      let e = each-only (met t d) (λ q. Unit {0}) P (λ q e z. and-true (child d q) (isNone (lookup t q)) e .0) l (each-of (λ q. Unit {0}) (λ q. tt) l) in
+      enter-same (walk n t l b) (walk m t l b) P
+      (λ p e v. let f = child-level d p e in walk-deep n m p (omega arith) (omega arith) v)
+      (lastFirst c []) (all-found P c [] e tt) (visits b w c)
+
+path-level : (p : Path) → isPath p ≡ true → level p ≤ 32
+path-level p h =
+    let a = and-true (short p && utf8 p) (isRoot p || every component (components p)) h in
+    let c = and-true (short p) (utf8 p) (a .0) in
+    let e = and-true (leb (length p) 512) (leb (level p) 32) (c .0) in
+    leb-true (level p) 32 (e .1)
+
+pub listing-depth : (l : Tree) (rs : List ListingRecord) → every (formedRecord l) rs ≡ true → depth (treeFrom rs) ≤ 32
+listing-depth l [] h = omega arith
+listing-depth l (r ∷ rs) h =
+    let e = and-true (formedRecord l r) (every (formedRecord l) rs) h in
+    let f = and-true (isPath (r .path) && ruled r) (placed l r) (e .0) in
+    let g = and-true (isPath (r .path)) (ruled r) (f .0) in
+    let u = path-level (r .path) (g .0) in
+    let ih = listing-depth l rs (e .1) in
+    omega arith
