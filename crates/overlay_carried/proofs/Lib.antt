@@ -1,0 +1,3 @@
+pub mod Merges
+pub mod Steps
+pub mod Items
