@@ -1,6 +1,6 @@
 // What rename carries from below its source, in ascending order: the table's entries there, and the listed paths there that no entry covers.
 // Assumes a part of a checked table and one of a checked listing, both below the source: only this repository's crates call.
-// A whole pass reads the listing's part, the table's and the table once each, and at each step the two keys that are next, of at most 512 bytes.
+// A whole pass reads both parts and the table once, and at each step the two keys that are next once more, of at most 512 bytes each.
 ghost use mathlib.Core.Path.{_≡_};
 ghost use mathlib.Core.Bool.{Bool, true};
 ghost use mathlib.Core.List.{List, [], _∷_};
@@ -79,8 +79,8 @@ pub fn first(
     requires { ⌜ Standing (now own) count 0 ⌝ }
     requires { ⌜ entriesAt (now own) count 0 ≡ only (below (now source)) (tableIn (now table) rec) ⌝ }
     requires { ⌜ PartBelow (now part) (now source) records ⌝ }
-    ensures { λ r. ⌜ Streaming (now (own .entry)) (now (part .entry)) (now (table .entry)) (now (source .entry)) (now (flags .exit)) r ⌝ }
     ensures { λ r. ⌜ remaining r ≤ count + records ⌝ }
+    ensures { λ r. ⌜ Streaming (now (own .entry)) (now (part .entry)) (now (table .entry)) (now (source .entry)) (now (flags .exit)) r ⌝ }
     ensures { λ r. ⌜ Carrying (now (own .entry)) (now (part .entry)) (now (table .entry)) (now (source .entry))
         (tableIn (now (table .entry)) rec) (treeAt (now (part .entry)) records 0) (now (flags .exit)) r ⌝ }
     ensures { λ r. ⌜ ((l : Tree) → ascends [] l ≡ true → treeAt (now (part .entry)) records 0 ≡ only (below (now (source .entry))) l
@@ -95,7 +95,8 @@ pub fn first(
     }
 }
 
-// The streams behind what `head_at` told to be next. One of them goes on, over one entry, or up to the next uncovered record.
+// The streams behind what `head_at` told to be next. One of them goes on, over one entry, or up to the next uncovered record, and what lies
+// between is read once in a whole pass. At the end nothing is behind, and no caller comes there.
 pub fn advance(
     flags: &mut [bool; 513],
     own: &[u8],
@@ -108,8 +109,8 @@ pub fn advance(
     requires { ⌜ Streaming (now own) (now part) (now table) (now source) (now flags) stream ⌝ }
     requires { ⌜ Next (now own) (now part) stream head ⌝ }
     requires { ⌜ 0 < remaining stream ⌝ }
-    ensures { λ r. ⌜ Streaming (now (own .entry)) (now (part .entry)) (now (table .entry)) (now (source .entry)) (now (flags .exit)) r ⌝ }
     ensures { λ r. ⌜ remaining r < remaining stream ⌝ }
+    ensures { λ r. ⌜ Streaming (now (own .entry)) (now (part .entry)) (now (table .entry)) (now (source .entry)) (now (flags .exit)) r ⌝ }
     ensures { λ r. ⌜ ((t : Table) (l : Tree)
         → Carrying (now (own .entry)) (now (part .entry)) (now (table .entry)) (now (source .entry)) t l (now (flags .entry)) stream
         → Carrying (now (own .entry)) (now (part .entry)) (now (table .entry)) (now (source .entry)) t l (now (flags .exit)) r

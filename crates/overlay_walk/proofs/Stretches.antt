@@ -230,18 +230,10 @@ falls-below t d o n e h k f = omega arith
 pub falls-one : (t d c : ℕ) → d * 33554432 + c ≡ t → c ≡ 1 → d * 33554432 < t
 falls-one t d c e h = omega arith
 
-falls-half : (t d x y c : ℕ) → d * 33554432 + c ≡ t → 0 < x → x + y ≡ c → d * 33554432 + y < t
-falls-half t d x y c e h k = omega arith
-
-module _ (s : Bytes) (n c at ll lc la hl hc ha : ℕ) (u : Halved s n c at ll lc la hl hc ha) where
-  pub falls-high : (t d : ℕ) → d * 33554432 + c ≡ t → d * 33554432 + hc < t
-  falls-high t d e = falls-half t d lc hc c e (u .low-some) (u .counts)
-
-  pub falls-low : (t d : ℕ) → d * 33554432 + c ≡ t → d * 33554432 + lc < t
-  falls-low t d e = let f = u .counts in falls-half t d hc lc c e (u .high-some) (omega arith)
-
-  pub low-stands : Standing s n at → Standing s ll la
-  low-stands h = rw (u .low-at, u .low-all) h
-
-  pub low-fits : c ≤ n → lc ≤ ll
-  low-fits h = let f = u .counts in let g = u .low-all in omega arith
+-- both halves stand, and are no longer than what stands there
+pub both-halves : (s : Bytes) (n c at ll lc la hl hc ha : ℕ) → Halved s n c at ll lc la hl hc ha → Standing s n at → c ≤ n
+    → Standing s hl ha × Standing s ll la × (hc ≤ hl) × (lc ≤ ll)
+both-halves s n c at ll lc la hl hc ha u g h =
+    let f = u .counts in
+    let e = u .low-all in
+    (u .high-stand, rw (u .low-at, u .low-all) g, u .high-fit, omega arith)

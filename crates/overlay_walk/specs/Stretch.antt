@@ -19,7 +19,7 @@ abbrev pub endAfter : Bytes → ℕ → ℕ → ℕ
 endAfter s zero at = at
 endAfter s (suc n) at = endAfter s n (recordEnd s at)
 
--- the path before all that is below d, but behind no path that is not
+-- d with a slash: nothing below d is before it
 abbrev pub slashed : Path → Path
 slashed d = d ++ (47 ∷ [])
 

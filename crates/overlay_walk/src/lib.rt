@@ -1,7 +1,6 @@
 // `collect_real_descendants` of overlay.rs: rename's walk over the listed paths below its source, with its budget.
 // Assumes a listing and a table that were checked, and a path: only this repository's crates call.
-// Cost: at each of at most 32 levels a record or an entry is passed a few times, and once for each halving of its stretch (at most 20); beside that,
-// a few times for each directory whose path it begins with. Nothing grows as records by records, or records by entries.
+// A record or an entry is passed a few times at each of 32 levels, once for each of 20 halvings there, and for each directory whose path it begins with.
 ghost use mathlib.Core.Path.{_≡_};
 ghost use mathlib.Core.Bool.{true, _&&_};
 ghost use mathlib.Core.Option.{some};
@@ -421,9 +420,7 @@ fn enter_stretch(
     if count == 1 {
         return enter_record(records, here, table, entries, dir, budget, walked, depth);
     }
-    let halves = halved(records, stretch);
-    let low = halves.low;
-    let high = halves.high;
+    let Halves { low, high } = halved(records, stretch);
     let on = enter_stretch(records, high, table, entries, dir, budget, walked, depth);
     enter_stretch(records, low, table, entries, dir, budget, on, depth)
 }

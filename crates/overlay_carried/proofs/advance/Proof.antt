@@ -23,7 +23,7 @@ returns c =
     let u =
     went-past-entry (a .own .now) (a .part .now) (a .table .now) (a .source .now) (a .flags .now) (a .stream) (i .pre .0)
     (a .head) (i .pre .1 .0) (c .before .enum-told .given .1) (n .result) (n .ensures .0) (n .ensures .1) in
-    (u .streaming, (u .fewer, u .carrying))
+    (u .fewer, (u .streaming, u .carrying))
 
 enum-told-2 : tie.Need-enum-told-2
 enum-told-2 c = search needs
@@ -43,7 +43,7 @@ returns-2 c =
     went-past-listed (a .own .now) (a .part .now) (a .table .now) (a .source .now) (a .flags .now) (a .stream) (i .pre .0)
     (a .head) (i .pre .1 .0) (c .before .before .enum-told2 .given .1) (n .last .0) (n .result) (n .ensures .0)
     (n .ensures .1 .0) (n .ensures .1 .1) in
-    (u .streaming, (u .fewer, u .carrying))
+    (u .fewer, (u .streaming, u .carrying))
 
 enum-told-3 : tie.Need-enum-told-3
 enum-told-3 c = search needs

@@ -22,9 +22,9 @@ returns c =
     let g = f .ensures in
     let d = g .1 .0 in
     let t = tableIn (a .table .now) (a .rec) in (
-      record { entries = p .1 .1 .0; listed = g .0; under = first-under (a .own .now) (a .part .now) t (a .source .now) (a .count) e },
+      omega arith,
       (
-        omega arith,
+        record { entries = p .1 .1 .0; listed = g .0; under = first-under (a .own .now) (a .part .now) t (a .source .now) (a .count) e },
         (
           record { listed = g .1 .1 .0; entries = first-entries (a .own .now) (a .part .now) t (a .source .now) (a .count) e },
           first-carried (a .own .now) (a .part .now) t (a .source .now) (a .count) e (a .records)

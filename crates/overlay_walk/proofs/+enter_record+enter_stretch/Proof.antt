@@ -3,6 +3,7 @@
 use mathlib.Core.Path.{sym, _∙_}
 use mathlib.Core.Option.{some}
 use Prim.Native.Nat.{ℕ, _+_, _*_, _<_}
+use native.Mathlib.Omega.{arith}
 use borrow.Author.Needs.{needs}
 use borrow.Fn.Kinds.{In}
 use borrow.Fn.PlainCycle.{Measures, is, falls, and}
@@ -21,8 +22,7 @@ use Rattle.overlay_walk.proofs.stretch_below.Reads as stretch-below-rea
 use Rattle.overlay_walk.proofs.visit_children.Reads as visit-children-reads
 use Rattle.overlay_walk.proofs.Descents.{enter-no-level, enter-no-record, enter-pass, enter-dir, enter-one, enter-sought, enter-halves}
 use Rattle.overlay_walk.proofs.Enters.{entered-ended}
-use Rattle.overlay_walk.proofs.Stretches.{few, not-none, some-left, two-some, falls-below, falls-one, falls-high, falls-low}
-use Rattle.overlay_walk.proofs.Stretches.{low-stands, low-fits}
+use Rattle.overlay_walk.proofs.Stretches.{few, not-none, some-left, two-some, falls-below, falls-one, both-halves}
 use Rattle.overlay_walk.proofs.Visitings.{node-needs}
 use Rattle.overlay_walk.proofs.enter_record.Reads as enter-record
 use Rattle.overlay_walk.proofs.enter_record.Kinds as enter-record-kinds
@@ -216,30 +216,20 @@ enter-stretch-enter-stretch-requires t c κs =
     let i = c .before .before .before .before .before .before .before .before .before .before .before .before in
     let a = i .args in
     let h = c .before .before .halved in
-    let u = h .ensures in (
-      falls-high (a .records .now) (a .stretch .left) (a .stretch .count) (a .stretch .at) (h .result .low .left) (h .result .low .count) (h .result .low .at)
-          (h .result .high .left) (h .result .high .count) (h .result .high .at) u t (a .depth) (i .pre .0),
-      (u .high-stand, (u .high-fit, c .before .before .before .before .seek .ensures .stand)),
-    )
+    let u = h .ensures in
+    let v = both-halves (a .records .now) (a .stretch .left) (a .stretch .count) (a .stretch .at) (h .result .low .left) (h .result .low .count) (h .result .low .at)
+    (h .result .high .left) (h .result .high .count) (h .result .high .at) u (i .pre .1 .0) (i .pre .1 .1 .0) in
+    (omega (arith, i .pre .0, u .counts, u .low-some, u .high-some), (search (v .0, v .1), (search (v .2, v .3), c .before .before .before .before .seek .ensures .stand)))
 
 enter-stretch-enter-stretch-requires-2 : (t : ℕ) → enter-stretch-lts.Need-enter-stretch-requires-2 (stretch-claims t) (enter-stretch-at t) enter-stretch.Post
 enter-stretch-enter-stretch-requires-2 t c κs =
     let i = c .before .before .before .before .before .before .before .before .before .before .before .before .before in
     let a = i .args in
     let h = c .before .before .before .halved in
-    let u = h .ensures in (
-      falls-low (a .records .now) (a .stretch .left) (a .stretch .count) (a .stretch .at) (h .result .low .left) (h .result .low .count) (h .result .low .at)
-          (h .result .high .left) (h .result .high .count) (h .result .high .at) u t (a .depth) (i .pre .0),
-      (
-        low-stands (a .records .now) (a .stretch .left) (a .stretch .count) (a .stretch .at) (h .result .low .left) (h .result .low .count) (h .result .low .at)
-            (h .result .high .left) (h .result .high .count) (h .result .high .at) u (i .pre .1 .0),
-        (
-          low-fits (a .records .now) (a .stretch .left) (a .stretch .count) (a .stretch .at) (h .result .low .left) (h .result .low .count) (h .result .low .at)
-              (h .result .high .left) (h .result .high .count) (h .result .high .at) u (i .pre .1 .1 .0),
-          c .before .before .before .before .before .seek .ensures .stand,
-        ),
-      ),
-    )
+    let u = h .ensures in
+    let v = both-halves (a .records .now) (a .stretch .left) (a .stretch .count) (a .stretch .at) (h .result .low .left) (h .result .low .count) (h .result .low .at)
+    (h .result .high .left) (h .result .high .count) (h .result .high .at) u (i .pre .1 .0) (i .pre .1 .1 .0) in
+    (omega (arith, i .pre .0, u .counts, u .low-some, u .high-some), (search (v .0, v .1), (search (v .2, v .3), c .before .before .before .before .before .seek .ensures .stand)))
 
 enter-stretch-returns-4 : (t : ℕ) → enter-stretch-lts.Need-returns-4 (stretch-claims t) (enter-stretch-at t) enter-stretch.Post
 enter-stretch-returns-4 t c =

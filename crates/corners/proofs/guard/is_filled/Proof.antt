@@ -1,0 +1,44 @@
+-- `guard::is_filled` is safe and ends: the measure is how many bytes are to come. Assumes nothing.
+use mathlib.Core.Path.{_≡_, refl}
+use lib.ListN.{length}
+use Prim.Native.Nat.{_-_, _≤_}
+use borrow.Author.Needs.{needs}
+use Rattle.corners.proofs.guard.is_filled.Statement.{statement}
+use Rattle.corners.proofs.guard.is_filled.Tie as tie
+
+abbrev Inv-loop : tie.InvT-loop
+Inv-loop s byte filled₀ i₀ i-end filled i = i-end ≡ length s
+
+abbrev μ-loop : tie.MeasureT-loop
+μ-loop s byte filled₀ i₀ i-end filled i = i-end - i
+
+loop-holds : tie.Need-loop-holds Inv-loop μ-loop
+loop-holds c = refl
+
+shared-slice-read-filled : tie.Need-shared-slice-read-filled Inv-loop μ-loop
+shared-slice-read-filled c = search needs
+
+add-i : tie.Need-add-i Inv-loop μ-loop
+add-i c = search needs
+
+loop-less : tie.Need-loop-less Inv-loop μ-loop
+loop-less c = search needs
+
+loop-again : tie.Need-loop-again Inv-loop μ-loop
+loop-again c = search needs
+
+returns : tie.Need-returns Inv-loop μ-loop
+returns c = search needs
+
+pub is-filled-spec : {M : Type 1} → statement M
+is-filled-spec =
+    tie.close
+    (tie.spec
+    Inv-loop
+    μ-loop
+    loop-holds
+    shared-slice-read-filled
+    add-i
+    loop-less
+    loop-again
+    returns)

@@ -1,0 +1,36 @@
+-- `plain::has_child` is safe and ends: the measure is how many paths are to come. Assumes nothing.
+use mathlib.Core.Path.{_≡_, refl}
+use lib.ListN.{length}
+use Prim.Native.Nat.{_-_, _≤_}
+use borrow.Author.Needs.{needs}
+use Rattle.corners.proofs.plain.has_child.Statement.{statement}
+use Rattle.corners.proofs.plain.has_child.Tie as tie
+
+abbrev Inv-loop : tie.InvT-loop
+Inv-loop kinds i found₀ k₀ found k = Unit {0}
+
+abbrev μ-loop : tie.MeasureT-loop
+μ-loop kinds i found₀ k₀ found k = 18 - k
+
+loop-holds : tie.Need-loop-holds Inv-loop μ-loop
+loop-holds c = search needs
+
+is-child-requires : tie.Need-is-child-requires Inv-loop μ-loop
+is-child-requires c κs = search needs
+
+add-k : tie.Need-add-k Inv-loop μ-loop
+add-k c = search needs
+
+loop-less : tie.Need-loop-less Inv-loop μ-loop
+loop-less c = search needs
+
+loop-again : tie.Need-loop-again Inv-loop μ-loop
+loop-again c = search needs
+
+returns : tie.Need-returns Inv-loop μ-loop
+returns c = search needs
+
+pub has-child-spec : {M : Type 1} → statement M
+has-child-spec =
+    tie.close
+    (tie.spec Inv-loop μ-loop loop-holds is-child-requires add-k loop-less loop-again returns)
