@@ -1,49 +1,19 @@
-// A changing call as a value, making it, and what its answer is as a number of document 01.
+// A changing call as a value, making it, and what a refusal is in document 01's table.
 // Both the cases and the random lists make their calls here.
-use model::Answer;
 use model::Answered;
 use model::Record;
 use model::Refusal;
 
-// The letter is w, m, u or r; `size` is how many bytes a write has.
+// The letter is w, m, u or r.
 pub struct Call {
     pub letter: u8,
     pub parents: bool,
     pub exist_ok: bool,
-    pub size: usize,
     pub limit: u64,
 }
 
 // The bits of 1.0.
-pub const MTIME: u64 = 0x3FF0_0000_0000_0000;
-
-// At most this many bytes are written.
-const MOST: usize = 64;
-
-fn write(
-    listing: &[u8],
-    table: &mut [u8],
-    rec: Record,
-    work: &mut [u8],
-    path: &[u8],
-    size: usize,
-    limit: u64,
-) -> Answered {
-    let content = [7u8; 64];
-    if size <= MOST {
-        return overlay::write_bytes(
-            listing,
-            table,
-            rec,
-            work,
-            path,
-            MTIME,
-            &content[0..size],
-            limit,
-        );
-    }
-    overlay::write_bytes(listing, table, rec, work, path, MTIME, &content, limit)
-}
+const MTIME: u64 = 0x3FF0_0000_0000_0000;
 
 pub fn make(
     listing: &[u8],
@@ -51,11 +21,13 @@ pub fn make(
     rec: Record,
     work: &mut [u8],
     path: &[u8],
+    content: &[u8],
     call: Call,
 ) -> Answered {
     let letter = call.letter;
+    let limit = call.limit;
     if letter == b'w' {
-        return write(listing, table, rec, work, path, call.size, call.limit);
+        return overlay::write_bytes(listing, table, rec, work, path, MTIME, content, limit);
     }
     if letter == b'm' {
         return overlay_mkdir::mkdir(
@@ -67,48 +39,40 @@ pub fn make(
             call.parents,
             call.exist_ok,
             MTIME,
-            call.limit,
+            limit,
         );
     }
     if letter == b'u' {
-        return overlay::unlink(listing, table, rec, work, path, call.limit);
+        return overlay::unlink(listing, table, rec, work, path, limit);
     }
-    overlay::rmdir(listing, table, rec, work, path, call.limit)
+    overlay::rmdir(listing, table, rec, work, path, limit)
 }
 
-// What document 01's table gives for a refusal: its number, a path and a length.
+// A refusal's number, path and length.
 pub struct Row {
     pub number: u64,
     pub path: u64,
     pub len: u64,
 }
 
-fn three(number: u64, path: u64, len: u64) -> Row {
+fn line(number: u64, path: u64, len: u64) -> Row {
     Row { number, path, len }
 }
 
 pub fn told(refusal: Refusal) -> Row {
     match refusal {
-        Refusal::MalformedTable => three(1, 0, 0),
-        Refusal::MalformedListing => three(2, 0, 0),
-        Refusal::MalformedPath(path) => three(3, path, 0),
-        Refusal::LinkOrRoot(path, len) => three(4, path, len),
-        Refusal::NotFound(path, len) => three(5, path, len),
-        Refusal::Exists(path, len) => three(6, path, len),
-        Refusal::NotADirectory(path, len) => three(7, path, len),
-        Refusal::IsADirectory(path, len) => three(8, path, len),
-        Refusal::NotEmpty(path, len) => three(9, path, len),
-        Refusal::BelowSource(len) => three(10, 0, len),
-        Refusal::Limit => three(11, 0, 0),
-        Refusal::KeyTooLong => three(12, 0, 0),
-        Refusal::NoRoom => three(13, 0, 0),
-    }
-}
-
-// 0 for an accepted call, else the number of its refusal.
-pub fn number(answer: Answer) -> u64 {
-    match answer {
-        Answer::Accepted(_) => 0,
-        Answer::Refused(refusal) => told(refusal).number,
+        Refusal::MalformedTable => line(1, 0, 0),
+        Refusal::MalformedListing => line(2, 0, 0),
+        Refusal::MalformedPath(path) => line(3, path, 0),
+        Refusal::LinkOrRoot(path, len) => line(4, path, len),
+        Refusal::NotFound(path, len) => line(5, path, len),
+        Refusal::Exists(path, len) => line(6, path, len),
+        Refusal::NotADirectory(path, len) => line(7, path, len),
+        Refusal::IsADirectory(path, len) => line(8, path, len),
+        Refusal::NotEmpty(path, len) => line(9, path, len),
+        Refusal::BelowSource(len) => line(10, 0, len),
+        Refusal::Limit => line(11, 0, 0),
+        Refusal::KeyTooLong => line(12, 0, 0),
+        Refusal::NoRoom => line(13, 0, 0),
     }
 }

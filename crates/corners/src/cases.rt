@@ -1,443 +1,513 @@
 // Document 01's cases for the calls but rename, and the corners beside them, as texts for `script`. What each must print stands in the program's stdout.
 use crate::script;
 
-// Items run in a table buffer of n bytes with a work buffer of m. The buffers stand here and are lent on.
-fn scene(n: usize, m: usize, entry_size: u64, list: &[u8]) {
+// Items run over two listings, in a table buffer of n bytes with a work buffer of m. The buffers stand here and are lent on.
+fn scene(first: &[u8], second: &[u8], n: usize, m: usize, entry_size: u64, list: &[u8]) {
     let mut table = [255u8; 1024];
+    let mut old = [0u8; 1024];
     let mut work = [255u8; 1024];
     if n <= 1024 {
         if m <= 1024 {
-            script::run(&mut table[0..n], &mut work[0..m], entry_size, list);
+            script::run(
+                first,
+                second,
+                &mut table[0..n],
+                &mut old,
+                &mut work[0..m],
+                entry_size,
+                list,
+            );
         }
     }
 }
 
-pub fn queries() {
+// Document 01's listing L, and the empty one.
+fn over_l(n: usize, m: usize, entry_size: u64, list: &[u8]) {
     scene(
-        1024,
-        1024,
-        40,
-        b"=queries over L|\
-        x 0 ----- |\
-        f 0 ----- |\
-        d 0 ----- |\
-        x 0 ----- a|\
-        f 0 ----- a|\
-        d 0 ----- a|\
-        x 0 ----- a/f|\
-        f 0 ----- a/f|\
-        d 0 ----- a/f|\
-        x 0 ----- l|\
-        f 0 ----- l|\
-        d 0 ----- l|\
-        x 0 ----- z|\
-        f 0 ----- z|\
-        d 0 ----- z|\
-        x 0 ----- q|\
-        f 0 ----- q|\
-        d 0 ----- q|\
-        x 0 ----- z/n|\
-        x 0 ----- l/n|\
-        x 0 ----- a/|",
+        b"RDL\x01\x00\x04\x00\x00\x00\x01\x00\x01\x00\x00\x00\x00\x00\x00\xF0?\x00\x00\x00\x00\x00\x00\x00\x00a\x03\x00\x02\x00\x00\x00\x00\x00\x00\x00@\x05\x00\x00\x00\x00\x00\x00\x00a/f\x01\x00\x03\x00\x00\x00\x00\x00\x00\x00\x00\x00\x00\x00\x00\x00\x00\x00\x00l\x01\x00\x02\x00\x00\x00\x00\x00\x00\x00\x00\x00\x00\x00\x00\x00\x00\x00\x00z",
+        b"RDL\x01\x00\x00\x00\x00\x00",
+        n,
+        m,
+        entry_size,
+        list,
     );
 }
 
-pub fn write() {
-    scene(
+fn part_one() {
+    over_l(
         1024,
         1024,
         40,
-        b"=write|\
-        w20 ----- a/f|\
-        x 0 ----- a/f|\
-        f 0 ----- a/f|\
-        =write, at the limit and one below|\
-        w20 00300 a/f|\
-        w20 00301 a/f|\
-        =write of fewer bytes, of none, at a new path and over a deleted one|\
-        w50 ----- a/f|\
-        w10 ----- a/f|\
-        t|\
-        w00 ----- a/f|\
-        w00 ----- q|\
-        u 0 ----- q|\
-        w30 ----- q|\
-        f 0 ----- q|\
-        =write refused|\
-        w10 ----- |\
-        w10 ----- a|\
-        w10 ----- l|\
-        w10 ----- l/x|\
-        w10 ----- l/x/y|\
-        w10 ----- q/x|\
-        w10 ----- z/n|\
-        w10 ----- a/f/x|\
-        w10 00000 a/f/x|\
-        w10 00000 z|\
-        =write below an own file, onto an own directory, below a deleted directory|\
-        w10 ----- b|\
-        w10 ----- b/x|\
-        m 0 ----- c|\
-        w10 ----- c|\
-        w10 ----- c/x|\
-        u 0 ----- a/f|\
-        r 0 ----- a|\
-        w10 ----- a/f|\
-        w10 ----- a|\
-        =11 where the charge shrinks|\
-        w50 ----- a/f|\
-        w00 ----- z|\
-        w40 00599 a/f|\
-        w40 00600 a/f|",
+        b"# queries over L|\
+        exists  - L - ----- |\
+        is_file - L - ----- |\
+        is_dir  - L - ----- |\
+        exists  - L - ----- a|\
+        is_file - L - ----- a|\
+        is_dir  - L - ----- a|\
+        exists  - L - ----- a/f|\
+        is_file - L - ----- a/f|\
+        is_dir  - L - ----- a/f|\
+        exists  - L - ----- l|\
+        is_file - L - ----- l|\
+        is_dir  - L - ----- l|\
+        exists  - L - ----- z|\
+        is_file - L - ----- z|\
+        is_dir  - L - ----- z|\
+        exists  - L - ----- q|\
+        is_file - L - ----- q|\
+        is_dir  - L - ----- q|\
+        exists  - L - ----- z/n|\
+        exists  - L - ----- l/n|\
+        exists  - L - ----- a/|\
+        # write|\
+        write   2 L - ----- a/f|\
+        exists  - L - ----- a/f|\
+        is_file - L - ----- a/f|\
+        # write, at the limit and one below|\
+        write   2 L - 00300 a/f|\
+        write   2 L - 00301 a/f|\
+        # write of fewer bytes, of none, at a new path and over a deleted one|\
+        write   5 L - ----- a/f|\
+        write   1 L - ----- a/f|\
+        +|\
+        write   0 L - ----- a/f|\
+        write   0 L - ----- q|\
+        unlink  - L - ----- q|\
+        write   3 L - ----- q|\
+        is_file - L - ----- q|\
+        # write refused|\
+        write   1 L - ----- |\
+        write   1 L - ----- a|\
+        write   1 L - ----- l|\
+        write   1 L - ----- l/x|\
+        write   1 L - ----- l/x/y|\
+        write   1 L - ----- q/x|\
+        write   1 L - ----- z/n|\
+        write   1 L - ----- a/f/x|\
+        write   1 L - 00000 a/f/x|\
+        write   1 L - 00000 z|\
+        # write below an own file, onto an own directory, below a deleted directory|\
+        write   1 L - ----- b|\
+        write   1 L - ----- b/x|\
+        mkdir   - L - ----- c|\
+        write   1 L - ----- c|\
+        write   1 L - ----- c/x|\
+        unlink  - L - ----- a/f|\
+        rmdir   - L - ----- a|\
+        write   1 L - ----- a/f|\
+        write   1 L - ----- a|\
+        # 11 where the charge shrinks|\
+        write   5 L - ----- a/f|\
+        write   0 L - ----- z|\
+        write   4 L - 00599 a/f|\
+        write   4 L - 00600 a/f|\
+        # mkdir|\
+        mkdir   - L - ----- z/n|\
+        mkdir   p L - ----- z/n|\
+        mkdir   - L - ----- a|\
+        mkdir   e L - ----- a|\
+        mkdir   p L - ----- a|\
+        mkdir   b L - ----- a|\
+        write   0 L - ----- q|\
+        mkdir   e L - 00296 a|\
+        mkdir   e L - 00000 a|",
     );
 }
 
-pub fn mkdir() {
-    scene(
+fn part_two() {
+    over_l(
         1024,
         1024,
         40,
-        b"=mkdir|\
-        m 0 ----- z/n|\
-        mp0 ----- z/n|\
-        m 0 ----- a|\
-        me0 ----- a|\
-        mp0 ----- a|\
-        mb0 ----- a|\
-        w00 ----- q|\
-        me0 00296 a|\
-        me0 00000 a|\
-        =mkdir of a file, a link, the root, below a link|\
-        m 0 ----- z|\
-        me0 ----- z|\
-        mb0 ----- a/f|\
-        m 0 ----- l|\
-        mb0 ----- l|\
-        m 0 ----- l/n|\
-        mp0 ----- l/n|\
-        mp0 ----- l/n/m|\
-        m 0 ----- |\
-        mp0 ----- |\
-        me0 ----- |\
-        mb0 00000 |\
-        =mkdir at the limit and one below; exist_ok of an own directory|\
-        m 0 00296 b|\
-        m 0 00297 b|\
-        d 0 ----- b|\
-        f 0 ----- b|\
-        m 0 ----- b|\
-        me0 00000 b|\
-        =mkdir with parents makes the missing ones|\
-        m 0 ----- b/f|\
-        me0 ----- b/f|\
-        mp0 00595 b/f|\
-        mp0 00596 b/f|\
-        t|\
-        d 0 ----- b|\
-        d 0 ----- b/f|\
-        mp0 ----- b/f|\
-        mb0 ----- b/f|\
-        =mkdir with parents keeps listed and own ones|\
-        mp0 ----- a/n/m|\
-        m 0 ----- b|\
-        mb0 ----- b/c/d|\
-        =mkdir with parents, a file on the way|\
-        mp0 ----- a/f/x|\
-        mb0 ----- z/n/m|\
-        mp0 00000 z/n/m|\
-        w10 ----- b|\
-        mp0 ----- b/c|\
-        me0 ----- b|\
-        m 0 ----- b/c|\
-        =mkdir over deleted|\
-        u 0 ----- z|\
-        m 0 ----- z|\
-        d 0 ----- z|\
-        m 0 ----- z/n|\
-        =mkdir below a deleted directory|\
-        u 0 ----- a/f|\
-        r 0 ----- a|\
-        m 0 ----- a/n|\
-        mp0 ----- a/n|\
-        x 0 ----- a|\
-        x 0 ----- a/f|",
+        b"# mkdir of a file, a link, the root, below a link|\
+        mkdir   - L - ----- z|\
+        mkdir   e L - ----- z|\
+        mkdir   b L - ----- a/f|\
+        mkdir   - L - ----- l|\
+        mkdir   b L - ----- l|\
+        mkdir   - L - ----- l/n|\
+        mkdir   p L - ----- l/n|\
+        mkdir   p L - ----- l/n/m|\
+        mkdir   - L - ----- |\
+        mkdir   p L - ----- |\
+        mkdir   e L - ----- |\
+        mkdir   b L - 00000 |\
+        # mkdir at the limit and one below; exist_ok of an own directory|\
+        mkdir   - L - 00296 b|\
+        mkdir   - L - 00297 b|\
+        is_dir  - L - ----- b|\
+        is_file - L - ----- b|\
+        mkdir   - L - ----- b|\
+        mkdir   e L - 00000 b|\
+        # mkdir with parents makes the missing ones|\
+        mkdir   - L - ----- b/f|\
+        mkdir   e L - ----- b/f|\
+        mkdir   p L - 00595 b/f|\
+        mkdir   p L - 00596 b/f|\
+        +|\
+        is_dir  - L - ----- b|\
+        is_dir  - L - ----- b/f|\
+        mkdir   p L - ----- b/f|\
+        mkdir   b L - ----- b/f|\
+        # mkdir with parents keeps listed and own ones|\
+        mkdir   p L - ----- a/n/m|\
+        mkdir   - L - ----- b|\
+        mkdir   b L - ----- b/c/d|\
+        # mkdir with parents, a file on the way|\
+        mkdir   p L - ----- a/f/x|\
+        mkdir   b L - ----- z/n/m|\
+        mkdir   p L - 00000 z/n/m|\
+        write   1 L - ----- b|\
+        mkdir   p L - ----- b/c|\
+        mkdir   e L - ----- b|\
+        mkdir   - L - ----- b/c|\
+        # mkdir over deleted|\
+        unlink  - L - ----- z|\
+        mkdir   - L - ----- z|\
+        is_dir  - L - ----- z|\
+        mkdir   - L - ----- z/n|\
+        # mkdir below a deleted directory|\
+        unlink  - L - ----- a/f|\
+        rmdir   - L - ----- a|\
+        mkdir   - L - ----- a/n|\
+        mkdir   p L - ----- a/n|\
+        exists  - L - ----- a|\
+        exists  - L - ----- a/f|\
+        # unlink|\
+        unlink  - L - 00296 z|\
+        unlink  - L - 00297 z|\
+        exists  - L - ----- z|\
+        unlink  - L - ----- z|\
+        unlink  - L - ----- l|\
+        unlink  - L - ----- |\
+        write   0 L - ----- z|\
+        unlink  - L - ----- z|\
+        # unlink refused|\
+        unlink  - L - ----- l/x|\
+        unlink  - L - ----- a|\
+        unlink  - L - ----- q|\
+        unlink  - L - 00000 q|\
+        unlink  - L - ----- q/x|\
+        unlink  - L - ----- z/n|\
+        mkdir   - L - ----- b|\
+        unlink  - L - ----- b|",
     );
 }
 
-pub fn unlink() {
-    scene(
+fn part_three() {
+    over_l(
         1024,
         1024,
         40,
-        b"=unlink|\
-        u 0 00296 z|\
-        u 0 00297 z|\
-        x 0 ----- z|\
-        u 0 ----- z|\
-        u 0 ----- l|\
-        u 0 ----- |\
-        w00 ----- z|\
-        u 0 ----- z|\
-        =unlink refused|\
-        u 0 ----- l/x|\
-        u 0 ----- a|\
-        u 0 ----- q|\
-        u 0 00000 q|\
-        u 0 ----- q/x|\
-        u 0 ----- z/n|\
-        m 0 ----- b|\
-        u 0 ----- b|\
-        =unlink of an own file|\
-        w40 ----- b|\
-        u 0 00296 b|\
-        u 0 00297 b|\
-        t|\
-        x 0 ----- b|\
-        u 0 ----- b|\
-        w20 ----- a/f|\
-        u 0 ----- a/f|\
-        u 0 ----- a/f|",
+        b"# unlink of an own file|\
+        write   4 L - ----- b|\
+        unlink  - L - 00296 b|\
+        unlink  - L - 00297 b|\
+        +|\
+        exists  - L - ----- b|\
+        unlink  - L - ----- b|\
+        write   2 L - ----- a/f|\
+        unlink  - L - ----- a/f|\
+        unlink  - L - ----- a/f|\
+        # rmdir|\
+        rmdir   - L - ----- a|\
+        unlink  - L - ----- a/f|\
+        rmdir   - L - 00595 a|\
+        rmdir   - L - 00596 a|\
+        exists  - L - ----- a|\
+        rmdir   - L - ----- a|\
+        mkdir   - L - ----- a|\
+        rmdir   - L - ----- a|\
+        # rmdir refused|\
+        rmdir   - L - ----- |\
+        rmdir   - L - ----- z|\
+        rmdir   - L - ----- a/f|\
+        rmdir   - L - ----- l|\
+        rmdir   - L - ----- l/x|\
+        rmdir   - L - ----- q|\
+        rmdir   - L - ----- q/x|\
+        rmdir   - L - ----- z/n|\
+        rmdir   - L - 00000 a|\
+        write   0 L - ----- b|\
+        rmdir   - L - ----- b|\
+        unlink  - L - ----- b|\
+        rmdir   - L - ----- b|\
+        # rmdir of an own directory|\
+        mkdir   - L - ----- b|\
+        write   1 L - ----- b/f|\
+        rmdir   - L - ----- b|\
+        unlink  - L - ----- b/f|\
+        rmdir   - L - ----- b|",
     );
-}
-
-pub fn rmdir() {
     scene(
+        b"RDL\x01\x00\x02\x00\x00\x00\x01\x00\x01\x00\x00\x00\x00\x00\x00\xF0?\x00\x00\x00\x00\x00\x00\x00\x00a\x03\x00\x03\x00\x00\x00\x00\x00\x00\x00\x00\x00\x00\x00\x00\x00\x00\x00\x00a/l",
+        b"RDL\x01\x00\x00\x00\x00\x00",
         1024,
         1024,
         40,
-        b"=rmdir|\
-        r 0 ----- a|\
-        u 0 ----- a/f|\
-        r 0 00595 a|\
-        r 0 00596 a|\
-        x 0 ----- a|\
-        r 0 ----- a|\
-        m 0 ----- a|\
-        r 0 ----- a|\
-        =rmdir refused|\
-        r 0 ----- |\
-        r 0 ----- z|\
-        r 0 ----- a/f|\
-        r 0 ----- l|\
-        r 0 ----- l/x|\
-        r 0 ----- q|\
-        r 0 ----- q/x|\
-        r 0 ----- z/n|\
-        r 0 00000 a|\
-        w00 ----- b|\
-        r 0 ----- b|\
-        u 0 ----- b|\
-        r 0 ----- b|\
-        =rmdir of an own directory|\
-        m 0 ----- b|\
-        w10 ----- b/f|\
-        r 0 ----- b|\
-        u 0 ----- b/f|\
-        r 0 ----- b|\
-        =a link counts as a child|\
-        r 2 ----- a|\
-        u 2 ----- a/l|\
-        =a-b and a0 are not below a|\
-        w03 ----- a-b|\
-        w03 ----- a0|\
-        r 3 ----- a|\
-        x 3 ----- a-b|\
-        x 3 ----- a0|\
-        x 3 ----- a|\
-        =the same with all of them listed only|\
-        r 3 ----- a|\
-        =the same with none of them listed|\
-        mp1 ----- a-b/f|\
-        m 1 ----- a|\
-        m 1 ----- a0|\
-        r 1 ----- a|\
-        r 1 ----- a-b|\
-        =entries in the order of bytes|\
-        m 1 ----- a|\
-        w01 ----- a/f|\
-        w11 ----- a-b|\
-        t|\
-        =a directory in a directory|\
-        r 4 ----- a|\
-        r 4 ----- a/b|\
-        u 4 ----- a/b/c|\
-        r 4 ----- a|\
-        r 4 ----- a/b|\
-        r 4 ----- a|\
-        =a table built over another listing|\
-        w05 ----- a/b/c|\
-        r 6 ----- a|\
-        =the same, a directory entry over a listed directory with a file|\
-        m 1 ----- a|\
-        r 0 ----- a|\
-        =the same, a directory entry over a link|\
-        m 1 ----- l|\
-        w00 ----- l/x|\
-        d 0 ----- l|",
+        b"# a link counts as a child; L is a/ a/l@|\
+        rmdir   - L - ----- a|\
+        unlink  - L - ----- a/l|",
     );
-}
-
-pub fn order() {
     scene(
+        b"RDL\x01\x00\x03\x00\x00\x00\x01\x00\x01\x00\x00\x00\x00\x00\x00\xF0?\x00\x00\x00\x00\x00\x00\x00\x00a\x03\x00\x02\x00\x00\x00\x00\x00\x00\x00\x00\x00\x00\x00\x00\x00\x00\x00\x00a-b\x02\x00\x02\x00\x00\x00\x00\x00\x00\x00\x00\x00\x00\x00\x00\x00\x00\x00\x00a0",
+        b"RDL\x01\x00\x00\x00\x00\x00",
         1024,
         1024,
         40,
-        b"=1 before 2 before 3 before the rest|\
-        w09u00000 a:|\
-        w09w00000 a:|\
-        w09 00000 a:|\
-        w00 00000 a:|\
-        w00 00000 a|\
-        mb9u00000 a/|\
-        mb9w00000 a/|\
-        mb9 00000 a/|\
-        mb0 00000 a/|\
-        u 9u00000 /a|\
-        u 9w00000 /a|\
-        u 9 00000 /a|\
-        u 0 00000 /a|\
-        r 9u00000 ..|\
-        r 9w00000 ..|\
-        r 9 00000 ..|\
-        r 0 00000 ..|\
-        x 9u----- a//f|\
-        x 9 ----- a//f|\
-        x 0 ----- a//f|\
-        f 9e----- a//f|\
-        f 9 ----- a//f|\
-        f 0 ----- a//f|\
-        d 9c----- a//f|\
-        d 9 ----- a//f|\
-        d 0 ----- a//f|\
-        =1 where all else is good|\
-        w10u----- z|\
-        w10e----- z|\
-        w10c----- z|\
-        w10w----- z|\
-        me0w----- a|\
-        mp0c----- b/c|\
-        u 0w----- z|\
-        u 0e----- z|\
-        r 0w----- a|\
-        r 0u----- a|\
-        x 0u----- a|\
-        f 0e----- a|\
-        d 0c----- a|\
-        w10 ----- z|\
-        =3 for each form that is no path|\
-        w10 ----- .|\
-        w10 ----- a\\|\
-        m 0 ----- a/../b|\
-        mp0 ----- b//c|\
-        u 0 ----- z/|\
-        r 0 ----- /|",
+        b"# a-b and a0 are not below a; L is a/ a-b a0|\
+        write   0 L - ----- a-b|\
+        write   0 L - ----- a0|\
+        rmdir   - L - ----- a|\
+        exists  - L - ----- a-b|\
+        exists  - L - ----- a0|\
+        exists  - L - ----- a|\
+        # the same with all of them listed only; L is a/ a-b a0|\
+        rmdir   - L - ----- a|",
+    );
+    scene(
+        b"RDL\x01\x00\x00\x00\x00\x00",
+        b"RDL\x01\x00\x00\x00\x00\x00",
+        1024,
+        1024,
+        40,
+        b"# the same with none of them listed; L is empty|\
+        mkdir   p L - ----- a-b/f|\
+        mkdir   - L - ----- a|\
+        mkdir   - L - ----- a0|\
+        rmdir   - L - ----- a|\
+        rmdir   - L - ----- a-b|\
+        # entries in the order of bytes; L is empty|\
+        mkdir   - L - ----- a|\
+        write   0 L - ----- a/f|\
+        write   1 L - ----- a-b|\
+        +|",
     );
 }
 
-pub fn room() {
+fn part_four() {
     scene(
+        b"RDL\x01\x00\x03\x00\x00\x00\x01\x00\x01\x00\x00\x00\x00\x00\x00\xF0?\x00\x00\x00\x00\x00\x00\x00\x00a\x03\x00\x01\x00\x00\x00\x00\x00\x00\xF0?\x00\x00\x00\x00\x00\x00\x00\x00a/b\x05\x00\x02\x00\x00\x00\x00\x00\x00\x00\x00\x00\x00\x00\x00\x00\x00\x00\x00a/b/c",
+        b"RDL\x01\x00\x00\x00\x00\x00",
+        1024,
+        1024,
+        40,
+        b"# a directory in a directory; L is a/ a/b/ a/b/c|\
+        rmdir   - L - ----- a|\
+        rmdir   - L - ----- a/b|\
+        unlink  - L - ----- a/b/c|\
+        rmdir   - L - ----- a|\
+        rmdir   - L - ----- a/b|\
+        rmdir   - L - ----- a|",
+    );
+    scene(
+        b"RDL\x01\x00\x01\x00\x00\x00\x01\x00\x01\x00\x00\x00\x00\x00\x00\xF0?\x00\x00\x00\x00\x00\x00\x00\x00a",
+        b"RDL\x01\x00\x02\x00\x00\x00\x01\x00\x01\x00\x00\x00\x00\x00\x00\xF0?\x00\x00\x00\x00\x00\x00\x00\x00a\x03\x00\x01\x00\x00\x00\x00\x00\x00\xF0?\x00\x00\x00\x00\x00\x00\x00\x00a/b",
+        1024,
+        1024,
+        40,
+        b"# a table built over another listing; L is a/, M is a/ a/b/|\
+        write   0 M - ----- a/b/c|\
+        rmdir   - L - ----- a|",
+    );
+    over_l(
+        1024,
+        1024,
+        40,
+        b"# the same, a directory entry over a listed directory with a file; M is empty|\
+        mkdir   - M - ----- a|\
+        rmdir   - L - ----- a|\
+        # the same, a directory entry over a link; M is empty|\
+        mkdir   - M - ----- l|\
+        write   0 L - ----- l/x|\
+        is_dir  - L - ----- l|\
+        # 1 before 2 before 3 before the rest|\
+        write   0 X u 00000 a:|\
+        write   0 X - 00000 a:|\
+        write   0 L - 00000 a:|\
+        write   0 L - 00000 a|\
+        mkdir   b X u 00000 a/|\
+        mkdir   b X - 00000 a/|\
+        mkdir   b L - 00000 a/|\
+        unlink  - X u 00000 /a|\
+        unlink  - X - 00000 /a|\
+        unlink  - L - 00000 /a|\
+        rmdir   - X u 00000 ..|\
+        rmdir   - X - 00000 ..|\
+        rmdir   - L - 00000 ..|\
+        exists  - X u ----- a//f|\
+        exists  - X - ----- a//f|\
+        exists  - L - ----- a//f|\
+        is_file - X e ----- a//f|\
+        is_file - X - ----- a//f|\
+        is_file - L - ----- a//f|\
+        is_dir  - X - ----- a//f|\
+        is_dir  - L - ----- a//f|\
+        # 1 where all else is good|\
+        write   1 L u ----- z|\
+        write   1 L e ----- z|\
+        unlink  - L e ----- z|\
+        rmdir   - L u ----- a|\
+        exists  - L u ----- a|\
+        is_file - L e ----- a|\
+        write   1 L - ----- z|\
+        # 3 for each form that is no path|\
+        write   1 L - ----- .|\
+        write   1 L - ----- a\\|\
+        mkdir   - L - ----- a/../b|\
+        mkdir   p L - ----- b//c|\
+        unlink  - L - ----- z/|\
+        rmdir   - L - ----- /|",
+    );
+}
+
+fn part_five() {
+    over_l(
+        1024,
+        1023,
+        40,
+        b"# work one byte less than the table|\
+        write   0 X - 00000 a:|\
+        mkdir   b X - 00000 a/|\
+        unlink  - X - 00000 /a|\
+        rmdir   - X - 00000 ..|\
+        write   1 L - ----- z|\
+        mkdir   e L - ----- a|\
+        unlink  - L - ----- z|\
+        rmdir   - L - ----- a|",
+    );
+    over_l(
+        1024,
+        1024,
+        40,
+        b"# the last byte of the table 1|\
+        !|\
+        is_dir  - X - ----- a//f|\
+        write   1 L - ----- z|\
+        mkdir   p L - ----- b/c|\
+        is_dir  - L - ----- a|\
+        !|\
+        write   1 L - ----- z|",
+    );
+    over_l(
         29,
         29,
         40,
-        b"=table of 29 bytes|\
-        w30 ----- a/f|\
-        w20 ----- a/f|\
-        w30 00301 a/f|\
-        w30 00302 a/f|\
-        u 0 ----- a/f|\
-        u 0 ----- z|",
+        b"# table of 29 bytes|\
+        write   3 L - ----- a/f|\
+        write   2 L - ----- a/f|\
+        write   3 L - 00301 a/f|\
+        write   3 L - 00302 a/f|\
+        unlink  - L - ----- a/f|\
+        unlink  - L - ----- z|",
     );
-    scene(
+    over_l(
         25,
         25,
         40,
-        b"=table of 25 bytes|\
-        u 0 ----- a/f|\
-        u 0 ----- z|\
-        m 0 ----- b|\
-        m 0 ----- z|\
-        me0 ----- a|",
+        b"# table of 25 bytes|\
+        unlink  - L - ----- a/f|\
+        unlink  - L - ----- z|\
+        mkdir   - L - ----- b|\
+        mkdir   - L - ----- z|\
+        mkdir   e L - ----- a|",
     );
     scene(
+        b"RDL\x01\x00\x04\x00\x00\x00\x01\x00\x01\x00\x00\x00\x00\x00\x00\xF0?\x00\x00\x00\x00\x00\x00\x00\x00a\x03\x00\x02\x00\x00\x00\x00\x00\x00\x00@\x05\x00\x00\x00\x00\x00\x00\x00a/f\x01\x00\x03\x00\x00\x00\x00\x00\x00\x00\x00\x00\x00\x00\x00\x00\x00\x00\x00l\x01\x00\x02\x00\x00\x00\x00\x00\x00\x00\x00\x00\x00\x00\x00\x00\x00\x00\x00z",
+        b"RDL\x01\x00\x01\x00\x00\x00\x01\x00\x01\x00\x00\x00\x00\x00\x00\xF0?\x00\x00\x00\x00\x00\x00\x00\x00a",
         24,
         24,
         40,
-        b"=table of 24 bytes|\
-        u 0 ----- z|\
-        u 0 00296 z|\
-        m 0 ----- b|\
-        w00 ----- b|\
-        r 6 ----- a|",
-    );
-    scene(
-        52,
-        52,
-        40,
-        b"=table of 52 bytes|\
-        mp0 ----- b/ff|\
-        mp0 ----- b/f|",
-    );
-    scene(
-        51,
-        51,
-        40,
-        b"=table of 51 bytes|\
-        mp0 ----- b/f|\
-        u 0 ----- a/f|\
-        r 0 ----- a|",
+        b"# table of 24 bytes; M is a/|\
+        unlink  - L - ----- z|\
+        unlink  - L - 00296 z|\
+        mkdir   - L - ----- b|\
+        write   0 L - ----- b|\
+        rmdir   - M - ----- a|",
     );
 }
 
-pub fn reuse() {
-    scene(
+fn part_six() {
+    over_l(
+        52,
+        52,
+        40,
+        b"# table of 52 bytes|\
+        mkdir   p L - ----- b/ff|\
+        mkdir   p L - ----- b/f|",
+    );
+    over_l(
+        51,
+        51,
+        40,
+        b"# table of 51 bytes|\
+        mkdir   p L - ----- b/f|\
+        unlink  - L - ----- a/f|\
+        rmdir   - L - ----- a|",
+    );
+    over_l(
         52,
         60,
         40,
-        b"=table of 52 bytes, work of 60|\
-        u 0w----- a/f|\
-        r 0 ----- a|",
+        b"# table of 52 bytes, work of 60|\
+        unlink  - L - ----- a/f|\
+        rmdir   - L - ----- a|",
     );
-    scene(
+    over_l(
         60,
         60,
         40,
-        b"=freed bytes are used again|\
-        w90 ----- b|\
-        u 0 ----- b|\
-        w90 ----- cc|\
-        w90 ----- b|\
-        w80 ----- cc|\
-        w10 ----- b|\
-        w20 ----- b|",
+        b"# freed bytes are used again|\
+        write   9 L - ----- b|\
+        unlink  - L - ----- b|\
+        write   9 L - ----- cc|\
+        write   9 L - ----- b|\
+        write   8 L - ----- cc|\
+        write   1 L - ----- b|\
+        write   2 L - ----- b|",
     );
-    scene(
+    over_l(
         0,
         0,
         40,
-        b"=table of no bytes|\
-        x 0 ----- a|\
-        me0 ----- a|\
-        w00 ----- q|",
+        b"# table of no bytes|\
+        exists  - L - ----- a|\
+        mkdir   e L - ----- a|\
+        write   0 L - ----- q|",
     );
-    scene(
+}
+
+fn part_seven() {
+    over_l(
         100,
         100,
         0,
-        b"=E 0|\
-        w20 ----- a/f|",
+        b"# E 0|\
+        write   2 L - ----- a/f|",
     );
-    scene(
+    over_l(
         100,
         100,
         4097,
-        b"=E 4097|\
-        w20 ----- a/f|",
+        b"# E 4097|\
+        write   2 L - ----- a/f|",
     );
-    scene(
+    over_l(
         100,
         100,
         4096,
-        b"=E 4096|\
-        w20 ----- a/f|",
+        b"# E 4096|\
+        write   2 L - ----- a/f|",
     );
+}
+
+pub fn run() {
+    part_one();
+    part_two();
+    part_three();
+    part_four();
+    part_five();
+    part_six();
+    part_seven();
 }

@@ -2,32 +2,28 @@
 // kept all bytes and the record, and an accepted one must have left a table that is well-formed and the work buffer all 0.
 use model::Record;
 
-fn fill(s: &mut [u8], byte: u8) {
+// What the work buffer is filled with.
+const FILL: u8 = 165;
+
+fn fill(s: &mut [u8]) {
     for i in 0..s.len() {
-        s[i] = byte;
+        s[i] = FILL;
     }
 }
 
-fn is_filled(s: &[u8], byte: u8) -> bool {
+fn is_filled(s: &[u8]) -> bool {
     let mut filled = true;
     for i in 0..s.len() {
-        filled = filled & (s[i] == byte);
+        filled = filled & (s[i] == FILL);
     }
     filled
 }
 
-pub fn prepare(table: &[u8], old: &mut [u8], work: &mut [u8], byte: u8) {
-    fill(work, byte);
+pub fn prepare(table: &[u8], old: &mut [u8], work: &mut [u8]) {
+    fill(work);
     if table.len() <= old.len() {
         fields::copy_in(old, 0, table);
     }
-}
-
-fn is_same_record(a: Record, b: Record) -> bool {
-    (a.used == b.used)
-        & (a.count == b.count)
-        & (a.charge == b.charge)
-        & (a.entry_size == b.entry_size)
 }
 
 fn is_same_table(table: &[u8], old: &[u8]) -> bool {
@@ -38,21 +34,13 @@ fn is_same_table(table: &[u8], old: &[u8]) -> bool {
     false
 }
 
-// Table and record as before.
-pub fn is_still(table: &[u8], old: &[u8], rec: Record, given: Record) -> bool {
-    is_same_table(table, old) & is_same_record(rec, given)
-}
-
-// The work buffer as before, too.
-pub fn is_kept(
-    table: &[u8],
-    old: &[u8],
-    work: &[u8],
-    byte: u8,
-    rec: Record,
-    given: Record,
-) -> bool {
-    is_still(table, old, rec, given) & is_filled(work, byte)
+pub fn is_kept(table: &[u8], old: &[u8], work: &[u8], a: Record, b: Record) -> bool {
+    is_same_table(table, old)
+        & is_filled(work)
+        & (a.used == b.used)
+        & (a.count == b.count)
+        & (a.charge == b.charge)
+        & (a.entry_size == b.entry_size)
 }
 
 pub fn is_clean(table: &[u8], work: &[u8], rec: Record) -> bool {

@@ -3,20 +3,12 @@
 mod calls;
 mod cases;
 mod guard;
-mod listings;
 mod plain;
 mod random;
 mod script;
 mod tell;
 
 fn main() {
-    cases::queries();
-    cases::write();
-    cases::mkdir();
-    cases::unlink();
-    cases::rmdir();
-    cases::order();
-    cases::room();
-    cases::reuse();
+    cases::run();
     random::run();
 }

@@ -12,9 +12,6 @@ pub const FILE: u8 = 2;
 
 pub const LINK: u8 = 3;
 
-// No path has more than this many proper ancestors below the root.
-const ABOVE: usize = 2;
-
 // Each path's parent; 18 is the root.
 pub fn parent(i: usize) -> usize {
     let up: [usize; 18] = [
@@ -97,101 +94,56 @@ fn through(made: bool, kind: u8, below: u64) -> u64 {
     below
 }
 
-// From the parent up to the root, so that the topmost that refuses is the last to be seen, and decides.
+// From the parent up to the root, so that the topmost that refuses is the last to be seen, and decides. No path has more than two proper ancestors.
 fn parents(kinds: &[u8], i: usize, made: bool) -> u64 {
     let mut number = 0;
     let mut at = parent(i);
-    for _step in 0..ABOVE {
+    for _step in 0..2u64 {
         number = through(made, kind(kinds, at), number);
         at = parent(at);
     }
     number
 }
 
-fn is_child(kinds: &[u8], i: usize, k: usize) -> bool {
-    (parent(k) == i) & (kind(kinds, k) != NOTHING)
-}
-
 fn has_child(kinds: &[u8], i: usize) -> bool {
     let mut found = false;
     for k in 0..PATHS {
-        found = found | is_child(kinds, i, k);
+        found = found | ((parent(k) == i) & (kind(kinds, k) != NOTHING));
     }
     found
 }
 
-fn write(kinds: &[u8], i: usize) -> u64 {
-    let number = parents(kinds, i, false);
-    if number != 0 {
-        return number;
-    }
-    let there = kind(kinds, i);
-    if there == DIRECTORY {
-        return 8;
-    }
+fn mkdir(there: u8, exist_ok: bool, parents: u64) -> u64 {
     if there == LINK {
         return 4;
     }
-    0
+    if there == NOTHING {
+        return parents;
+    }
+    if (there == DIRECTORY) & exist_ok {
+        return 0;
+    }
+    6
 }
 
-fn mkdir(kinds: &[u8], i: usize, made: bool, exist_ok: bool) -> u64 {
-    let there = kind(kinds, i);
+// write, unlink and rmdir where the parents passed.
+fn other(letter: u8, there: u8, child: bool) -> u64 {
     if there == LINK {
         return 4;
     }
-    if there == FILE {
-        return 6;
+    if (there == NOTHING) & (letter != b'w') {
+        return 5;
     }
-    if there == DIRECTORY {
-        if exist_ok {
-            return 0;
+    if letter != b'r' {
+        if there == DIRECTORY {
+            return 8;
         }
-        return 6;
-    }
-    parents(kinds, i, made)
-}
-
-fn unlink(kinds: &[u8], i: usize) -> u64 {
-    let number = parents(kinds, i, false);
-    if number != 0 {
-        return number;
-    }
-    let there = kind(kinds, i);
-    if there == LINK {
-        return 4;
-    }
-    if there == DIRECTORY {
-        return 8;
-    }
-    if there == NOTHING {
-        return 5;
-    }
-    0
-}
-
-fn rmdir(kinds: &[u8], i: usize) -> u64 {
-    if PATHS <= i {
-        return 4;
-    }
-    let number = parents(kinds, i, false);
-    if number != 0 {
-        return number;
-    }
-    removed(kind(kinds, i), has_child(kinds, i))
-}
-
-fn removed(there: u8, parent: bool) -> u64 {
-    if there == LINK {
-        return 4;
-    }
-    if there == NOTHING {
-        return 5;
+        return 0;
     }
     if there == FILE {
         return 7;
     }
-    if parent {
+    if child {
         return 9;
     }
     0
@@ -200,16 +152,18 @@ fn removed(there: u8, parent: bool) -> u64 {
 // The number by the plain rules; 0 where they accept.
 pub fn judged(kinds: &[u8], i: usize, call: Call) -> u64 {
     let letter = call.letter;
-    if letter == b'w' {
-        return write(kinds, i);
-    }
+    let there = kind(kinds, i);
     if letter == b'm' {
-        return mkdir(kinds, i, call.parents, call.exist_ok);
+        return mkdir(there, call.exist_ok, parents(kinds, i, call.parents));
     }
-    if letter == b'u' {
-        return unlink(kinds, i);
+    if (letter == b'r') & (PATHS <= i) {
+        return 4;
     }
-    rmdir(kinds, i)
+    let number = parents(kinds, i, false);
+    if number != 0 {
+        return number;
+    }
+    other(letter, there, has_child(kinds, i))
 }
 
 // A path without a node gets a directory.
@@ -219,28 +173,24 @@ fn make(kinds: &mut [u8], i: usize) {
     }
 }
 
-// The tree after a call; a refused one does nothing. mkdir goes through the ancestors with or without its flag: without it, none is missing.
+// mkdir goes through the ancestors with or without its flag: without it, none is missing.
+fn make_all(kinds: &mut [u8], i: usize) {
+    let up = parent(i);
+    make(kinds, i);
+    make(kinds, up);
+    make(kinds, parent(up));
+}
+
+// The tree after a call; a refused one does nothing.
 pub fn done(kinds: &mut [u8], i: usize, letter: u8, accepted: bool) {
     if !accepted {
         return;
     }
-    if letter == b'w' {
-        set(kinds, i, FILE);
-        return;
-    }
     if letter == b'm' {
-        make(kinds, i);
-        make(kinds, parent(i));
-        make(kinds, parent(parent(i)));
-        return;
+        make_all(kinds, i);
+    } else if letter == b'w' {
+        set(kinds, i, FILE);
+    } else {
+        set(kinds, i, NOTHING);
     }
-    set(kinds, i, NOTHING);
-}
-
-// The value that an accepted call answers.
-pub fn value(call: Call) -> u64 {
-    if call.letter == b'w' {
-        return call.size as u64;
-    }
-    0
 }

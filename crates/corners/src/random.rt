@@ -1,29 +1,20 @@
 // Random lists of calls, over random listings, beside the plain tree. Each call's number is compared with the plain rules', and after it the table, the record, the work
-// buffer and what the queries say of every path. Some calls have a limit near the charge: where one gives 11, the plain rules must accept it, and
-// the same call without a limit must be accepted with a charge above that limit.
+// buffer and what the queries say of every path. One call in four has a limit near the charge: it may give 11 where the plain rules accept.
 use crate::calls;
 use crate::calls::Call;
 use crate::guard;
-use crate::listings;
 use crate::plain;
 use crate::tell;
 use model::Answer;
 use model::Finding;
 use model::Record;
 
-const LISTS: u64 = 250;
-
-const CALLS: u64 = 40;
-
 const LARGE: u64 = 1_000_000;
 
-// What the work buffer is filled with before a call.
-const FILL: u8 = 90;
-
-// What is counted, the record of the table, and the generator's number.
+// The record of the table, the generator's number, and what is counted.
 pub struct State {
-    pub seed: u64,
     pub rec: Record,
+    pub seed: u64,
     pub accepted: u64,
     pub refused: u64,
     pub limited: u64,
@@ -43,10 +34,6 @@ fn below(seed: u64, n: u64) -> u64 {
     seed / 16 % n
 }
 
-fn more(n: u64, add: bool) -> u64 {
-    std::num::wrapping_add_u64(n, add as u64)
-}
-
 fn letter(n: u64) -> u8 {
     if n < 3 {
         return b'w';
@@ -60,28 +47,21 @@ fn letter(n: u64) -> u8 {
     b'r'
 }
 
-// One call in four has a limit, from 100 below the charge to 700 above it.
+// Three in four large, else up to 700 above the charge.
 fn limit(seed: u64, charge: u64) -> u64 {
     if below(seed, 4) != 0 {
         return LARGE;
     }
-    let high = std::num::wrapping_add_u64(charge, below(next(seed), 801));
-    if high < 100 {
-        return 0;
-    }
-    high - 100
+    std::num::wrapping_add_u64(charge, below(next(seed), 701))
 }
 
 fn drawn(seed: u64, charge: u64) -> Call {
-    let a = next(seed);
-    let b = next(a);
-    let c = next(b);
+    let more = next(seed);
     Call {
         letter: letter(below(seed, 10)),
-        parents: below(a, 2) == 0,
-        exist_ok: below(b, 2) == 0,
-        size: below(c, 17) as usize,
-        limit: limit(next(c), charge),
+        parents: below(more, 2) == 0,
+        exist_ok: below(more, 4) < 2,
+        limit: limit(next(more), charge),
     }
 }
 
@@ -125,37 +105,34 @@ fn is_all_seen(listing: &[u8], table: &[u8], rec: Record, kinds: &[u8], names: &
     right
 }
 
-// An accepted call keeps to its limit, or is a mkdir that changes nothing.
-fn is_within(table: &[u8], old: &[u8], after: Record, given: Record, limit: u64) -> bool {
-    (after.charge <= limit) | guard::is_still(table, old, after, given)
+fn counted(st: State, rec: Record, seed: u64, number: u64, right: bool) -> State {
+    State {
+        rec: rec,
+        seed: seed,
+        accepted: std::num::wrapping_add_u64(st.accepted, (number == 0) as u64),
+        refused: std::num::wrapping_add_u64(st.refused, (number != 0) as u64),
+        limited: std::num::wrapping_add_u64(st.limited, (number == 11) as u64),
+        wrong: std::num::wrapping_add_u64(st.wrong, !right as u64),
+    }
 }
 
-// A number is right where it is the plain rules', or is 11 for a call that has a limit and is accepted by them.
+fn number(answer: Answer) -> u64 {
+    match answer {
+        Answer::Accepted(_) => 0,
+        Answer::Refused(refusal) => calls::told(refusal).number,
+    }
+}
+
+// A number is right where it is the plain rules', or is 11 where they accept and there is a limit.
 fn is_number(number: u64, must: u64, limit: u64) -> bool {
     (number == must) | ((number == 11) & (must == 0) & (limit < LARGE))
 }
 
-// The same counts with another table's record and another number of the generator.
-fn begun(st: State, rec: Record, seed: u64) -> State {
-    State {
-        seed: seed,
-        rec: rec,
-        accepted: st.accepted,
-        refused: st.refused,
-        limited: st.limited,
-        wrong: st.wrong,
-    }
-}
-
-fn counted(st: State, rec: Record, number: u64, right: bool) -> State {
-    State {
-        seed: st.seed,
-        rec: rec,
-        accepted: more(st.accepted, number == 0),
-        refused: more(st.refused, number != 0),
-        limited: more(st.limited, number == 11),
-        wrong: more(st.wrong, !right),
-    }
+// An accepted call keeps to its limit, or is a mkdir that changes nothing; a write answers its content's length, and the others 0.
+fn is_within(call: Call, charge: u64, after: u64, value: u64, n: u64) -> bool {
+    let written = call.letter == b'w';
+    let still = (call.letter == b'm') & (after == charge);
+    ((after <= call.limit) | still) & (written & (value == n) | !written & (value == 0))
 }
 
 // What a call must have left.
@@ -167,70 +144,20 @@ fn is_left_well(
     after: Record,
     answer: Answer,
     call: Call,
+    n: u64,
 ) -> bool {
     match answer {
         Answer::Accepted(value) => {
-            let a = guard::is_clean(table, work, after);
-            let b = is_within(table, old, after, given, call.limit);
-            return a & b & (value == plain::value(call));
+            let within = is_within(call, given.charge, after.charge, value, n);
+            return within & guard::is_clean(table, work, after);
         }
         Answer::Refused(_) => {
-            return guard::is_kept(table, old, work, FILL, after, given);
+            return guard::is_kept(table, old, work, after, given);
         }
     }
 }
 
-// One call at the path with this number, and all that is compared after it.
-fn once(
-    listing: &[u8],
-    names: &[u8],
-    table: &mut [u8],
-    old: &mut [u8],
-    work: &mut [u8],
-    kinds: &mut [u8],
-    st: State,
-    i: usize,
-    call: Call,
-) -> State {
-    let given = st.rec;
-    let must = plain::judged(kinds, i, call);
-    guard::prepare(table, old, work, FILL);
-    let done = calls::make(listing, table, given, work, plain::path(names, i), call);
-    let answer = done.answer;
-    let after = done.record;
-    let number = calls::number(answer);
-    plain::done(kinds, i, call.letter, number == 0);
-    let a = is_number(number, must, call.limit);
-    let b = is_left_well(table, old, work, given, after, answer, call);
-    let c = is_all_seen(listing, table, after, kinds, names);
-    counted(st, after, number, a & b & c)
-}
-
-fn without_limit(call: Call) -> Call {
-    Call {
-        letter: call.letter,
-        parents: call.parents,
-        exist_ok: call.exist_ok,
-        size: call.size,
-        limit: LARGE,
-    }
-}
-
-// A call that gave 11 must be accepted without its limit, with a charge above it.
-fn freed(first: State, second: State, limit: u64) -> State {
-    let rec = second.rec;
-    let bad = (second.accepted == first.accepted) | (rec.charge <= limit);
-    State {
-        seed: second.seed,
-        rec: rec,
-        accepted: second.accepted,
-        refused: second.refused,
-        limited: second.limited,
-        wrong: more(second.wrong, bad),
-    }
-}
-
-// A random call; where it gives 11, the same again without a limit.
+// A random call at a random path, and all that is compared after it. A write's content is one of the paths.
 fn step(
     listing: &[u8],
     names: &[u8],
@@ -240,19 +167,40 @@ fn step(
     kinds: &mut [u8],
     st: State,
 ) -> State {
-    let one = next(st.seed);
-    let two = next(one);
-    let i = below(one, 19) as usize;
-    let rec = st.rec;
-    let call = drawn(two, rec.charge);
-    let start = begun(st, rec, two);
-    let first = once(listing, names, table, old, work, kinds, start, i, call);
-    if first.limited == st.limited {
-        return first;
-    }
-    let free = without_limit(call);
-    let second = once(listing, names, table, old, work, kinds, first, i, free);
-    freed(first, second, call.limit)
+    let given = st.rec;
+    let first = next(st.seed);
+    let i = below(first, 19) as usize;
+    let last = next(first);
+    let content = plain::path(names, below(next(last), 19) as usize);
+    let call = drawn(last, given.charge);
+    let must = plain::judged(kinds, i, call);
+    guard::prepare(table, old, work);
+    let done = calls::make(
+        listing,
+        table,
+        given,
+        work,
+        plain::path(names, i),
+        content,
+        call,
+    );
+    let answer = done.answer;
+    let after = done.record;
+    let number = number(answer);
+    plain::done(kinds, i, call.letter, number == 0);
+    let a = is_number(number, must, call.limit);
+    let b = is_left_well(
+        table,
+        old,
+        work,
+        given,
+        after,
+        answer,
+        call,
+        content.len() as u64,
+    );
+    let c = is_all_seen(listing, table, after, kinds, names);
+    counted(st, after, last, number, a & b & c)
 }
 
 fn steps(
@@ -265,20 +213,13 @@ fn steps(
     st: State,
 ) -> State {
     let mut now = st;
-    for _i in 0..CALLS {
+    for _i in 0..40u64 {
         now = step(listing, names, table, old, work, kinds, now);
     }
     now
 }
 
-// What stands at a path of a random listing: something only below a directory.
-fn sprout(above: u8, n: u64, bare: bool) -> u8 {
-    if bare {
-        return plain::NOTHING;
-    }
-    if above != plain::DIRECTORY {
-        return plain::NOTHING;
-    }
+fn sprout(n: u64) -> u8 {
     if n < 2 {
         return plain::NOTHING;
     }
@@ -291,33 +232,50 @@ fn sprout(above: u8, n: u64, bare: bool) -> u8 {
     plain::LINK
 }
 
-fn sow(kinds: &mut [u8], i: usize, seed: u64, bare: bool) {
-    let above = plain::kind(kinds, plain::parent(i));
-    plain::set(kinds, i, sprout(above, below(seed, 8), bare));
+// What stands at a path of a random listing: something only below a directory.
+fn sow(kinds: &mut [u8], i: usize, n: u64) {
+    if plain::kind(kinds, plain::parent(i)) == plain::DIRECTORY {
+        plain::set(kinds, i, sprout(n));
+    }
 }
 
-// A random tree, or none where it is to be bare; the generator's last number is returned.
-fn plant(kinds: &mut [u8], seed: u64, bare: bool) -> u64 {
+// A random tree; the generator's last number is returned.
+fn plant(kinds: &mut [u8], seed: u64) -> u64 {
     let mut now = seed;
     for i in 0..plain::PATHS {
         now = next(now);
-        sow(kinds, i, now, bare);
+        sow(kinds, i, below(now, 8));
     }
     now
 }
 
-// A record, where something is there.
+// A record, where something is there; mtime and size are 0.
 fn put(s: &mut [u8], at: usize, kind: u8, path: &[u8]) -> usize {
+    let n = path.len();
     if kind == plain::NOTHING {
         return at;
     }
-    if kind == plain::FILE {
-        return listings::put(s, at, listings::FILE, calls::MTIME, 5, path);
+    if 8 < n {
+        return at;
     }
-    if kind == plain::LINK {
-        return listings::put(s, at, listings::LINK, 0, 0, path);
+    if s.len() < 27 {
+        return at;
     }
-    listings::put(s, at, listings::DIRECTORY, calls::MTIME, 0, path)
+    if s.len() - 27 < at {
+        return at;
+    }
+    fields::put16(s, at, n as u64);
+    plain::set(s, at + 2, kind);
+    fields::copy_in(s, at + 19, path);
+    at + 19 + n
+}
+
+// The mark, version 1 and the count.
+fn head(s: &mut [u8], count: u64) {
+    if 9 <= s.len() {
+        fields::copy_in(s, 0, b"RDL\x01\x00");
+        fields::put32(s, 5, count);
+    }
 }
 
 // The plain tree as a listing, and its length.
@@ -327,21 +285,31 @@ fn listed(s: &mut [u8], kinds: &[u8], names: &[u8]) -> usize {
     for i in 0..plain::PATHS {
         let kind = plain::kind(kinds, i);
         at = put(s, at, kind, plain::path(names, i));
-        count = more(count, kind != plain::NOTHING);
+        count = std::num::wrapping_add_u64(count, (kind != plain::NOTHING) as u64);
     }
-    listings::head(s, count);
+    head(s, count);
     at
 }
 
-// A list of calls over the tree that `kinds` has; the buffers stand here and are lent on.
-fn over(names: &[u8], kinds: &mut [u8], st: State) -> State {
+// A list of calls over a random tree; the buffers stand here and are lent on.
+fn list(names: &[u8], st: State) -> State {
+    let mut kinds = [0u8; 18];
     let mut listing = [0u8; 512];
-    let mut table = [255u8; 800];
-    let mut old = [0u8; 800];
-    let mut work = [255u8; 800];
-    let n = listed(&mut listing, kinds, names);
+    let mut table = [255u8; 640];
+    let mut old = [0u8; 640];
+    let mut work = [255u8; 640];
+    let seed = plant(&mut kinds, st.seed);
+    let n = listed(&mut listing, &kinds, names);
     let opened = overlay_open::open(&mut table, 40);
-    let start = begun(st, opened.record, st.seed);
+    let rec = opened.record;
+    let start = State {
+        rec: rec,
+        seed: seed,
+        accepted: st.accepted,
+        refused: st.refused,
+        limited: st.limited,
+        wrong: st.wrong,
+    };
     if n <= 512 {
         return steps(
             &listing[0..n],
@@ -349,43 +317,19 @@ fn over(names: &[u8], kinds: &mut [u8], st: State) -> State {
             &mut table,
             &mut old,
             &mut work,
-            kinds,
+            &mut kinds,
             start,
         );
     }
     start
 }
 
-// Every eighth list, about, is over the listing without records.
-fn list(st: State) -> State {
-    let names =
-        b"a       a-b     a-b/f   a/a-b   a/b     a/b/a   a/b/a-b a/b/f   a/f     a/f/b   a0      b       b/a     b/a/b   b/a/f   b/f     f       f/a     ";
-    let mut kinds = [0u8; 18];
-    let seed = next(st.seed);
-    let last = plant(&mut kinds, seed, below(seed, 8) == 0);
-    over(names, &mut kinds, begun(st, st.rec, last))
-}
-
-fn lists(st: State) -> State {
+fn lists(names: &[u8], st: State) -> State {
     let mut now = st;
-    for _i in 0..LISTS {
-        now = list(now);
+    for _i in 0..250u64 {
+        now = list(names, now);
     }
     now
-}
-
-fn told(st: State) {
-    tell::text(b"random calls: ");
-    tell::decimal(std::num::wrapping_add_u64(st.accepted, st.refused));
-    tell::text(b", accepted ");
-    tell::decimal(st.accepted);
-    tell::text(b", refused ");
-    tell::decimal(st.refused);
-    tell::text(b", of these at the limit ");
-    tell::decimal(st.limited);
-    tell::text(b", differences ");
-    tell::decimal(st.wrong);
-    tell::text(b"\n");
 }
 
 pub fn run() {
@@ -395,12 +339,20 @@ pub fn run() {
         charge: 0,
         entry_size: 40,
     };
-    told(lists(State {
-        seed: 20240229,
-        rec: rec,
-        accepted: 0,
-        refused: 0,
-        limited: 0,
-        wrong: 0,
-    }));
+    let st = lists(
+        b"a       a-b     a-b/f   a/a-b   a/b     a/b/a   a/b/a-b a/b/f   a/f     a/f/b   a0      b       b/a     b/a/b   b/a/f   b/f     f       f/a     ",
+        State {
+            rec: rec,
+            seed: 20240229,
+            accepted: 0,
+            refused: 0,
+            limited: 0,
+            wrong: 0,
+        },
+    );
+    tell::number(b"random calls: accepted ", st.accepted);
+    tell::number(b", refused ", st.refused);
+    tell::number(b", of these at the limit ", st.limited);
+    tell::number(b", differences ", st.wrong);
+    tell::text(b"\n");
 }

@@ -1,21 +1,15 @@
-// Cases as a text, whose items each end before a bar. `=` begins a title, before which the table is opened anew; `t` prints the table's entries.
-// Every other item is a call: its letter; a write's size, or p, e or b for mkdir's flags; the listing's digit; what is malformed: the record's used (u), its E (e),
-// the table's last byte (c), the work buffer one byte less (w); the limit in five digits, or five dashes for a large one; a blank; the path.
+// Cases as a text, whose items each end before a bar. An item that begins with # is a title, and the table is opened anew; `+` prints the entries; `!` changes the
+// table's last byte from 0 to 1 and back. Every other item is a call, in columns: its name; from 8 a write's size, or p, e or b for mkdir's flags; from 10 the listing:
+// L the first, M the second, X the first without its last byte; from 12 what the record has wrong: u its used, e its E; from 14 the limit, or dashes; from 20 the path.
 ghost use Prim.Native.Nat.{_≤_};
 ghost use lib.ListN.{length};
 use crate::calls;
 use crate::calls::Call;
 use crate::guard;
-use crate::listings;
 use crate::tell;
 use model::Answer;
 use model::Finding;
 use model::Record;
-
-const LARGE: u64 = 1_000_000;
-
-// What the work buffer is filled with before a call.
-const FILL: u8 = 165;
 
 fn byte_at(s: &[u8], i: usize) -> u8 {
     if i < s.len() {
@@ -34,98 +28,83 @@ fn digit(s: &[u8], i: usize) -> u64
     ((b - 48) % 10) as u64
 }
 
-fn limit_of(s: &[u8]) -> u64 {
-    if byte_at(s, 4) == b'-' {
-        return LARGE;
+fn limit(s: &[u8]) -> u64 {
+    if byte_at(s, 14) == b'-' {
+        return 1_000_000;
     }
-    let high = 100 * digit(s, 4) + 10 * digit(s, 5) + digit(s, 6);
-    100 * high + 10 * digit(s, 7) + digit(s, 8)
+    let high = 100 * digit(s, 14) + 10 * digit(s, 15) + digit(s, 16);
+    100 * high + 10 * digit(s, 17) + digit(s, 18)
 }
 
-fn call_of(s: &[u8]) -> Call {
-    let flag = byte_at(s, 1);
+fn call(s: &[u8]) -> Call {
+    let flag = byte_at(s, 8);
     Call {
         letter: byte_at(s, 0),
         parents: (flag == b'p') | (flag == b'b'),
         exist_ok: (flag == b'e') | (flag == b'b'),
-        size: digit(s, 1) as usize,
-        limit: limit_of(s),
+        limit: limit(s),
     }
+}
+
+// The content that a write has: sevens.
+fn content(sevens: &[u8], n: usize) -> &[u8] {
+    if n <= sevens.len() {
+        return &sevens[0..n];
+    }
+    &sevens[..0]
 }
 
 // The record that a call is given.
-fn harmed(rec: Record, harm: u8) -> Record {
-    let mut given = rec;
-    if harm == b'u' {
-        given.used = std::num::wrapping_add_u64(rec.used, 1);
+fn given(rec: Record, wrong: u8) -> Record {
+    let mut new = rec;
+    if wrong == b'u' {
+        new.used = std::num::wrapping_add_u64(rec.used, 1);
     }
-    if harm == b'e' {
-        given.entry_size = 4097;
+    if wrong == b'e' {
+        new.entry_size = 4097;
     }
-    given
+    new
 }
 
-// Where the table's last byte is to be harmed, it becomes this one.
-fn spoil(table: &mut [u8], harm: u8, byte: u8) {
-    if harm == b'c' {
-        let n = table.len();
-        if 0 < n {
-            table[n - 1] = byte;
-        }
-    }
-}
-
-// A call with the harm done, and whether it kept what it must.
-fn changed(
+// A changing call, and whether it kept what it must; a wrong record is not handed on.
+fn change(
     listing: &[u8],
     table: &mut [u8],
     old: &mut [u8],
     work: &mut [u8],
-    given: Record,
+    rec: Record,
+    s: &[u8],
     path: &[u8],
-    call: Call,
 ) -> Record {
-    guard::prepare(table, old, work, FILL);
-    let done = calls::make(listing, table, given, work, path, call);
+    let rec_given = given(rec, byte_at(s, 12));
+    let sevens = content(
+        b"\x07\x07\x07\x07\x07\x07\x07\x07\x07",
+        digit(s, 8) as usize,
+    );
+    guard::prepare(table, old, work);
+    let done = calls::make(listing, table, rec_given, work, path, sevens, call(s));
     let after = done.record;
     let answer = done.answer;
     tell::answer(answer);
     tell::rec(after);
     match answer {
         Answer::Accepted(_) => {
-            tell::state(true, guard::is_clean(table, work, after));
+            tell::end(guard::is_clean(table, work, after), b", work 0\n");
             return after;
         }
         Answer::Refused(_) => {
-            tell::state(false, guard::is_kept(table, old, work, FILL, after, given));
-            return after;
+            tell::end(
+                guard::is_kept(table, old, work, after, rec_given),
+                b", all kept\n",
+            );
+            return rec;
         }
     }
 }
 
-// The call that s stands for, over a listing that was made; a record that was harmed is not kept.
-fn change(
-    listing: &[u8],
-    table: &mut [u8],
-    work: &mut [u8],
-    rec: Record,
-    s: &[u8],
-    path: &[u8],
-) -> Record {
-    let mut old = [0u8; 1024];
-    let harm = byte_at(s, 3);
-    let given = harmed(rec, harm);
-    spoil(table, harm, 1);
-    let after = changed(listing, table, &mut old, work, given, path, call_of(s));
-    spoil(table, harm, 0);
-    if (harm == b'u') | (harm == b'e') {
-        return rec;
-    }
-    after
-}
-
-fn asked(letter: u8, listing: &[u8], table: &[u8], rec: Record, path: &[u8]) -> Finding {
-    if letter == b'x' {
+// exists, is_file or is_dir, by the letter in which their names differ.
+fn asked(listing: &[u8], table: &[u8], rec: Record, letter: u8, path: &[u8]) -> Finding {
+    if letter == b's' {
         return overlay::exists(listing, table, rec, path);
     }
     if letter == b'f' {
@@ -134,71 +113,42 @@ fn asked(letter: u8, listing: &[u8], table: &[u8], rec: Record, path: &[u8]) -> 
     overlay::is_dir(listing, table, rec, path)
 }
 
-fn query(listing: &[u8], table: &mut [u8], rec: Record, s: &[u8], path: &[u8]) {
-    let harm = byte_at(s, 3);
-    spoil(table, harm, 1);
-    let finding = asked(byte_at(s, 0), listing, table, harmed(rec, harm), path);
-    spoil(table, harm, 0);
-    tell::finding(finding);
-    tell::rec(rec);
-    tell::text(b"\n");
-}
-
-fn is_query(letter: u8) -> bool {
-    (letter == b'x') | (letter == b'f') | (letter == b'd')
-}
-
-// A query, or a changing call with its work buffer, one byte less where the item says so.
-fn answered(
+fn called(
     listing: &[u8],
     table: &mut [u8],
+    old: &mut [u8],
     work: &mut [u8],
     rec: Record,
     s: &[u8],
-    path: &[u8],
 ) -> Record {
-    if is_query(byte_at(s, 0)) {
-        query(listing, table, rec, s, path);
+    if s.len() < 20 {
         return rec;
     }
-    if byte_at(s, 3) == b'w' {
-        let n = work.len();
-        if 0 < n {
-            return change(listing, table, &mut work[0..n - 1], rec, s, path);
-        }
+    let path = &s[20..];
+    tell::text(s);
+    let letter = byte_at(s, 0);
+    if (letter == b'e') | (letter == b'i') {
+        let finding = asked(
+            listing,
+            table,
+            given(rec, byte_at(s, 12)),
+            byte_at(s, 3),
+            path,
+        );
+        tell::finding(finding);
+        tell::rec(rec);
+        tell::text(b"\n");
+        return rec;
     }
-    change(listing, table, work, rec, s, path)
+    change(listing, table, old, work, rec, s, path)
 }
 
-fn called(table: &mut [u8], work: &mut [u8], rec: Record, s: &[u8], path: &[u8]) -> Record {
-    let mut listing = [0u8; 128];
-    let n = listings::made(&mut listing, byte_at(s, 2));
-    tell::call(
-        byte_at(s, 0),
-        byte_at(s, 1),
-        byte_at(s, 2),
-        byte_at(s, 3),
-        path,
-    );
-    tell::limit(byte_at(s, 4) != b'-', limit_of(s));
-    if n <= 128 {
-        return answered(&listing[0..n], table, work, rec, s, path);
+fn flip(table: &mut [u8]) {
+    let n = table.len();
+    if 0 < n {
+        let last = table[n - 1];
+        table[n - 1] = 1 - last % 2;
     }
-    rec
-}
-
-fn opened(table: &mut [u8], entry_size: u64) -> Record {
-    let done = overlay_open::open(table, entry_size);
-    let answer = done.answer;
-    match answer {
-        Answer::Accepted(_) => {}
-        Answer::Refused(refusal) => {
-            tell::text(b"open: ");
-            tell::refused(refusal);
-            tell::text(b"\n");
-        }
-    }
-    done.record
 }
 
 fn entries(table: &[u8], used: u64) {
@@ -208,23 +158,50 @@ fn entries(table: &[u8], used: u64) {
     }
 }
 
-fn item(table: &mut [u8], work: &mut [u8], rec: Record, s: &[u8]) -> Record {
+// A title, which opens the table anew, the table's entries, or its last byte changed.
+fn marked(table: &mut [u8], rec: Record, s: &[u8]) -> Record {
+    tell::text(s);
     let letter = byte_at(s, 0);
-    if letter == b't' {
+    if letter == b'#' {
+        let opened = overlay_open::open(table, rec.entry_size);
+        let answer = opened.answer;
+        tell::answer(answer);
+        tell::text(b"\n");
+        return opened.record;
+    }
+    if letter == b'+' {
         entries(table, rec.used);
+        tell::text(b"\n");
         return rec;
     }
-    if letter == b'=' {
-        if 0 < s.len() {
-            tell::title(&s[1..]);
-        }
-        return opened(table, rec.entry_size);
-    }
-    if 10 <= s.len() {
-        return called(table, work, rec, s, &s[10..]);
-    }
-    tell::text(b"no call\n");
+    flip(table);
+    tell::text(b"\n");
     rec
+}
+
+fn item(
+    first: &[u8],
+    second: &[u8],
+    table: &mut [u8],
+    old: &mut [u8],
+    work: &mut [u8],
+    rec: Record,
+    s: &[u8],
+) -> Record {
+    let which = byte_at(s, 10);
+    let n = first.len();
+    if byte_at(s, 0) < b'a' {
+        return marked(table, rec, s);
+    }
+    if which == b'M' {
+        return called(second, table, old, work, rec, s);
+    }
+    if which == b'X' {
+        if 0 < n {
+            return called(&first[0..n - 1], table, old, work, rec, s);
+        }
+    }
+    called(first, table, old, work, rec, s)
 }
 
 // Where the next bar stands, or where the text ends.
@@ -242,7 +219,15 @@ fn bar(s: &[u8], from: usize) -> usize
     i
 }
 
-pub fn run(table: &mut [u8], work: &mut [u8], entry_size: u64, list: &[u8]) {
+pub fn run(
+    first: &[u8],
+    second: &[u8],
+    table: &mut [u8],
+    old: &mut [u8],
+    work: &mut [u8],
+    entry_size: u64,
+    list: &[u8],
+) {
     let mut rec = Record {
         used: 0,
         count: 0,
@@ -252,7 +237,7 @@ pub fn run(table: &mut [u8], work: &mut [u8], entry_size: u64, list: &[u8]) {
     let mut from = 0;
     let mut end = bar(list, 0);
     while end < list.len() {
-        rec = item(table, work, rec, &list[from..end]);
+        rec = item(first, second, table, old, work, rec, &list[from..end]);
         from = end + 1;
         end = bar(list, from);
     }

@@ -11,11 +11,11 @@ use native.Mathlib.Omega.{arith}
 use lib.Dec.{leb}
 use lib.ListN.{length}
 use borrow.Author.Tests.{leb-false}
-use Rattle.model.specs.Bytes.{every, same}
+use Rattle.model.specs.Bytes.{every, consIf, same}
 use Rattle.model.specs.Path.{Path, short, below, ancestors, rest}
-use Rattle.model.specs.Map.{lookup, del, each, keys, rekey, outside}
-use Rattle.model.specs.Tree.{held, Node, dir, file, link, Entry, own, reference, directory, deleted, Table, Tree, View, view, shown}
-use Rattle.model.specs.Tree.{Kind, nothing, aDirectory, aFile, aLink, kindOf, kind, isDirectory}
+use Rattle.model.specs.Map.{lookup, puts, del, each, keys, rekey, outside}
+use Rattle.model.specs.Tree.{held, Node, dir, file, link, Entry, own, reference, directory, deleted, Table, Tree, View, view, over, shown}
+use Rattle.model.specs.Tree.{Kind, nothing, aDirectory, aFile, aLink, kindOf, kind, isNothing, isDirectory}
 use Rattle.model.specs.Table.{charge}
 use Rattle.model.specs.Checks.{Check, pass, refuse, _then_, unless, parents, writeChecks, mkdirAt, mkdirParents, missing, makes, unlinkAt, unlinkChecks}
 use Rattle.model.specs.Checks.{notRoot, empty, rmdirChecks, Memory, limited, unlimited, charged}
@@ -26,10 +26,10 @@ use Rattle.model.specs.Plain.{plainEffect}
 use Rattle.model.specs.Cause.{MovesDirectory, Exceeds, charge-above, plan-above, walk-above, key-above}
 use Rattle.model.proofs.Orders.{bot, yea, nay, test, is-none, is-some, opt, mem}
 use Rattle.model.proofs.Orders.{rest-self, rest-below, rest-nil, below-rest}
-use Rattle.model.proofs.Maps.{upd, lookup-put, lookup-del, lookup-puts, lookup-each, Ascending, ascending-put, ascending-del, ascending-puts, ascending-outside}
+use Rattle.model.proofs.Maps.{upd, orElse, lookup-put, lookup-del, lookup-puts, lookup-each, Ascending, ascending-put, ascending-del, ascending-puts, ascending-outside}
 use Rattle.model.proofs.Invariant.{kind-is, is-nothing, is-directory, is-file, is-link′, entry-at, at-none, at-own, at-reference, at-directory, at-deleted}
 use Rattle.model.proofs.Invariant.{Closed, Inv, shown-put, shown-over, kind-at, kind-entry, then-pass, parents-dirs, parents-pass, inv-empty}
-use Rattle.model.proofs.Small.{write-inv, unlink-inv, unlink-regular, rmdir-inv, RmdirOk, rmdir-ok, ok-rmdir, mkdir-inv, mkdir-up, mkdir-lookup, madeAt, childless-empty, empty-childless}
+use Rattle.model.proofs.Small.{write-inv, unlink-inv, unlink-regular, rmdir-inv, RmdirOk, rmdir-ok, ok-rmdir, met-nothing, met-directory, mkdir-met, makes-missing, makes-none, mkdir-inv, mkdir-up, mkdir-lookup, madeAt, childless-empty, empty-childless}
 use Rattle.model.proofs.Moves.{Held, RenameOk, moveView, move-inv, move-tree, plain-move, entry-free, listed-link, link-at, kind-link, kind-absent, proper-pass}
 use Rattle.model.proofs.Walks.{Met, walk-links, walk-met, walk-budget, walk-over}
 
@@ -49,6 +49,13 @@ abbrev pub Allowed : Memory → Table → Tree → Call → Check → Type 0
 Allowed (limited E limit) t l c x = Caused E limit t l c x
 Allowed unlimited t l c x = x ≡ pass
 
+-- what mkdir accepts
+pass-nothing : (n : ℕ) (ok : Bool) (k : Kind) (y : Check) → k ≡ nothing → y ≡ pass → mkdirAt n ok k y ≡ pass
+pass-nothing n ok k y e u = ap (λ (k : Kind). mkdirAt n ok k y) e ∙ u
+
+pass-directory : (n : ℕ) (ok : Bool) (k : Kind) (y : Check) → k ≡ aDirectory → ok ≡ true → mkdirAt n ok k y ≡ pass
+pass-directory n ok k y e u = ap (λ (k : Kind). mkdirAt n ok k y) e ∙ ap (λ (b : Bool). cond b pass (refuse 6 0 n)) u
+
 module _ (t : Table) (l : Tree) (c : Call) where
   caused-then : {E limit : ℕ} {x y : Check} → Caused E limit t l c x → Caused E limit t l c y → Caused E limit t l c (x then y)
   caused-then passed d = d
@@ -63,6 +70,13 @@ module _ (t : Table) (l : Tree) (c : Call) where
   allowed-pass unlimited x h = h
 
   -- a refusal by a test that fails only with a cause
+  -- a check that mkdir accepts with y left out
+  allowed-mkdir : (m : Memory) (n : ℕ) (ok : Bool) (k : Kind) (x y : Check) → mkdirAt n ok k (x then pass) ≡ pass → Allowed m t l c y → Allowed m t l c (mkdirAt n ok k (x then y))
+  allowed-mkdir m n ok k x y h a = elim (mkdir-met n ok k (x then pass) h) [
+    | met-nothing e u ↦ subst⁻¹ (λ (k : Kind). Allowed m t l c (mkdirAt n ok k (x then y))) e (allowed-then m x y (allowed-pass m x (then-pass x pass u .0)) a)
+    | met-directory e u ↦ allowed-pass m (mkdirAt n ok k (x then y)) (pass-directory n ok k (x then y) e u)
+  ]
+
   caused-unless : (E limit n : ℕ) (b : Bool) → (b ≡ false → Exceeds E limit t l c n) → Caused E limit t l c (unless n b)
   caused-unless E limit n true h = passed
   caused-unless E limit n false h = because n (h refl)
@@ -303,6 +317,10 @@ module _ (t : Table) (l : Tree) (cl : Closed (lookup l)) (i : Inv t l) (a b : Pa
           if-dir (kind (lookup l) a) (walked (length a) (walkFrom t l (budget m t a b) a)) (λ d.
           allowed-walk t l (rename a b) asc m a b (record { renames = refl; moves = k }) d met))
 
+-- the plain tree with directories at a path and at its missing ancestors
+abbrev plainMade : Tree → Path → ℕ → Tree
+plainMade s p m = puts (each (dir m) (p ∷ missing (kind (lookup s)) (ancestors p))) s
+
 module _ (t : Table) (l s : Tree) (g : Sound t l s) where
   plain-closed : Closed (lookup s)
   plain-closed = subst Closed (g .tree) (g .inv .closed)
@@ -358,16 +376,20 @@ module _ (t : Table) (l s : Tree) (g : Sound t l s) where
   then-both : (x y : Check) → x ≡ pass → y ≡ pass → (x then y) ≡ pass
   then-both x y h k = cc
 
+  agree-at : (p : Path) (ok : Bool) (y : Check) → mkdirAt (length p) ok (kind (shown t l) p) y ≡ mkdirAt (length p) ok (kind (lookup s) p) y
+  agree-at p ok y = ap (λ (k : Kind). mkdirAt (length p) ok k y) (agree-kind p)
+
   -- no call is accepted that the plain tree's rules refuse
   pub accepts : Closed (lookup l) → (m : Memory) (c : Call) → rules m t l c ≡ pass → rules unlimited [] s c ≡ pass
-  accepts cl m (write p d x) h = let e = then-pass (writeChecks (shown t l) p) (charged m (changed t l (write p d x))) h in cc (e .0, agree-write p)
-  accepts cl m (mkdir p up ok d) h = elim (kind-is (kind (shown t l) p)) [
-    | is-nothing k ↦ let e = then-pass (mkdirParents (shown t l) p up) (charged m (changed t l (mkdir p up ok d))) (cc) in cc (e .0, agree-mkdir p up, agree-kind p)
-    | is-directory k ↦ cc (agree-kind p)
-    | is-file k ↦ cc
-    | is-link′ k ↦ cc
-  ]
-  accepts cl m (unlink p) h = let e = then-pass (unlinkChecks t l p) (charged m (changed t l (unlink p))) h in cc (agree-unlink p .0 (e .0))
+  accepts cl m (write p d x) h = then-both (writeChecks (lookup s) p) pass
+      (sym (agree-write p) ∙ then-pass (writeChecks (shown t l) p) (charged m (changed t l (write p d x))) h .0) refl
+  accepts cl m (mkdir p up ok d) h = sym (agree-at p ok (mkdirParents (lookup s) p up then pass))
+      ∙ elim (mkdir-met (length p) ok (kind (shown t l) p) (mkdirParents (shown t l) p up then charged m (changed t l (mkdir p up ok d))) h) [
+        | met-nothing e u ↦ pass-nothing (length p) ok (kind (shown t l) p) (mkdirParents (lookup s) p up then pass) e
+            (then-both (mkdirParents (lookup s) p up) pass (sym (agree-mkdir p up) ∙ then-pass (mkdirParents (shown t l) p up) (charged m (changed t l (mkdir p up ok d))) u .0) refl)
+        | met-directory e u ↦ pass-directory (length p) ok (kind (shown t l) p) (mkdirParents (lookup s) p up then pass) e u
+      ]
+  accepts cl m (unlink p) h = then-both (unlinkChecks [] s p) pass (agree-unlink p .0 (then-pass (unlinkChecks t l p) (charged m (changed t l (unlink p))) h .0)) refl
   accepts cl m (rmdir p) h = let e = then-pass (rmdirChecks t l p) (charged m (changed t l (rmdir p))) h in
       then-both (rmdirChecks [] s p) pass (agree-rmdir p .0 (e .0)) refl
   accepts cl m (rename a b) h =
@@ -378,16 +400,9 @@ module _ (t : Table) (l s : Tree) (g : Sound t l s) where
   allows cl al m (write p d x) h = allowed-then t l (write p d x) m (writeChecks (shown t l) p) (charged m (changed t l (write p d x)))
       (allowed-pass t l (write p d x) m (writeChecks (shown t l) p) (agree-write p ∙ then-pass (writeChecks (lookup s) p) pass h .0))
       (allowed-charged t l (write p d x) m)
-  allows cl al m (mkdir p up ok d) h = go (kind (shown t l) p) (agree-kind p)
-    where
-      go : (k : Kind) → k ≡ kind (lookup s) p
-          → Allowed m t l (mkdir p up ok d) (mkdirAt (length p) ok k (mkdirParents (shown t l) p up then charged m (changed t l (mkdir p up ok d))))
-      go nothing e = allowed-then t l (mkdir p up ok d) m (mkdirParents (shown t l) p up) (charged m (changed t l (mkdir p up ok d)))
-          (allowed-pass t l (mkdir p up ok d) m (mkdirParents (shown t l) p up) (agree-mkdir p up ∙ then-pass (mkdirParents (lookup s) p up) pass (cc) .0))
-          (allowed-charged t l (mkdir p up ok d) m)
-      go aDirectory e = allowed-pass t l (mkdir p up ok d) m (cond ok pass (refuse 6 0 (length p))) (cc)
-      go aFile e = absurd (bot (cc))
-      go aLink e = absurd (bot (cc))
+  allows cl al m (mkdir p up ok d) h = allowed-mkdir t l (mkdir p up ok d) m (length p) ok (kind (shown t l) p) (mkdirParents (shown t l) p up) (charged m (changed t l (mkdir p up ok d)))
+      (ap (λ (x : Check). mkdirAt (length p) ok (kind (shown t l) p) (x then pass)) (agree-mkdir p up) ∙ agree-at p ok (mkdirParents (lookup s) p up then pass) ∙ h)
+      (allowed-charged t l (mkdir p up ok d) m)
   allows cl al m (unlink p) h = allowed-then t l (unlink p) m (unlinkChecks t l p) (charged m (changed t l (unlink p)))
       (allowed-pass t l (unlink p) m (unlinkChecks t l p) (agree-unlink p .1 (then-pass (unlinkChecks [] s p) pass h .0)))
       (allowed-charged t l (unlink p) m)
@@ -410,38 +425,41 @@ module _ (t : Table) (l s : Tree) (g : Sound t l s) where
     | nay e ↦ rw e (ascending-puts (rekey a b (del b s)) (outside a (del b s)) (ascending-outside a (del b s) (ascending-del b s (g .sorted))))
   ]
 
+  -- the directories that mkdir makes are those of the plain tree
+  mkdir-tree : (p : Path) (m : ℕ) → kind (shown t l) p ≡ nothing
+      → (λ (q : Path). over (madeAt m (makes (shown t l) p) q) (shown t l q)) ≡ lookup (cond (isDirectory (kind (lookup s) p)) s (plainMade s p m))
+  mkdir-tree p m e =
+      let k = sym (agree-kind p) ∙ e in
+      let n = p ∷ missing (kind (lookup s)) (ancestors p) in
+      ap (λ (f : View). (λ (q : Path). over (madeAt m (makes f p) q) (f q))) (g .tree)
+      ∙ fun-ext (λ q. ap (λ (ks : List Path). over (madeAt m ks q) (lookup s q)) (makes-all (lookup s) p k)
+      ∙ made-over m (mem q n) (lookup s q) ∙ ap (λ (o : Option Node). orElse o (lookup s q)) (sym (lookup-each (dir m) n q)) ∙ sym (lookup-puts (each (dir m) n) s q))
+      ∙ sym (ap (λ (k : Kind). lookup (cond (isDirectory k) s (plainMade s p m))) k)
+    where
+      makes-all : (f : View) (p : Path) → kind f p ≡ nothing → makes f p ≡ (p ∷ missing (kind f) (ancestors p))
+      makes-all f p e = makes-missing f p e ∙ ap (λ (k : Kind). consIf (isNothing k) p (missing (kind f) (ancestors p))) e
+
+      made-over : (m : ℕ) (b : Bool) (o : Option Node) → over (cond b (some (directory m)) none) o ≡ orElse (cond b (some (dir m)) none) o
+      made-over m true o = refl
+      made-over m false o = refl
+
   mkdir-kept : (p : Path) (up ok : Bool) (m : ℕ) (y : Check) → mkdirAt (length p) ok (kind (shown t l) p) (mkdirParents (shown t l) p up then y) ≡ pass
       → Sound (changed t l (mkdir p up ok m)) l (plainEffect s (mkdir p up ok m))
-  mkdir-kept p up ok m y h = elim (kind-is (kind (shown t l) p)) [
-    | is-nothing e ↦ record {
-      inv = mkdir-inv t l (g .inv) p m e (mkdir-up t l (g .inv) p m (shown t l) up (then-pass (mkdirParents (shown t l) p up) y (cc) .0));
-      tree = tree e;
+  mkdir-kept p up ok m y h = elim (mkdir-met (length p) ok (kind (shown t l) p) (mkdirParents (shown t l) p up then y) h) [
+    | met-nothing e u ↦ record {
+      inv = mkdir-inv t l (g .inv) p m e (mkdir-up t l (g .inv) p m (shown t l) up (then-pass (mkdirParents (shown t l) p up) y u .0));
+      tree = shown-over t (changed t l (mkdir p up ok m)) l (madeAt m (makes (shown t l) p)) (mkdir-lookup t l (g .inv) p m) ∙ mkdir-tree p m e;
       sorted = sort (mkdir p up ok m);
     }
-    | is-directory e ↦ record {
-      inv = subst⁻¹ (λ (x : Table). Inv x l) (cc) (g .inv);
-      tree = ap (λ (x : Table). shown x l) (still e) ∙ g .tree ∙ sym (ap lookup (plain e));
+    | met-directory e u ↦ record {
+      inv = subst⁻¹ (λ (x : Table). Inv x l) (still e) (g .inv);
+      tree = ap (λ (x : Table). shown x l) (still e) ∙ g .tree ∙ sym (ap (λ (k : Kind). lookup (cond (isDirectory k) s (plainMade s p m))) (sym (agree-kind p) ∙ e));
       sorted = sort (mkdir p up ok m);
     }
-    | is-file e ↦ absurd (bot (cc))
-    | is-link′ e ↦ absurd (bot (cc))
   ]
     where
       still : kind (shown t l) p ≡ aDirectory → changed t l (mkdir p up ok m) ≡ t
-      still e = cc
-
-      plain : kind (shown t l) p ≡ aDirectory → plainEffect s (mkdir p up ok m) ≡ s
-      plain e = cc (agree-kind p)
-
-      tree : kind (shown t l) p ≡ nothing → shown (changed t l (mkdir p up ok m)) l ≡ lookup (plainEffect s (mkdir p up ok m))
-      tree e = shown-over t (changed t l (mkdir p up ok m)) l (madeAt m (makes (shown t l) p)) (mkdir-lookup t l (g .inv) p m) ∙ fun-ext (λ q.
-          let k = agree-kind p in
-          let n = p ∷ missing (kind (lookup s)) (ancestors p) in
-          let a = lookup-puts (each (dir m) n) s q in
-          let b = lookup-each (dir m) n q in
-          let v : makes (shown t l) p ≡ n = ap (λ (f : View). makes f p) (g .tree) ∙ cc in
-          let w = ap (λ (f : View). f q) (g .tree) in
-          elim (test (mem q n)) [ yea z ↦ cc | nay z ↦ cc ])
+      still e = ap (λ (ks : List Path). puts (each (directory m) ks) t) (makes-none (shown t l) p e)
 
   -- an accepted call keeps the invariant and the tree
   pub keeps : Held l → Closed (lookup l) → (m : Memory) (c : Call) → rules m t l c ≡ pass → Sound (changed t l c) l (plainEffect s c)

@@ -64,4 +64,4 @@ cases =
 
 pub cases-hold : map computed cases ≡ map stated cases
 unfolding cases
-cases-hold = refl
+cases-hold = refl {a = map stated cases}

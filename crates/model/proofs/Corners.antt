@@ -258,4 +258,4 @@ corners = belows ++ deletions ++ walks ++ links ++ orders ++ smalls ++ queries +
 
 pub corners-hold : map computed corners ≡ map stated corners
 unfolding corners belows deletions walks links orders smalls queries sizes
-corners-hold = refl
+corners-hold = refl {a = map stated corners}

@@ -1,6 +1,6 @@
 -- What an accepted call leaves alone, that it ends within its limit, and that it does to the visible tree what POSIX says.
 -- Assumes nothing.
-use mathlib.Core.Path.{_≡_, refl, ap, _∙_, fun-ext, subst⁻¹}
+use mathlib.Core.Path.{_≡_, refl, ap, sym, _∙_, fun-ext, subst, subst⁻¹}
 use mathlib.Core.Logic.{_⊎_, inl, inr}
 use mathlib.Core.List.{List, [], _∷_, _++_}
 use mathlib.Core.Bool.{Bool, true, false, cond, _&&_, _||_}
@@ -15,18 +15,18 @@ use Rattle.model.specs.Map.{lookup, put, puts, only, each, keys, rekey, 
 use Rattle.model.specs.Tree.{Node, dir, file, link, Entry, own, directory, deleted, Table, Tree, View, shown}
 use Rattle.model.specs.Tree.{Kind, nothing, aDirectory, aLink, kindOf, kind, isNothing, isDirectory}
 use Rattle.model.specs.Table.{charge}
-use Rattle.model.specs.Checks.{Check, pass, _then_, unless, parents, writeChecks, mkdirAt, mkdirParents, makes, unlinkChecks, rmdirChecks}
+use Rattle.model.specs.Checks.{Check, pass, _then_, unless, parents, writeChecks, mkdirAt, mkdirParents, missing, makes, unlinkChecks, rmdirChecks}
 use Rattle.model.specs.Checks.{notRoot, Memory, limited, charged}
 use Rattle.model.specs.Rename.{asEntry, uncovered, along, carried, moved, renameChecks}
 use Rattle.model.specs.Calls.{Call, write, mkdir, unlink, rmdir, rename, changed, rules}
-use Rattle.model.specs.Posix.{Prefixed, Empty, makeDirectory, makeMissing, makeDirectories, MakesDirectories, renameFile, Posix}
+use Rattle.model.specs.Posix.{Prefixed, Empty, makeDirectory, makeMissing, makeDirectories, renameFile, Posix}
 use Rattle.model.specs.Runs.{touches}
 use Rattle.model.proofs.Orders.{split, Split, bot, yea, nay, test, is-none, is-some, opt, mem, mem-ancestors}
-use Rattle.model.proofs.Orders.{rest-is, rest-below, rest-nil, same-refl, same-no}
-use Rattle.model.proofs.Maps.{lookup-put, lookup-puts, lookup-each, lookup-rekey, lookup-keys, lookup-only}
+use Rattle.model.proofs.Orders.{rest-below, rest-nil}
+use Rattle.model.proofs.Maps.{orElse, lookup-put, lookup-puts, lookup-each, lookup-rekey, lookup-keys, lookup-only}
 use Rattle.model.proofs.Invariant.{kind-is, is-nothing, is-directory, is-file, is-link′, Closed, Inv, shown-put, shown-over, kind-at, then-pass, parents-dirs, inv-empty}
-use Rattle.model.proofs.Small.{write-inv, unlink-inv, rmdir-inv, mkdir-inv, mkdir-up, mem-absent, mkdir-lookup, madeAt, unlink-found, rmdir-ok, above-dirs}
-use Rattle.model.proofs.Moves.{Held, RenameOk, moveView, move-inv, move-tree}
+use Rattle.model.proofs.Small.{write-inv, unlink-inv, rmdir-inv, mkdir-inv, mkdir-up, mem-absent, met-nothing, met-directory, mkdir-met, makes-missing, makes-none, not-both, mkdir-lookup, madeAt, unlink-found, rmdir-ok, above-dirs}
+use Rattle.model.proofs.Moves.{Held, RenameOk, moveView, move-inv, move-tree, move-self}
 use Rattle.model.proofs.Rules.{Rules, rules-inv, inv-rules}
 use Rattle.model.proofs.Agree.{rename-ok, pass-at, later}
 
@@ -54,6 +54,14 @@ stays-moved : (c t : Table) (a b k : Path) → lookup c k ≡ none → rest b k 
 stays-moved c t a b k h g =
     cc (lookup-puts (rekey a b c) (puts (each deleted (keys c)) t) k, lookup-puts (each deleted (keys c)) t k, lookup-keys deleted c k, lookup-rekey a b c k)
 
+-- what is neither the path nor a missing ancestor of it is not made
+unmade : (f : View) (p k : Path) → same p k ≡ false → (below k p && isNothing (kind f k)) ≡ false → mem k (makes f p) ≡ false
+unmade f p k x y = elim (test (isNothing (kind f p))) [
+  | nay z ↦ ap (λ (b : Bool). mem k (cond b (missing (kind f) (p ∷ ancestors p)) [])) z
+  | yea z ↦ ap (λ (b : Bool). mem k (cond b (missing (kind f) (p ∷ ancestors p)) [])) z ∙ mem-absent (kind f) (p ∷ ancestors p) k
+      ∙ ap (λ (b : Bool). (b || mem k (ancestors p)) && isNothing (kind f k)) x ∙ ap (λ (b : Bool). b && isNothing (kind f k)) (mem-ancestors p k) ∙ y
+]
+
 module _ (t : Table) (l : Tree) (k : Path) where
   stays-put : (p : Path) (e : Entry) → same p k ≡ false → lookup (put p e t) k ≡ lookup t k
   stays-put p e h = cc (lookup-put p e t k)
@@ -62,16 +70,9 @@ module _ (t : Table) (l : Tree) (k : Path) where
   stays (write p m x) h = stays-put p (own m x) h
   stays (mkdir p up ok m) h =
       let ks = makes (shown t l) p in
-      let a = lookup-puts (each (directory m) ks) t k in
-      let b = lookup-each (directory m) ks k in
       let e = or-false (same p k) (below k p && isNothing (kind (shown t l) k)) h in
-      let n : mem k ks ≡ false = unmade p (e .0) (e .1) in cc
-    where
-      unmade : (p : Path) → same p k ≡ false → (below k p && isNothing (kind (shown t l) k)) ≡ false → mem k (makes (shown t l) p) ≡ false
-      unmade p x y =
-          let w = mem-absent (kind (shown t l)) (p ∷ ancestors p) k in
-          let v = mem-ancestors p k in
-          elim (test (isNothing (kind (shown t l) p))) [ yea z ↦ cc | nay z ↦ cc ]
+      lookup-puts (each (directory m) ks) t k ∙ ap (λ (o : Option Entry). orElse o (lookup t k))
+      (lookup-each (directory m) ks k ∙ ap (λ (b : Bool). cond b (some (directory m)) none) (unmade (shown t l) p k (e .0) (e .1)))
   stays (unlink p) h = stays-put p deleted h
   stays (rmdir p) h = stays-put p deleted h
   stays (rename a b) h =
@@ -86,14 +87,16 @@ module _ (t : Table) (l : Tree) (k : Path) where
 within : (n limit : ℕ) → unless 11 (leb n limit) ≡ pass → n ≤ limit
 within n limit h = elim (test (leb n limit)) [ yea e ↦ leb-true n limit e | nay e ↦ absurd (bot (cc)) ]
 
+-- where the path is a directory mkdir makes nothing
+unchanged : (t : Table) (l : Tree) (p : Path) (m : ℕ) → kind (shown t l) p ≡ aDirectory → puts (each (directory m) (makes (shown t l) p)) t ≡ t
+unchanged t l p m e = ap (λ (ks : List Path). puts (each (directory m) ks) t) (makes-none (shown t l) p e)
+
 module _ (E limit : ℕ) (t : Table) (l : Tree) where
   pub in-limit : (c : Call) → rules (limited E limit) t l c ≡ pass → (charge E (changed t l c) ≤ limit) ⊎ (changed t l c ≡ t)
   in-limit (write p m x) h = inl (within (charge E (changed t l (write p m x))) limit (then-pass (writeChecks (shown t l) p) (charged (limited E limit) (changed t l (write p m x))) h .1))
-  in-limit (mkdir p up ok m) h = elim (kind-is (kind (shown t l) p)) [
-    | is-nothing k ↦ inl (within (charge E (changed t l (mkdir p up ok m))) limit (then-pass (mkdirParents (shown t l) p up) (charged (limited E limit) (changed t l (mkdir p up ok m))) (cc) .1))
-    | is-directory k ↦ inr (cc)
-    | is-file k ↦ absurd (bot (cc))
-    | is-link′ k ↦ absurd (bot (cc))
+  in-limit (mkdir p up ok m) h = elim (mkdir-met (length p) ok (kind (shown t l) p) (mkdirParents (shown t l) p up then charged (limited E limit) (changed t l (mkdir p up ok m))) h) [
+    | met-nothing e u ↦ inl (within (charge E (changed t l (mkdir p up ok m))) limit (then-pass (mkdirParents (shown t l) p up) (charged (limited E limit) (changed t l (mkdir p up ok m))) u .1))
+    | met-directory e u ↦ inr (unchanged t l p m e)
   ]
   in-limit (unlink p) h = inl (within (charge E (changed t l (unlink p))) limit (then-pass (unlinkChecks t l p) (charged (limited E limit) (changed t l (unlink p))) h .1))
   in-limit (rmdir p) h = inl (within (charge E (changed t l (rmdir p))) limit (then-pass (rmdirChecks t l p) (charged (limited E limit) (changed t l (rmdir p))) h .1))
@@ -101,27 +104,41 @@ module _ (E limit : ℕ) (t : Table) (l : Tree) where
 
 -- POSIX
 
+same-is : (a b : Path) → same a b ≡ true → a ≡ b
+same-is a b h = elim (split a b) [ Split.eq e w ↦ e | Split.ne e w ↦ absurd (bot (cc)) ]
+
+same-are : {A : Type 0} (b : Bool) (x : A) → cond b x x ≡ x
+same-are true x = refl
+same-are false x = refl
+
+-- a path that is there is not made, whether or not it is listed: s says that it is the first path, m that it is a later one, n that nothing is there
+not-first : (s m n : Bool) → (s ≡ true → n ≡ false) → (m && n) ≡ ((s || m) && n)
+not-first true true n h = refl
+not-first true false n h = sym (h refl)
+not-first false m n h = refl
+
+-- the first path is made; n′ says that nothing is there thereafter
+made-first : (s m n n′ : Bool) (d o : Option Node) → (s ≡ true → n ≡ true) → (s ≡ false → n′ ≡ n) → cond (m && n′) d (cond s d o) ≡ cond ((s || m) && n) d o
+made-first true m n n′ d o h k = same-are (m && n′) d ∙ sym (ap (λ (b : Bool). cond b d o) (h refl))
+made-first false m n n′ d o h k = ap (λ (b : Bool). cond (m && b) d o) (k refl)
+
 -- mkdir() for each missing path in turn
 made-missing : (m : ℕ) (qs : List Path) (f : View) (x : Path) → makeMissing m qs f x ≡ cond (mem x qs && isNothing (kind f x)) (some (dir m)) (f x)
 made-missing m [] f x = refl
 made-missing m (q ∷ qs) f x = elim (test (isNothing (kind f q))) [
-  | nay e ↦ let ih = made-missing m qs f x in elim (split q x) [
-    | Split.eq a w ↦ elim (test (mem x qs)) [ yea z ↦ cc | nay z ↦ cc ]
-    | Split.ne a w ↦ cc
-  ]
-  | yea e ↦ let ih = made-missing m qs (makeDirectory m q f) x in elim (split q x) [
-    | Split.eq a w ↦ let v = there q e a in elim (test (mem x qs)) [ yea z ↦ cc | nay z ↦ cc ]
-    | Split.ne a w ↦ cc (elsewhere x a)
-  ]
+  | nay e ↦ ap (λ (b : Bool). makeMissing m qs (cond b (makeDirectory m q f) f) x) e ∙ made-missing m qs f x
+      ∙ ap (λ (b : Bool). cond b (some (dir m)) (f x)) (not-first (same q x) (mem x qs) (isNothing (kind f x)) (λ s. there false e (same-is q x s)))
+  | yea e ↦ ap (λ (b : Bool). makeMissing m qs (cond b (makeDirectory m q f) f) x) e ∙ made-missing m qs (makeDirectory m q f) x
+      ∙ made-first (same q x) (mem x qs) (isNothing (kind f x)) (isNothing (kind (makeDirectory m q f) x)) (some (dir m)) (f x)
+      (λ s. there true e (same-is q x s)) (λ s. ap isNothing (elsewhere x s))
 ]
   where
-    there : (q : Path) → isNothing (kind f q) ≡ true → q ≡ x → (isNothing (kind (makeDirectory m q f) x) ≡ false)
-    there [] e a = cc
-    there (c ∷ q) e a = rw (← a) (cc (same-refl (c ∷ q)))
+    there : (b : Bool) → isNothing (kind f q) ≡ b → q ≡ x → isNothing (kind f x) ≡ b
+    there b e a = subst (λ (z : Path). isNothing (kind f z) ≡ b) a e
 
-    elsewhere : (x : Path) → (q ≡ x → ⊥) → kind (makeDirectory m q f) x ≡ kind f x
-    elsewhere [] a = refl
-    elsewhere (c ∷ x) a = cc (same-no q (c ∷ x) a)
+    elsewhere : (x : Path) → same q x ≡ false → kind (makeDirectory m q f) x ≡ kind f x
+    elsewhere [] s = refl
+    elsewhere (c ∷ x) s = ap (λ (b : Bool). kindOf (cond b (some (dir m)) (f (c ∷ x)))) s
 
 mem-end : (x p : Path) (qs : List Path) → mem x (qs ++ (p ∷ [])) ≡ (same p x || mem x qs)
 mem-end x p [] = elim (test (same p x)) [ yea e ↦ cc | nay e ↦ cc ]
@@ -129,6 +146,42 @@ mem-end x p (q ∷ qs) = let ih = mem-end x p qs in elim (test (same q x)) [
   | yea e ↦ elim (test (same p x)) [ yea g ↦ cc | nay g ↦ cc ]
   | nay e ↦ cc
 ]
+
+and-not : (a b : Bool) → (a ≡ true → b ≡ false) → (a && b) ≡ false
+and-not true b h = h refl
+and-not false b h = refl
+
+just-first : (a b n : Bool) → (a ≡ true → n ≡ true) → (b ≡ true → n ≡ false) → ((a || b) && n) ≡ a
+just-first true b n h k = h refl
+just-first false true n h k = k refl
+just-first false false n h k = refl
+
+-- a tree g that shows directories made at the missing paths is the one that mkdir -p makes, and where no parent is missing the one that mkdir() makes
+module _ (f g : View) (m : ℕ) (p : Path) (made : (q : Path) → g q ≡ cond (mem q (makes f p)) (some (dir m)) (f q)) where
+  made-so : (q : Path) (b : Bool) → mem q (makes f p) ≡ b → g q ≡ cond b (some (dir m)) (f q)
+  made-so q b e = made q ∙ ap (λ (c : Bool). cond c (some (dir m)) (f q)) e
+
+  made-up : kind f p ≡ nothing → (q : Path) → g q ≡ makeDirectories m p f q
+  made-up e q = made-so q (mem q (ancestors p ++ (p ∷ [])) && isNothing (kind f q))
+      (ap (mem q) (makes-missing f p e) ∙ mem-absent (kind f) (p ∷ ancestors p) q ∙ sym (ap (λ (b : Bool). b && isNothing (kind f q)) (mem-end q p (ancestors p))))
+      ∙ sym (made-missing m (ancestors p ++ (p ∷ [])) f q)
+
+  -- a directory that is there stands in directories: none is missing
+  made-there : kind f p ≡ aDirectory → Prefixed f p → (q : Path) → g q ≡ makeDirectories m p f q
+  made-there e c q = made-so q (mem q (ancestors p ++ (p ∷ [])) && isNothing (kind f q))
+      (ap (mem q) (makes-none f p e) ∙ sym (and-not (mem q (ancestors p ++ (p ∷ []))) (isNothing (kind f q)) (λ z. ap isNothing (here (sym (mem-end q p (ancestors p)) ∙ z)))))
+      ∙ sym (made-missing m (ancestors p ++ (p ∷ [])) f q)
+    where
+      here : (same p q || mem q (ancestors p)) ≡ true → kind f q ≡ aDirectory
+      here z = elim (split p q) [
+        | Split.eq x w ↦ subst (λ (k : Path). kind f k ≡ aDirectory) x e
+        | Split.ne x w ↦ c q (sym (mem-ancestors p q) ∙ sym (ap (λ (b : Bool). b || mem q (ancestors p)) w) ∙ z)
+      ]
+
+  made-one : kind f p ≡ nothing → Prefixed f p → (q : Path) → g q ≡ makeDirectory m p f q
+  made-one e c q = made-so q (same p q) (ap (mem q) (makes-missing f p e) ∙ mem-absent (kind f) (p ∷ ancestors p) q ∙ just-first (same p q) (mem q (ancestors p)) (isNothing (kind f q))
+      (λ s. ap isNothing (subst (λ (k : Path). kind f k ≡ nothing) (same-is p q s) e))
+      (λ s. ap isNothing (c q (sym (mem-ancestors p q) ∙ s))))
 
 module _ (t : Table) (l : Tree) (i : Inv t l) where
   -- what is visible has directories above it
@@ -140,6 +193,9 @@ module _ (t : Table) (l : Tree) (i : Inv t l) where
       no-root (c ∷ q) b = bot (cc)
   prefixed (c ∷ p) h q b = elim (opt (shown t l (c ∷ p))) [ is-none e ↦ absurd (h (cc)) | is-some n e ↦ i .closed q (c ∷ p) n b e ]
 
+  in-directories : (p : Path) → kind (shown t l) p ≡ aDirectory → Prefixed (shown t l) p
+  in-directories p e = prefixed p (not-both (kind (shown t l) p) e)
+
   -- the tree after directories were made at the missing paths
   made-shown : (p : Path) (up ok : Bool) (m : ℕ) (q : Path) → shown (changed t l (mkdir p up ok m)) l q ≡ cond (mem q (makes (shown t l) p)) (some (dir m)) (shown t l q)
   made-shown p up ok m q =
@@ -149,72 +205,29 @@ module _ (t : Table) (l : Tree) (i : Inv t l) where
 
   posix-mkdir : (p : Path) (up ok : Bool) (m : ℕ) (y : Check) → mkdirAt (length p) ok (kind (shown t l) p) (mkdirParents (shown t l) p up then y) ≡ pass
       → Posix (shown t l) (shown (changed t l (mkdir p up ok m)) l) (mkdir p up ok m)
-  posix-mkdir p true ok m y h = (
-    may,
-    fun-ext (λ q.
-        let a = made-shown p true ok m q in
-        let b = made-missing m (ancestors p ++ (p ∷ [])) (shown t l) q in
-        let c = mem-end q p (ancestors p) in
-        let d = mem-absent (kind (shown t l)) (p ∷ ancestors p) q in
-        let v = mem-ancestors p q in
-        elim (kind-is (kind (shown t l) p)) [
-          | is-nothing e ↦ cc
-          | is-directory e ↦ here q e
-          | is-file e ↦ absurd (bot (cc))
-          | is-link′ e ↦ absurd (bot (cc))
-        ]),
-  )
+  posix-mkdir p true ok m y h = elim (mkdir-met (length p) ok (kind (shown t l) p) (mkdirParents (shown t l) p true then y) h) [
+    | met-nothing e u ↦ (
+      record {
+        prefixed = λ q b n. elim (mkdir-up t l i p m (shown t l) true (then-pass (mkdirParents (shown t l) p true) y u .0) q b) [ inl d ↦ d | inr d ↦ absurd (n d) ];
+        directory = λ n. absurd (n e);
+      },
+      fun-ext (made-up (shown t l) (shown (changed t l (mkdir p true ok m)) l) m p (made-shown p true ok m) e),
+    )
+    | met-directory e u ↦ (
+      record { prefixed = λ q b n. in-directories p e q b; directory = λ n. e },
+      fun-ext (made-there (shown t l) (shown (changed t l (mkdir p true ok m)) l) m p (made-shown p true ok m) e (in-directories p e)),
+    )
+  ]
+  posix-mkdir p false ok m y h = elim (mkdir-met (length p) ok (kind (shown t l) p) (mkdirParents (shown t l) p false then y) h) [
+    | met-nothing e u ↦ let up = above p y u in (
+      λ d. absurd (not-both (kind (shown t l) p) d e),
+      λ n. (record { prefixed = up; absent = e }, fun-ext (made-one (shown t l) (shown (changed t l (mkdir p false ok m)) l) m p (made-shown p false ok m) e up)),
+    )
+    | met-directory e u ↦ (λ d. (u, ap (λ (x : Table). shown x l) (unchanged t l p m e)), λ n. absurd (n e))
+  ]
     where
-      -- what is there on the way is a directory
-      may : MakesDirectories (shown t l) p
-      may = record {
-        prefixed = λ q b n. elim (kind-is (kind (shown t l) p)) [
-          | is-nothing e ↦ elim (mkdir-up t l i p m (shown t l) true (then-pass (mkdirParents (shown t l) p true) y (cc) .0) q b) [
-            | inl d ↦ d
-            | inr d ↦ absurd (n d)
-          ]
-          | is-directory e ↦ prefixed p (λ k. bot (cc)) q b
-          | is-file e ↦ cc
-          | is-link′ e ↦ cc
-        ];
-        directory = λ n. elim (kind-is (kind (shown t l) p)) [ is-nothing e ↦ absurd (n e) | is-directory e ↦ e | is-file e ↦ cc | is-link′ e ↦ cc ];
-      }
-
-      -- a directory that is there stands in directories: none is missing
-      here : (q : Path) → kind (shown t l) p ≡ aDirectory → shown (changed t l (mkdir p true ok m)) l q ≡ makeDirectories m p (shown t l) q
-      here q e =
-          let a = made-shown p true ok m q in
-          let b = made-missing m (ancestors p ++ (p ∷ [])) (shown t l) q in
-          let c = mem-end q p (ancestors p) in
-          let v = mem-ancestors p q in
-          elim (split p q) [
-            | Split.eq x w ↦ cc
-            | Split.ne x w ↦ elim (test (below q p)) [ yea z ↦ cc (prefixed p (λ k. bot (cc)) q z) | nay z ↦ cc ]
-          ]
-  posix-mkdir p false ok m y h = (
-    λ e. (asked e, ap (λ (x : Table). shown x l) (still e)),
-    λ n. let k = gone n in let u = then-pass (parents 0 (shown t l) p) y (cc) in
-        (record { prefixed = λ q b. parents-dirs 0 (length p) (kind (shown t l)) p q (u .0) b; absent = k }, fun-ext (λ q. one q k (u .0))),
-  )
-    where
-      still : kind (shown t l) p ≡ aDirectory → changed t l (mkdir p false ok m) ≡ t
-      still e = cc
-
-      asked : kind (shown t l) p ≡ aDirectory → ok ≡ true
-      asked e = elim (test ok) [ yea z ↦ z | nay z ↦ cc ]
-
-      gone : (kind (shown t l) p ≡ aDirectory → ⊥) → kind (shown t l) p ≡ nothing
-      gone n = elim (kind-is (kind (shown t l) p)) [ is-nothing e ↦ e | is-directory e ↦ absurd (n e) | is-file e ↦ cc | is-link′ e ↦ cc ]
-
-      one : (q : Path) → kind (shown t l) p ≡ nothing → parents 0 (shown t l) p ≡ pass → shown (changed t l (mkdir p false ok m)) l q ≡ makeDirectory m p (shown t l) q
-      one q k u =
-          let a = made-shown p false ok m q in
-          let d = mem-absent (kind (shown t l)) (p ∷ ancestors p) q in
-          let v = mem-ancestors p q in
-          elim (split p q) [
-            | Split.eq x w ↦ cc
-            | Split.ne x w ↦ elim (test (below q p)) [ yea z ↦ cc (parents-dirs 0 (length p) (kind (shown t l)) p q u z) | nay z ↦ cc ]
-          ]
+      above : (p : Path) (y : Check) → (parents 0 (shown t l) p then y) ≡ pass → Prefixed (shown t l) p
+      above p y u q b = parents-dirs 0 (length p) (kind (shown t l)) p q (then-pass (parents 0 (shown t l) p) y u .0) b
 
   posix-unlink : (p : Path) → unlinkChecks t l p ≡ pass → Posix (shown t l) (shown (put p deleted t) l) (unlink p)
   posix-unlink p h = let k = unlink-found t l i p h in (
@@ -275,8 +288,8 @@ module _ (t : Table) (l : Tree) (i : Inv t l) where
 
       same-move : (q : Path) → moveView a b (shown t l) q ≡ renameFile a b (shown t l) q
       same-move q = elim (split a b) [
-        | Split.ne e w ↦ cc
-        | Split.eq e w ↦ elim (opt (rest b q)) [ is-none r ↦ cc | is-some s r ↦ cc (rest-is b q s r .0) ]
+        | Split.ne e w ↦ sym (ap (λ (c : Bool). cond c (shown t l q) (moveView a b (shown t l) q)) w)
+        | Split.eq e w ↦ ap (λ (p : Path). moveView a p (shown t l) q) (sym e) ∙ move-self (shown t l) a q ∙ sym (ap (λ (c : Bool). cond c (shown t l q) (moveView a b (shown t l) q)) w)
       ]
 
   -- an accepted call does to the visible tree what the standard says
@@ -291,11 +304,9 @@ module _ (t : Table) (l : Tree) (i : Inv t l) where
 module _ (t : Table) (l : Tree) (hl : Held l) (cl : Closed (lookup l)) where
   inv-kept : Inv t l → (m : Memory) (c : Call) → rules m t l c ≡ pass → Inv (changed t l c) l
   inv-kept i m (write p d x) h = write-inv t l i p d x (then-pass (writeChecks (shown t l) p) (charged m (changed t l (write p d x))) h .0)
-  inv-kept i m (mkdir p up ok d) h = elim (kind-is (kind (shown t l) p)) [
-    | is-nothing e ↦ mkdir-inv t l i p d e (mkdir-up t l i p d (shown t l) up (then-pass (mkdirParents (shown t l) p up) (charged m (changed t l (mkdir p up ok d))) (cc) .0))
-    | is-directory e ↦ subst⁻¹ (λ (x : Table). Inv x l) (cc) i
-    | is-file e ↦ absurd (bot (cc))
-    | is-link′ e ↦ absurd (bot (cc))
+  inv-kept i m (mkdir p up ok d) h = elim (mkdir-met (length p) ok (kind (shown t l) p) (mkdirParents (shown t l) p up then charged m (changed t l (mkdir p up ok d))) h) [
+    | met-nothing e u ↦ mkdir-inv t l i p d e (mkdir-up t l i p d (shown t l) up (then-pass (mkdirParents (shown t l) p up) (charged m (changed t l (mkdir p up ok d))) u .0))
+    | met-directory e u ↦ subst⁻¹ (λ (x : Table). Inv x l) (unchanged t l p d e) i
   ]
   inv-kept i m (unlink p) h = unlink-inv t l i p (then-pass (unlinkChecks t l p) (charged m (changed t l (unlink p))) h .0)
   inv-kept i m (rmdir p) h = rmdir-inv t l i p (then-pass (rmdirChecks t l p) (charged m (changed t l (rmdir p))) h .0)

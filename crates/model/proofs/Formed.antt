@@ -4,32 +4,33 @@
 use mathlib.Core.Path.{_≡_, refl, ap, sym, subst, _∙_}
 use mathlib.Core.List.{List, [], _∷_, _++_}
 use mathlib.Core.Bool.{Bool, true, false, cond, _&&_}
-use mathlib.Core.Option.{none, some}
+use mathlib.Core.Logic.{_⊎_, inl, inr}
+use mathlib.Core.Option.{Option, none, some}
 use Prim.Native.Nat.{ℕ, zero, suc, _+_, _^_, _<_}
 use native.Mathlib.Nat.{pow-succ'}
 use native.Mathlib.Omega.{arith}
 use lib.Dec.{ltb, eqb}
 use lib.ListN.{length, take, drop}
 use borrow.Author.Tests.{lt-ltb}
-use Rattle.model.specs.Bytes.{Bytes, every, number}
+use Rattle.model.specs.Bytes.{Bytes, every, number, same}
 use Rattle.model.specs.Path.{Path, short, isPath, ancestors, below, rest}
-use Rattle.model.specs.Map.{Map, lookup, ascends, put, puts, only, each, keys, rekey, mapped}
+use Rattle.model.specs.Map.{Map, byRest, lookup, ascends, put, puts, only, each, keys, rekey, mapped}
 use Rattle.model.specs.Tree.{Body, listed, Node, dir, file, link, Entry, own, directory, deleted, Table, Tree, View, shown}
 use Rattle.model.specs.Tree.{Kind, nothing, aDirectory, aFile, aLink, kind, isNothing, isDirectory}
 use Rattle.model.specs.Listing.{ListingRecord, recordAt, recordEnd, recordCount, filled, recordsFrom, records, headed, ruled, nodeOf}
 use Rattle.model.specs.Listing.{treeFrom, treeIn, placed, formedRecord, isListing}
 use Rattle.model.specs.Table.{formedBody, formedEntry}
-use Rattle.model.specs.Checks.{pass, refuse, unless, form, parents, writeChecks, missing, makes, unlinkChecks, notRoot, empty, rmdirChecks}
+use Rattle.model.specs.Checks.{pass, unless, form, writeChecks, missing, makes, unlinkChecks, notRoot, rmdirChecks}
 use Rattle.model.specs.Checks.{limited, charged}
-use Rattle.model.specs.Rename.{asEntry, uncovered, along, carried, moved, keysFit}
-use Rattle.model.specs.Rename.{notLink, notDeleted, noClash, ifDirectory, present, plan, budget, walked, walkFrom, renameChecks}
+use Rattle.model.specs.Rename.{asEntry, uncovered, along, carried, moved, renameChecks}
 use Rattle.model.specs.Calls.{Call, write, mkdir, unlink, rmdir, rename, changed, forms, rules}
 use Rattle.model.proofs.Orders.{bot, yea, nay, test, and-true, is-none, is-some, opt, eqb-eq, same-refl, Split, split}
 use Rattle.model.proofs.Orders.{Lt, mem, mem-ancestors, rest-is}
 use Rattle.model.proofs.Maps.{Above, Ascending, lookup-low, ascends-is, is-ascends, ascending-put, ascending-puts}
-use Rattle.model.proofs.Maps.{lookup-put, lookup-puts, lookup-each, lookup-keys, lookup-mapped, lookup-only, lookup-rekey}
+use Rattle.model.proofs.Maps.{orElse, mapO, lookup-put, lookup-puts, lookup-each, lookup-keys, lookup-mapped, lookup-only, lookup-rekey}
 use Rattle.model.proofs.Invariant.{Closed, then-pass}
 use Rattle.model.proofs.Moves.{Held}
+use Rattle.model.proofs.Agree.{pass-at, later}
 use Rattle.model.proofs.Words.{Word, Worded, Words, WordedCall, IsBytes}
 use Rattle.model.proofs.Texts.{path-ancestor, path-moved}
 
@@ -79,26 +80,37 @@ pub fine-is : (t : Table) → FineTable t → (ascends [] t ≡ true) × (every 
 fine-is t f = let h = formed-all t f in (is-ascends [] t (above-root t f) (f .sorted), h .0, h .1)
 
 -- what a test over a map, its keys or its entries says of what is found
+-- what a lookup found: at the first path, or behind it
+module _ {A : Type 0} (x v : A) (b : Bool) (o : Option A) where
+  found-here : b ≡ true → cond b (some x) o ≡ some v → x ≡ v
+  found-here w h = cc
+
+  found-later : b ≡ false → cond b (some x) o ≡ some v → o ≡ some v
+  found-later w h = sym (ap (λ (c : Bool). cond c (some x) o) w) ∙ h
+
 every-found : {A : Type 0} (f : Path × A → Bool) (m : Map A) (k : Path) (v : A) → every f m ≡ true → lookup m k ≡ some v → f (k, v) ≡ true
 every-found f [] k v h g = cc
 every-found f (x ∷ xs) k v h g =
     let e = and-true (f x) (every f xs) h in
     elim (split (x .0) k) [
-      | Split.eq a w ↦ let b : x .1 ≡ v = cc in ap f (λ i. (sym a i, sym b i)) ∙ e .0
-      | Split.ne a w ↦ every-found f xs k v (e .1) (cc)
+      | Split.eq a w ↦ let b = found-here (x .1) v (same (x .0) k) (lookup xs k) w g in ap f (λ i. (sym a i, sym b i)) ∙ e .0
+      | Split.ne a w ↦ every-found f xs k v (e .1) (found-later (x .1) v (same (x .0) k) (lookup xs k) w g)
     ]
 
 every-key : {A : Type 0} (f : Path → Bool) (m : Map A) (k : Path) (v : A) → every f (keys m) ≡ true → lookup m k ≡ some v → f k ≡ true
 every-key f [] k v h g = cc
 every-key f (x ∷ xs) k v h g =
     let e = and-true (f (x .0)) (every f (keys xs)) h in
-    elim (split (x .0) k) [ Split.eq a w ↦ cc (e .0) | Split.ne a w ↦ every-key f xs k v (e .1) (cc) ]
+    elim (split (x .0) k) [
+      | Split.eq a w ↦ sym (ap f a) ∙ e .0
+      | Split.ne a w ↦ every-key f xs k v (e .1) (found-later (x .1) v (same (x .0) k) (lookup xs k) w g)
+    ]
 
 word-found : (t : Table) (k : Path) (e : Entry) → Words t → lookup t k ≡ some e → Worded e
 word-found [] k e w h = absurd (bot (cc))
 word-found (x ∷ xs) k e w h = elim (split (x .0) k) [
-  | Split.eq a b ↦ let c : x .1 ≡ e = cc in subst Worded c (w .0)
-  | Split.ne a b ↦ word-found xs k e (w .1) (cc)
+  | Split.eq a b ↦ subst Worded (found-here (x .1) e (same (x .0) k) (lookup xs k) b h) (w .0)
+  | Split.ne a b ↦ word-found xs k e (w .1) (found-later (x .1) e (same (x .0) k) (lookup xs k) b h)
 ]
 
 pub is-fine : (t : Table) → ascends [] t ≡ true → every formedEntry t ≡ true → Words t → FineTable t
@@ -164,8 +176,8 @@ record Source (l : Tree) (k : Path) (n : Node) : Type 0 where
 source : (l : Tree) (rs : List ListingRecord) → AllSound l rs → (k : Path) (n : Node) → lookup (treeFrom rs) k ≡ some n → Source l k n
 source l [] a k n h = absurd (bot (cc))
 source l (r ∷ rs) a k n h = elim (split (r .path) k) [
-  | Split.eq e w ↦ record { from = r; sound = a .0; place = e; node = cc }
-  | Split.ne e w ↦ source l rs (a .1) k n (cc)
+  | Split.eq e w ↦ record { from = r; sound = a .0; place = e; node = found-here (nodeOf r) n (same (r .path) k) (lookup (treeFrom rs) k) w h }
+  | Split.ne e w ↦ source l rs (a .1) k n (found-later (nodeOf r) n (same (r .path) k) (lookup (treeFrom rs) k) w h)
 ]
 
 -- a record's node, by its type
@@ -334,51 +346,53 @@ mkdir-fine t f p m i w h = fine-puts (each (directory m) (makes f p)) t i (λ k 
 delete-fine : (t : Table) (p : Path) → FineTable t → isPath p ≡ true → (p ≡ [] → ⊥) → FineTable (put p deleted t)
 delete-fine t p f h r = fine-put t p deleted f (record { key = h; proper = r; body = refl; word = tt })
 
+-- where what was found comes from
+some-if : {A : Type 0} (b : Bool) (o : Option A) (v : A) → cond b o none ≡ some v → o ≡ some v
+some-if true o v h = h
+some-if false o v h = cc
+
+some-only : {A : Type 0} (f : Path → Bool) (m : Map A) (k : Path) (v : A) → lookup (only f m) k ≡ some v → lookup m k ≡ some v
+some-only f m k v h = some-if (f k) (lookup m k) v (sym (lookup-only f m k) ∙ h)
+
+some-else : {A : Type 0} (x y : Option A) (v : A) → orElse x y ≡ some v → (x ≡ some v) ⊎ (y ≡ some v)
+some-else none y v h = inr h
+some-else (some a) y v h = inl h
+
+some-mapped : {A B : Type 0} (f : A → B) (o : Option A) (v : B) → mapO f o ≡ some v → (x : A) × (o ≡ some x) × (f x ≡ v)
+some-mapped f none v h = absurd (bot (cc))
+some-mapped f (some x) v h = (x, refl, cc)
+
+some-rest : {A : Type 0} (o : Option Path) (g : Path → Option A) (v : A) → byRest o g none ≡ some v → (s : Path) × (o ≡ some s) × (g s ≡ some v)
+some-rest none g v h = absurd (bot (cc))
+some-rest (some s) g v h = (s, refl, h)
+
 -- each entry that rename carries is the table's or a listed node's
 module _ (t : Table) (l : Tree) (f : FineTable t) (g : Listing l) (a : Path) where
   carried-fine : (k : Path) (e : Entry) → lookup (carried t l a) k ≡ some e → Fine k e
   carried-fine k e h =
       let m = mapped asEntry (only (uncovered t a) l) in
-      let w = lookup-only (along (kind (shown t l) a) a) (puts t m) k in
-      let u = lookup-puts t m k in
-      let v = lookup-mapped asEntry (only (uncovered t a) l) k in
-      let x = lookup-only (uncovered t a) l k in
-      elim (test (along (kind (shown t l) a) a k)) [
-        | nay y ↦ absurd (bot (cc))
-        | yea y ↦ elim (opt (lookup t k)) [
-          | is-some z i ↦ f .fine k e (cc)
-          | is-none i ↦ elim (test (uncovered t a k)) [
-            | nay z ↦ absurd (bot (cc))
-            | yea z ↦ elim (opt (lookup l k)) [
-              | is-none j ↦ absurd (bot (cc))
-              | is-some n j ↦ let d : asEntry n ≡ e = cc in let r = g .fine k n j .entry in rw d at r
-            ]
-          ]
-        ]
+      elim (some-else (lookup t k) (lookup m k) e (sym (lookup-puts t m k) ∙ some-only (along (kind (shown t l) a) a) (puts t m) k e h)) [
+        | inl z ↦ f .fine k e z
+        | inr z ↦ let x = some-mapped asEntry (lookup (only (uncovered t a) l) k) e (sym (lookup-mapped asEntry (only (uncovered t a) l) k) ∙ z) in
+            subst (Fine k) (x .2) (g .fine k (x .0) (some-only (uncovered t a) l k (x .0) (x .1)) .entry)
       ]
 
   gone-fine : (k : Path) (e : Entry) → lookup (each deleted (keys (carried t l a))) k ≡ some e → Fine k e
-  gone-fine k e h = let w = lookup-keys deleted (carried t l a) k in elim (opt (lookup (carried t l a) k)) [
-    | is-none u ↦ absurd (bot (cc))
-    | is-some x u ↦
-        let c = carried-fine k x u in
-        let d : deleted ≡ e = cc in
-        let r : Fine k deleted = record { key = c .key; proper = c .proper; body = refl; word = tt } in
-        rw d at r
-  ]
+  gone-fine k e h =
+      let x = some-mapped (λ (y : Entry). deleted) (lookup (carried t l a) k) e (sym (lookup-keys deleted (carried t l a) k) ∙ h) in
+      let c = carried-fine k (x .0) (x .1) in
+      subst (Fine k) (x .2) (record { key = c .key; proper = c .proper; body = refl; word = tt })
 
   module _ (b : Path) (ha : isPath a ≡ true) (hb : isPath b ≡ true) (na : a ≡ [] → ⊥) (nb : b ≡ [] → ⊥)
       (fit : every short (keys (rekey a b (carried t l a))) ≡ true) where
     moved-fine : (k : Path) (e : Entry) → lookup (rekey a b (carried t l a)) k ≡ some e → Fine k e
-    moved-fine k e h = let w = lookup-rekey a b (carried t l a) k in elim (opt (rest b k)) [
-      | is-none u ↦ absurd (bot (cc))
-      | is-some s u ↦
-          let i = rest-is b k s u in
-          let c = carried-fine (a ++ s) e (cc) in
-          let v = every-key short (rekey a b (carried t l a)) k e fit h in
-          let p : isPath k ≡ true = ap isPath (i .0) ∙ path-moved a b s (c .key) (i .1) ha hb nb na (cc (i .0)) in
-          record { key = p; proper = λ z. nb (front b s (sym (i .0) ∙ z)); body = c .body; word = c .word }
-    ]
+    moved-fine k e h =
+        let u = some-rest (rest b k) (λ s. lookup (carried t l a) (a ++ s)) e (sym (lookup-rekey a b (carried t l a) k) ∙ h) in
+        let i = rest-is b k (u .0) (u .1) in
+        let c = carried-fine (a ++ u .0) e (u .2) in
+        let v = every-key short (rekey a b (carried t l a)) k e fit h in
+        let p : isPath k ≡ true = ap isPath (i .0) ∙ path-moved a b (u .0) (c .key) (i .1) ha hb nb na (sym (ap short (i .0)) ∙ v) in
+        record { key = p; proper = λ z. nb (front b (u .0) (sym (i .0) ∙ z)); body = c .body; word = c .word }
       where
         front : (x y : Path) → x ++ y ≡ [] → x ≡ []
         front [] y z = refl
@@ -393,24 +407,11 @@ module _ (t : Table) (l : Tree) (f : FineTable t) (g : Listing l) (a : Path) whe
 module _ (E limit : ℕ) (t : Table) (l : Tree) (a b : Path) where
   rename-says : renameChecks (limited E limit) t l a b ≡ pass
       → (a ≡ [] → ⊥) × (b ≡ [] → ⊥) × (every short (keys (rekey a b (carried t l a))) ≡ true)
-  rename-says h =
-      let m = limited E limit in
-      let f = shown t l in
-      let h₁ = then-pass (notRoot 0 a) _ h in
-      let h₂ = then-pass (notRoot 1 b) _ (h₁ .1) in
-      let h₃ = then-pass (parents 1 f b) _ (h₂ .1) in
-      let h₄ = then-pass (notLink 1 (length b) (kind f b)) _ (h₃ .1) in
-      let h₅ = then-pass (parents 0 f a) _ (h₄ .1) in
-      let h₆ = then-pass (notDeleted (length a) (lookup t a)) _ (h₅ .1) in
-      let h₇ = then-pass (notLink 0 (length a) (kind f a)) _ (h₆ .1) in
-      let h₈ = then-pass (noClash (length b) (kind f a) (kind f b)) _ (h₇ .1) in
-      let h₉ = then-pass (ifDirectory (kind f a) (ifDirectory (kind f b) (empty 1 t l b))) _ (h₈ .1) in
-      let h₁₀ = then-pass (cond (below a b) (refuse 10 0 (length a)) pass) _ (h₉ .1) in
-      let h₁₁ = then-pass (present (length a) (kind f a)) _ (h₁₀ .1) in
-      let h₁₂ = then-pass (ifDirectory (kind f a) (plan m t a b)) _ (h₁₁ .1) in
-      let h₁₃ = then-pass (ifDirectory (kind f a) (ifDirectory (kind (lookup l) a) (walked (length a) (walkFrom t l (budget m t a b) a)))) _ (h₁₂ .1) in
-      let h₁₄ = then-pass (charged m (moved t l a b)) (keysFit m (rekey a b (carried t l a))) (h₁₃ .1) in
-      (proper-path 0 a (h₁ .0), proper-path 1 b (h₂ .0), unless-true 12 (every short (keys (rekey a b (carried t l a)))) (h₁₄ .1))
+  rename-says h = let m = limited E limit in (
+    proper-path 0 a (pass-at 0 (notRoot 0 a) (later m t l a b) h),
+    proper-path 1 b (pass-at 1 (notRoot 0 a) (later m t l a b) h),
+    unless-true 12 (every short (keys (rekey a b (carried t l a)))) (pass-at 14 (notRoot 0 a) (later m t l a b) h),
+  )
     where
       unless-true : (n : ℕ) (x : Bool) → unless n x ≡ pass → x ≡ true
       unless-true n true g = refl

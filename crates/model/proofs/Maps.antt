@@ -1,8 +1,8 @@
 -- Laws of finite maps: what is found at a path after each operation, and that ascending maps with the same findings are equal.
 -- Assumes nothing.
-use mathlib.Core.Path.{_≡_, refl, ap₂, sym, _∙_}
+use mathlib.Core.Path.{_≡_, refl, ap, ap₂, sym, _∙_}
 use mathlib.Core.List.{List, [], _∷_, _++_}
-use mathlib.Core.Bool.{Bool, true, cond}
+use mathlib.Core.Bool.{Bool, true, false, cond, _||_}
 use mathlib.Core.Option.{Option, none, some}
 use Rattle.model.specs.Bytes.{same, before}
 use Rattle.model.specs.Path.{Path, rest}
@@ -109,7 +109,11 @@ module _ {A : Type 0} where
 
   pub lookup-each : (v : A) (ks : List Path) (q : Path) → lookup (each v ks) q ≡ cond (mem q ks) (some v) none
   lookup-each v [] q = refl
-  lookup-each v (k ∷ ks) q = let ih = lookup-each v ks q in elim (split k q) [ Split.eq e w ↦ cc | Split.ne n w ↦ cc ]
+  lookup-each v (k ∷ ks) q = ap (cond (same k q) (some v)) (lookup-each v ks q) ∙ either (same k q) (mem q ks) (some v)
+    where
+      either : (b c : Bool) (o : Option A) → cond b o (cond c o none) ≡ cond (b || c) o none
+      either true c o = refl
+      either false c o = refl
 
   pub lookup-outside : (a : Path) (xs : Map A) (q : Path) → lookup (outside a xs) q ≡ byRest (rest a q) (λ s. none) (lookup xs q)
   lookup-outside a [] q = elim (opt (rest a q)) [ is-none e ↦ cc | is-some s e ↦ cc ]
@@ -151,13 +155,17 @@ mapO f none = none
 mapO f (some a) = some (f a)
 
 module _ {A B : Type 0} where
+  outward : (f : A → B) (b : Bool) (a : A) (o : Option A) → cond b (some (f a)) (mapO f o) ≡ mapO f (cond b (some a) o)
+  outward f true a o = refl
+  outward f false a o = refl
+
   pub lookup-keys : (v : B) (xs : Map A) (q : Path) → lookup (each v (keys xs)) q ≡ mapO (λ x. v) (lookup xs q)
   lookup-keys v [] q = refl
-  lookup-keys v (x ∷ xs) q = let ih = lookup-keys v xs q in elim (split (x .0) q) [ Split.eq e w ↦ cc | Split.ne e w ↦ cc ]
+  lookup-keys v (x ∷ xs) q = ap (cond (same (x .0) q) (some v)) (lookup-keys v xs q) ∙ outward (λ y. v) (same (x .0) q) (x .1) (lookup xs q)
 
   pub lookup-mapped : (f : A → B) (xs : Map A) (q : Path) → lookup (mapped f xs) q ≡ mapO f (lookup xs q)
   lookup-mapped f [] q = refl
-  lookup-mapped f (x ∷ xs) q = let ih = lookup-mapped f xs q in elim (split (x .0) q) [ Split.eq e w ↦ cc | Split.ne e w ↦ cc ]
+  lookup-mapped f (x ∷ xs) q = ap (cond (same (x .0) q) (some (f (x .1)))) (lookup-mapped f xs q) ∙ outward f (same (x .0) q) (x .1) (lookup xs q)
 
 module _ {A : Type 0} where
   pub lookup-only : (P : Path → Bool) (xs : Map A) (q : Path) → lookup (only P xs) q ≡ cond (P q) (lookup xs q) none

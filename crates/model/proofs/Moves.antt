@@ -1,22 +1,22 @@
 -- rename keeps the invariant and moves what is visible; what its checks say of what is visible.
 -- Assumes nothing.
-use mathlib.Core.Path.{_≡_, refl, sym, _∙_, fun-ext, subst, subst⁻¹}
+use mathlib.Core.Path.{_≡_, refl, ap, ap₂, sym, _∙_, fun-ext, subst, subst⁻¹}
 use mathlib.Core.Logic.{_⊎_, inl, inr}
 use mathlib.Core.List.{List, [], _∷_, _++_, append-nil}
-use mathlib.Core.Bool.{true, false, cond, not, _||_}
+use mathlib.Core.Bool.{Bool, true, false, cond, not, _&&_, _||_}
 use mathlib.Core.Option.{Option, none, some}
 use Prim.Native.Nat.{ℕ}
 use Rattle.model.specs.Bytes.{every, same}
 use Rattle.model.specs.Path.{Path, below, ancestors, rest}
 use Rattle.model.specs.Map.{isNone, byRest, lookup, del, puts, only, each, keys, rekey, outside, mapped}
 use Rattle.model.specs.Tree.{Body, listed, Node, dir, file, link, Entry, reference, directory, deleted, Table, Tree, View, view, over, shown}
-use Rattle.model.specs.Tree.{nothing, aDirectory, aFile, aLink, kindOf, kind, isDirectory}
+use Rattle.model.specs.Tree.{Kind, nothing, aDirectory, aFile, aLink, kindOf, kind, isDirectory}
 use Rattle.model.specs.Checks.{pass, notRoot}
 use Rattle.model.specs.Rename.{asEntry, uncovered, along, carried, moved}
 use Rattle.model.specs.Plain.{plainMove}
 use Rattle.model.proofs.Orders.{split, Split, same-no, same-refl, bot, yea, nay, test, is-none, is-some, opt, mem, mem-ancestors}
 use Rattle.model.proofs.Orders.{rest-is, rest-app, rest-self, below-rest, rest-below, rest-nil, inside-down, below-split, below-moved}
-use Rattle.model.proofs.Maps.{orElse, mapO, lookup-puts, lookup-rekey, lookup-outside, lookup-del, lookup-keys, lookup-mapped, lookup-only}
+use Rattle.model.proofs.Maps.{upd, orElse, mapO, lookup-puts, lookup-rekey, lookup-outside, lookup-del, lookup-keys, lookup-mapped, lookup-only}
 use Rattle.model.proofs.Invariant.{node-at, no-node, a-dir, a-file, a-link}
 use Rattle.model.proofs.Invariant.{entry-at, at-none, at-own, at-reference, at-directory, at-deleted, Closed, Inv, shown-over, inv-over, kind-at, kind-entry}
 
@@ -109,6 +109,47 @@ module _ (t : Table) (l : Tree) (cl : Closed (lookup l)) (i : Inv t l) (a : Path
   uncovered-all : (q : Path) (n : Node) → lookup l q ≡ some n → lookup t q ≡ none → uncovered t a q ≡ true
   uncovered-all q n h z = cc (all-free q n h z (ancestors q) (λ p m. sym (mem-ancestors q p) ∙ m))
 
+-- a test that every listed node without an entry passes leaves out nothing that counts
+all-listed : (o : Option Entry) (n : Option Node) (b : Bool) → (o ≡ none → (x : Node) → n ≡ some x → b ≡ true) → orElse o (mapO asEntry (cond b n none)) ≡ orElse o (mapO asEntry n)
+all-listed (some e) n b h = refl
+all-listed none (some x) b h = ap (λ (c : Bool). mapO asEntry (cond c (some x) none)) (h refl x refl)
+all-listed none none true h = refl
+all-listed none none false h = refl
+
+else-else : {A : Type 0} (x y z : Option A) → orElse x (orElse y z) ≡ orElse (orElse x y) z
+else-else none y z = refl
+else-else (some a) y z = refl
+
+-- what is carried from a path with the entry o and the listed node n is one of them, and where nothing is carried neither shows anything
+data From (o : Option Entry) (n : Option Node) (x : Entry) : Type 0 where
+  from-table : o ≡ some x → From o n x
+  from-listing : (y : Node) → o ≡ none → n ≡ some y → asEntry y ≡ x → From o n x
+
+entry-from : (b : Bool) (o : Option Entry) (n : Option Node) (x : Entry) → cond b (orElse o (mapO asEntry n)) none ≡ some x → From o n x
+entry-from true (some e) n x h = from-table h
+entry-from true none (some y) x h = from-listing y refl refl (cc)
+entry-from true none none x h = absurd (bot (cc))
+entry-from false o n x h = absurd (bot (cc))
+
+none-from : (b : Bool) (o : Option Entry) (n : Option Node) → b ≡ true → cond b (orElse o (mapO asEntry n)) none ≡ none → over o n ≡ none
+none-from true (some e) n z h = cc
+none-from true none (some y) z h = cc
+none-from true none none z h = refl
+none-from false o n z h = cc
+
+-- what is at a, or below a directory there, goes along
+not-along : (s : Bool) (k : Kind) (u : Bool) → (s || (isDirectory k && u)) ≡ false → (s ≡ true) ⊎ ((k ≡ aDirectory) × (u ≡ true)) → ⊥
+not-along s k u h (inl e) = bot (cc)
+not-along true k u h (inr e) = bot (cc)
+not-along false k u h (inr e) = bot (cc (e .0, e .1))
+
+-- a listed node that is carried as a reference is the file referred to
+referred : (q : Path) (g : View) (m s : ℕ) (p : Path) (n : Node) → ((i j : ℕ) (d : Body) → g q ≡ some (file i j d) → d ≡ listed q)
+    → g q ≡ some n → asEntry n ≡ reference m s p → g p ≡ some (file m s (listed p))
+referred q g m s p (dir i) w d z = cc
+referred q g m s p (file i j y) w d z = cc (w i j y d)
+referred q g m s p link w d z = cc
+
 module _ (t : Table) (l : Tree) (held′ : Held l) (cl : Closed (lookup l)) (i : Inv t l) (a b : Path) (o : RenameOk (shown t l) a b) where
   -- what is carried from a path
   M : Path → Option Entry
@@ -116,32 +157,22 @@ module _ (t : Table) (l : Tree) (held′ : Held l) (cl : Closed (lookup l)) (i :
 
   M-is : (q : Path) → M q ≡ cond (along (kind (shown t l) a) a q) (orElse (lookup t q) (mapO asEntry (lookup l q))) none
   unfolding M
-  M-is q =
-      let x = lookup-only (along (kind (shown t l) a) a) (puts t (mapped asEntry (only (uncovered t a) l))) q in
-      let u = lookup-puts t (mapped asEntry (only (uncovered t a) l)) q in
-      let v = lookup-mapped asEntry (only (uncovered t a) l) q in
-      let w = lookup-only (uncovered t a) l q in
-      elim (opt (lookup t q)) [
-        | is-some y e ↦ cc
-        | is-none e ↦ elim (opt (lookup l q)) [
-          | is-none d ↦ elim (test (uncovered t a q)) [ yea z ↦ cc | nay z ↦ cc ]
-          | is-some n d ↦ cc (uncovered-all t l cl i a q n d e)
-        ]
-      ]
+  M-is q = lookup-only (along (kind (shown t l) a) a) (puts t (mapped asEntry (only (uncovered t a) l))) q
+      ∙ ap (λ (o : Option Entry). cond (along (kind (shown t l) a) a q) o none)
+      (lookup-puts t (mapped asEntry (only (uncovered t a) l)) q
+      ∙ ap (orElse (lookup t q)) (lookup-mapped asEntry (only (uncovered t a) l) q ∙ ap (mapO asEntry) (lookup-only (uncovered t a) l q))
+      ∙ all-listed (lookup t q) (lookup l q) (uncovered t a q) (λ z n d. uncovered-all t l cl i a q n d z))
 
   -- what is at a or below it, and is not carried, is not visible
   M-none : (q s : Path) → rest a q ≡ some s → M q ≡ none → shown t l q ≡ none
-  M-none q s r h = let w = M-is q in elim (test (along (kind (shown t l) a) a q)) [
-    | yea z ↦ elim (opt (lookup t q)) [ is-some x e ↦ cc | is-none e ↦ elim (opt (lookup l q)) [ is-none d ↦ cc | is-some n d ↦ cc ] ]
+  M-none q s r h = elim (test (along (kind (shown t l) a) a q)) [
+    | yea z ↦ none-from (along (kind (shown t l) a) a q) (lookup t q) (lookup l q) z (sym (M-is q) ∙ h)
     | nay z ↦ elim (opt (shown t l q)) [ is-none e ↦ e | is-some n e ↦ absurd (left s n r z e) ]
   ]
     where
       left : (s : Path) (n : Node) → rest a q ≡ some s → along (kind (shown t l) a) a q ≡ false → shown t l q ≡ some n → ⊥
-      left [] n r z e = bot (cc (rest-nil a q r, same-refl a))
-      left (c ∷ s) n r z e =
-          let y = rest-below a q c s r in
-          let k = i .closed a q n y e in
-          elim (test (same a q)) [ yea v ↦ bot (cc) | nay v ↦ bot (cc) ]
+      left [] n r z e = not-along (same a q) (kind (shown t l) a) (below a q) z (inl (ap (same a) (sym (rest-nil a q r)) ∙ same-refl a))
+      left (c ∷ s) n r z e = let y = rest-below a q c s r in not-along (same a q) (kind (shown t l) a) (below a q) z (inr (i .closed a q n y e, y))
 
   M-out : (q : Path) → rest a q ≡ none → M q ≡ none
   M-out q r = let w = M-is q in elim (test (along (kind (shown t l) a) a q)) [
@@ -155,32 +186,24 @@ module _ (t : Table) (l : Tree) (held′ : Held l) (cl : Closed (lookup l)) (i :
     ])
   ]
 
+  M-from : (q : Path) (x : Entry) → M q ≡ some x → From (lookup t q) (lookup l q) x
+  M-from q x h = entry-from (along (kind (shown t l) a) a q) (lookup t q) (lookup l q) x (sym (M-is q) ∙ h)
+
   M-some : (q s : Path) (x : Entry) → rest a q ≡ some s → M q ≡ some x → view x ≡ shown t l q
-  M-some q s x r h = let w = M-is q in elim (test (along (kind (shown t l) a) a q)) [
-    | nay z ↦ cc
-    | yea z ↦ elim (opt (lookup t q)) [
-      | is-some y e ↦ cc
-      | is-none e ↦ elim (node-at (lookup l q)) [
-        | no-node d ↦ cc
-        | a-dir m d ↦ cc
-        | a-file m n y d ↦ cc (held′ q m n y d)
-        | a-link d ↦ absurd (o .unlinked q s r (cc))
-      ]
-    ]
+  M-some q s x r h = elim (M-from q x h) [
+    | from-table e ↦ sym (ap (λ (y : Option Entry). over y (lookup l q)) e)
+    | from-listing n e d z ↦ let v = ap (λ (y : Option Entry). over y (lookup l q)) e ∙ d in ap view (sym z) ∙ as-shown n d v ∙ sym v
   ]
+    where
+      as-shown : (n : Node) → lookup l q ≡ some n → shown t l q ≡ some n → view (asEntry n) ≡ some n
+      as-shown (dir m) d v = refl
+      as-shown (file m z y) d v = let w = held′ q m z y d in ap (λ (c : Body). view (asEntry (file m z c))) w ∙ sym (ap (λ (c : Body). some (file m z c)) w)
+      as-shown link d v = absurd (o .unlinked q s r v)
 
   M-ref : (q : Path) (m s : ℕ) (p : Path) → M q ≡ some (reference m s p) → lookup l p ≡ some (file m s (listed p))
-  M-ref q m s p h = let w = M-is q in elim (test (along (kind (shown t l) a) a q)) [
-    | nay z ↦ cc
-    | yea z ↦ elim (opt (lookup t q)) [
-      | is-some y e ↦ i .refs q m s p (cc)
-      | is-none e ↦ elim (node-at (lookup l q)) [
-        | no-node d ↦ cc
-        | a-dir n d ↦ cc
-        | a-file n k y d ↦ cc (held′ q n k y d)
-        | a-link d ↦ cc
-      ]
-    ]
+  M-ref q m s p h = elim (M-from q (reference m s p) h) [
+    | from-table e ↦ i .refs q m s p e
+    | from-listing n e d z ↦ referred q (lookup l) m s p n (held′ q) d z
   ]
 
   -- the entries that are put
@@ -191,11 +214,9 @@ module _ (t : Table) (l : Tree) (held′ : Held l) (cl : Closed (lookup l)) (i :
   unfolding E M
   E-is q =
       let c = carried t l a in
-      let u = lookup-puts (rekey a b c) (puts (each deleted (keys c)) t) q in
-      let v = lookup-puts (each deleted (keys c)) t q in
-      let w = lookup-keys deleted c q in
-      let x = lookup-rekey a b c q in
-      elim (opt (byRest (rest b q) (λ s. lookup (carried t l a) (a ++ s)) none)) [ is-none e ↦ cc | is-some z e ↦ cc ]
+      lookup-puts (rekey a b c) (puts (each deleted (keys c)) t) q
+      ∙ ap₂ orElse (lookup-rekey a b c q) (lookup-puts (each deleted (keys c)) t q ∙ ap (λ (o : Option Entry). orElse o (lookup t q)) (lookup-keys deleted c q))
+      ∙ else-else (byRest (rest b q) (λ s. lookup (carried t l a) (a ++ s)) none) (goneIn (lookup (carried t l a) q)) (lookup t q)
 
   -- nothing else is visible at or below the target
   at-target : (q s : Path) → rest b q ≡ some s → M (a ++ s) ≡ none → shown t l q ≡ none
@@ -256,36 +277,57 @@ module _ (t : Table) (l : Tree) (held′ : Held l) (cl : Closed (lookup l)) (i :
   pub move-tree : shown (moved t l a b) l ≡ moveView a b (shown t l)
   move-tree = shown-over t (moved t l a b) l E E-is ∙ fun-ext move-shown
 
-module _ (s : Tree) (a b : Path) (o : RenameOk (lookup s) a b) where
-  pub plain-move : lookup (cond (same a b) s (plainMove a b (del b s))) ≡ moveView a b (lookup s)
-  plain-move = fun-ext (λ q.
-      let c = del b s in
-      let u = lookup-puts (rekey a b c) (outside a c) q in
-      let v = lookup-rekey a b c q in
-      let w = lookup-outside a c q in
-      let x = lookup-del b s q in
-      elim (split a b) [
-        | Split.eq e y ↦ elim (opt (rest b q)) [ is-none d ↦ cc | is-some r d ↦ cc (rest-is b q r d .0) ]
-        | Split.ne e y ↦ elim (opt (rest b q)) [
-          | is-none d ↦ let z = same-no b q (λ g. bot (cc (rest-self b))) in elim (opt (rest a q)) [ is-none g ↦ cc | is-some h g ↦ cc ]
-          | is-some r d ↦ let k = lookup-del b s (a ++ r) in let j = same-no b (a ++ r) (other e q r d) in elim (opt (lookup s (a ++ r))) [
-            | is-some n g ↦ cc
-            | is-none g ↦ elim (split b q) [
-              | Split.eq h m ↦ elim (opt (rest a q)) [ is-none p ↦ cc | is-some f p ↦ cc ]
-              | Split.ne h m ↦ elim (opt (rest a q)) [ is-none p ↦ cc (bare q r d h) | is-some f p ↦ cc ]
-            ]
-          ]
-        ]
-      ])
-    where
-      bare : (q r : Path) → rest b q ≡ some r → (b ≡ q → ⊥) → lookup s q ≡ none
-      bare q [] d h = absurd (h (rest-nil b q d))
-      bare q (x ∷ r) d h = elim (opt (lookup s q)) [ is-none e ↦ e | is-some n e ↦ absurd (o .free q n (rest-below b q x r d) e) ]
+-- a path moved onto itself shows the same tree
+pub move-self : (f : View) (a q : Path) → moveView a a f q ≡ f q
+move-self f a q = go (rest a q) refl
+  where
+    go : (o : Option Path) → rest a q ≡ o → byRest o (λ s. f (a ++ s)) (byRest o (λ s. none) (f q)) ≡ f q
+    go none d = refl
+    go (some r) d = ap f (sym (rest-is a q r d .0))
 
-      -- the target is not inside the source
-      other : (a ≡ b → ⊥) → (q r : Path) → rest b q ≡ some r → b ≡ a ++ r → ⊥
-      other e q [] d h = e (sym (h ∙ append-nil a))
-      other e q (x ∷ r) d h = o .apart (rest-below a b x r (cc (rest-app a (x ∷ r) (rest-is b q (x ∷ r) d .1))))
+else-none : (x y : Option Node) → y ≡ none → orElse x y ≡ x
+else-none none y h = h
+else-none (some n) y h = refl
+
+none-either : (o : Option Path) → byRest {B = Option Node} o (λ s. none) none ≡ none
+none-either none = refl
+none-either (some r) = refl
+
+-- the plain move: without what is at b, what is at a or below it goes to b
+module _ (f : View) (a b : Path) (o : RenameOk f a b) (e : a ≡ b → ⊥) (q : Path) where
+  cleared : (k : Path) (c : Bool) → same b k ≡ c → upd f b none k ≡ cond c none (f k)
+  cleared k c h = ap (λ (x : Bool). cond x none (f k)) h
+
+  bare : (r : Path) → rest b q ≡ some r → (b ≡ q → ⊥) → f q ≡ none
+  bare [] d h = absurd (h (rest-nil b q d))
+  bare (x ∷ r) d h = elim (opt (f q)) [ is-none z ↦ z | is-some n z ↦ absurd (o .free q n (rest-below b q x r d) z) ]
+
+  -- nothing is left at the target or below it
+  emptied : (r : Path) → rest b q ≡ some r → upd f b none q ≡ none
+  emptied r d = elim (split b q) [ Split.eq h m ↦ cleared q true m | Split.ne h m ↦ cleared q false m ∙ bare r d h ]
+
+  -- the target is not inside the source
+  other : (r : Path) → rest b q ≡ some r → b ≡ a ++ r → ⊥
+  other [] d h = e (sym (h ∙ append-nil a))
+  other (x ∷ r) d h = o .apart (rest-below a b x r (ap (rest a) h ∙ rest-app a (x ∷ r) (rest-is b q (x ∷ r) d .1)))
+
+  move-cleared : (z : Option Path) → rest b q ≡ z
+      → orElse (byRest z (λ s. upd f b none (a ++ s)) none) (byRest (rest a q) (λ s. none) (upd f b none q)) ≡ byRest z (λ s. f (a ++ s)) (byRest (rest a q) (λ s. none) (f q))
+  move-cleared none d = ap (byRest (rest a q) (λ s. none)) (cleared q false (same-no b q (λ g. bot (cc (rest-self b)))))
+  move-cleared (some r) d = ap (λ (x : Option Node). orElse x (byRest (rest a q) (λ s. none) (upd f b none q))) (cleared (a ++ r) false (same-no b (a ++ r) (other r d)))
+      ∙ else-none (f (a ++ r)) (byRest (rest a q) (λ s. none) (upd f b none q)) (ap (byRest (rest a q) (λ s. none)) (emptied r d) ∙ none-either (rest a q))
+
+module _ (s : Tree) (a b : Path) (o : RenameOk (lookup s) a b) where
+  plain-at : (q : Path) → lookup (plainMove a b (del b s)) q
+      ≡ orElse (byRest (rest b q) (λ r. upd (lookup s) b none (a ++ r)) none) (byRest (rest a q) (λ r. none) (upd (lookup s) b none q))
+  plain-at q = lookup-puts (rekey a b (del b s)) (outside a (del b s)) q ∙ ap₂ orElse (lookup-rekey a b (del b s) q) (lookup-outside a (del b s) q)
+      ∙ ap (λ (f : View). orElse (byRest (rest b q) (λ r. f (a ++ r)) none) (byRest (rest a q) (λ r. none) (f q))) (fun-ext (lookup-del b s))
+
+  pub plain-move : lookup (cond (same a b) s (plainMove a b (del b s))) ≡ moveView a b (lookup s)
+  plain-move = elim (split a b) [
+    | Split.eq e y ↦ ap (λ (c : Bool). lookup (cond c s (plainMove a b (del b s)))) y ∙ sym (fun-ext (λ q. ap (λ (p : Path). moveView a p (lookup s) q) (sym e) ∙ move-self (lookup s) a q))
+    | Split.ne e y ↦ ap (λ (c : Bool). lookup (cond c s (plainMove a b (del b s)))) y ∙ fun-ext (λ q. plain-at q ∙ move-cleared (lookup s) a b o e q (rest b q) refl)
+  ]
 
 module _ (t : Table) (l : Tree) (i : Inv t l) (a b : Path) where
   pub listed-link : (q : Path) → shown t l q ≡ some link → lookup l q ≡ some link

@@ -161,12 +161,11 @@ mem-nil-map c (q ∷ qs) = mem-nil-map c qs
 
 mem-cons-map : (a c : ℕ) (p : Path) (qs : List Path) → mem (a ∷ p) (map (λ (q : Path). c ∷ q) qs) ≡ (eqb c a && mem p qs)
 mem-cons-map a c p [] = elim (eqb c a) as (λ b. false ≡ (b && false)) [ true ↦ refl | false ↦ refl ]
-mem-cons-map a c p (q ∷ qs) = go (eqb c a) refl (same q p) refl (mem-cons-map a c p qs)
+mem-cons-map a c p (q ∷ qs) = ap₂ _||_ (same-cons c a q p) (mem-cons-map a c p qs) ∙ either (eqb c a) (same q p) (mem p qs)
   where
-    go : (x : Bool) → eqb c a ≡ x → (y : Bool) → same q p ≡ y → mem (a ∷ p) (map (λ (q : Path). c ∷ q) qs) ≡ (eqb c a && mem p qs) → mem (a ∷ p) (map (λ (q : Path). c ∷ q) (q ∷ qs)) ≡ (eqb c a && mem p (q ∷ qs))
-    go true e true f ih = cc (same-cons c a q p)
-    go true e false f ih = cc (same-cons c a q p)
-    go false e y f ih = cc (same-cons c a q p)
+    either : (x y z : Bool) → ((x && y) || (x && z)) ≡ (x && (y || z))
+    either true y z = refl
+    either false y z = refl
 
 pub eqb-comm : (m n : ℕ) → eqb m n ≡ eqb n m
 eqb-comm m n = go (eqb m n) refl (eqb n m) refl
@@ -309,10 +308,12 @@ pub below-range : (a k : Path) → below a k ≡ (not (before k (a ++ (47 ∷ []
 below-range [] [] = refl
 below-range [] (c ∷ k) = slash-only c k
 below-range (a ∷ p) [] = refl
-below-range (a ∷ p) (c ∷ k) = go (nat-order c a) refl (below-range p k)
+below-range (a ∷ p) (c ∷ k) = ap (λ (b : Bool). b && below p k) (eqb-comm a c)
+    ∙ between (compare c a) (order k (p ++ (47 ∷ []))) (order k (p ++ (48 ∷ []))) (below p k) (below-range p k)
   where
-    go : {o : Ordering} → NatOrder c a o → compare c a ≡ o → below p k ≡ (not (before k (p ++ (47 ∷ []))) && before k (p ++ (48 ∷ [])))
-        → (eqb a c && below p k) ≡ (not (before (c ∷ k) (a ∷ p ++ (47 ∷ []))) && before (c ∷ k) (a ∷ p ++ (48 ∷ [])))
-    go (nat-lt h) e ih = cc (eqb-comm a c)
-    go (nat-eq h) e ih = cc (eqb-comm a c)
-    go (nat-gt h) e ih = cc (eqb-comm a c)
+    -- by how the first bytes compare: only where they are equal does the rest count
+    between : (o x y : Ordering) (d : Bool) → d ≡ (not (byOrder x true false false) && byOrder y true false false)
+        → (isEq o && d) ≡ (not (byOrder (byOrder o Ordering·lt x Ordering·gt) true false false) && byOrder (byOrder o Ordering·lt y Ordering·gt) true false false)
+    between Ordering·lt x y d h = refl
+    between Ordering·eq x y d h = h
+    between Ordering·gt x y d h = refl

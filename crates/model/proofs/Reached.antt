@@ -3,8 +3,9 @@
 use mathlib.Core.Path.{_≡_, refl, ap, sym, _∙_, subst, subst⁻¹}
 use mathlib.Core.Logic.{inl, inr}
 use mathlib.Core.List.{List, [], _∷_}
-use mathlib.Core.Bool.{Bool, true, false, cond}
+use mathlib.Core.Bool.{Bool, true, false, cond, _&&_}
 use Prim.Native.Nat.{ℕ, _≤_}
+use lib.Dec.{leb}
 use lib.ListN.{length, replicate}
 use borrow.Author.Tests.{leb-true, leb-false}
 use Rattle.model.specs.Bytes.{Bytes}
@@ -13,7 +14,7 @@ use Rattle.model.specs.Tree.{Table, shown}
 use Rattle.model.specs.Listing.{isListing, treeIn}
 use Rattle.model.specs.Table.{encode, padded, charge, recordOf, sized, isTable}
 use Rattle.model.specs.Checks.{Check, pass, refuse, _then_, unless, limited, unlimited}
-use Rattle.model.specs.Calls.{forms, rules}
+use Rattle.model.specs.Calls.{forms, rules, valueOf}
 use Rattle.model.specs.Answer.{accepted, refused}
 use Rattle.model.specs.Outcome.{Store, Request, tableAfter, lent, room, verdict, settle, outcome, opened}
 use Rattle.model.specs.Plain.{plainEffect}
@@ -27,7 +28,7 @@ use Rattle.model.proofs.Codec.{decoded, encoded, opened-table}
 use Rattle.model.proofs.Invariant.{then-pass}
 use Rattle.model.proofs.Agree.{Sound, sound-empty, accepts, allows, keeps, Caused, passed, because}
 use Rattle.model.proofs.Effects.{stays, in-limit, posix}
-use Rattle.model.proofs.Shapes.{untouched}
+use Rattle.model.proofs.Shapes.{not-refused, untouched}
 use Rattle.model.proofs.Formed.{FineTable, fine-is, fine-empty, listing-fine, changed-fine}
 
 -- every mtime argument of the list has 64 bits
@@ -53,6 +54,15 @@ module _ (listing : Bytes) (E : ℕ) where
   unless-pass : (n : ℕ) (b : Bool) → unless n b ≡ pass → b ≡ true
   unless-pass n true h = refl
   unless-pass n false h = cc
+
+  both : (b : Bool) → b ≡ true → b ≡ false → ⊥
+  both b h g = bot (cc)
+
+  not-pass : (n w k : ℕ) → pass ≡ refuse n w k → ⊥
+  not-pass n w k h = bot (cc)
+
+  number-is : (m v j n w k : ℕ) → refuse m v j ≡ refuse n w k → m ≡ n
+  number-is m v j n w k h = cc
 
   has-passed : (q : Request) (s : Store) → verdict listing q s ≡ pass → Passed q s
   has-passed q s h =
@@ -99,7 +109,7 @@ module _ (listing : Bytes) (E : ℕ) where
           fine = subst⁻¹ FineTable (m .read) (m .fine);
           sound = λ h. subst⁻¹ (λ (t : Table). Sound t (treeIn listing) (plainEffect (x .plain) (q .call))) (m .read)
               (keeps (entriesOf (x .store)) (treeIn listing) (x .plain) (r .sound h) (l .held) (l .closed) (limited (x .store .rec .«entry_size») (q .limit)) (q .call) (p .rule));
-          nothing-kept = λ h. absurd (bot (cc (p .well)));
+          nothing-kept = λ h. absurd (both (isListing listing) (p .well) h);
         }
     reached-by (refuse n w k) q x v y r = r
 
@@ -119,10 +129,10 @@ module _ (listing : Bytes) (E : ℕ) where
     -- an answer tells the verdict
     accepted-pass : (c : Check) (q : Request) (s : Store) (v : ℕ) → settle c listing q s .reply ≡ accepted v → c ≡ pass
     accepted-pass pass q s v h = refl
-    accepted-pass (refuse n w k) q s v h = cc
+    accepted-pass (refuse n w k) q s v h = absurd (not-refused v n w k (sym h))
 
     refused-is : (c : Check) (q : Request) (s : Store) (n w k : ℕ) → settle c listing q s .reply ≡ refused n w k → c ≡ refuse n w k
-    refused-is pass q s n w k h = cc
+    refused-is pass q s n w k h = absurd (not-refused (valueOf (q .call)) n w k h)
     refused-is (refuse n′ w′ k′) q s n w k h = cc
 
     accepted-passed : (q : Request) (s : Store) (v : ℕ) → outcome listing q s .reply ≡ accepted v → Passed q s
@@ -132,27 +142,28 @@ module _ (listing : Bytes) (E : ℕ) where
     by-rules x q w r v h =
         let p = accepted-passed q (x .store) v h in
         let l = listing-fine listing b (p .well) in
-        let a = accepts (entriesOf (x .store)) (treeIn listing) (x .plain) (r .sound (p .well)) (l .closed)
-        (limited (x .store .rec .«entry_size») (q .limit)) (q .call) (p .rule) in
-        cc (p .form)
+        ap (λ (c : Check). c then rules unlimited [] (x .plain) (q .call)) (p .form)
+        ∙ accepts (entriesOf (x .store)) (treeIn listing) (x .plain) (r .sound (p .well)) (l .closed)
+        (limited (x .store .rec .«entry_size») (q .limit)) (q .call) (p .rule)
 
     -- a refusal that the plain tree's rules don't share has its cause: which check gave it
     cause-of : (x : State) (q : Request) → Reached x → (n w k : ℕ) (A : Bool) → lent q (x .store) ≡ A → (B : Bool) → isListing listing ≡ B → forms (q .call) ≡ pass
         → (R : Check) → (isListing listing ≡ true → Caused (x .store .rec .«entry_size») (q .limit) (entriesOf (x .store)) (treeIn listing) (q .call) R)
         → (C : Bool) → room listing q (x .store) ≡ C → (unless 1 A then unless 2 B then forms (q .call) then R then unless 13 C) ≡ refuse n w k → Cause listing q (x .store) n
     cause-of x q r n w k false a B l f R y C o h =
-        subst (Cause listing q (x .store)) (cc) (short-work (leb-false (length (x .store .table)) (length (q .work)) (cc (r .table))))
-    cause-of x q r n w k true a false l f R y C o h = subst (Cause listing q (x .store)) (cc) (malformed-listing l)
-    cause-of x q r n w k true a true l f R y C o h = go R (y l) (cc)
+        subst (Cause listing q (x .store)) (number-is 1 0 0 n w k h) (short-work (leb-false (length (x .store .table)) (length (q .work))
+        (sym (ap (λ (c : Bool). c && leb (length (x .store .table)) (length (q .work))) (r .table)) ∙ a)))
+    cause-of x q r n w k true a false l f R y C o h = subst (Cause listing q (x .store)) (number-is 2 0 0 n w k h) (malformed-listing l)
+    cause-of x q r n w k true a true l f R y C o h = go R (y l) (sym (ap (λ (c : Check). c then R then unless 13 C) f) ∙ h)
       where
         go : (R : Check) → Caused (x .store .rec .«entry_size») (q .limit) (entriesOf (x .store)) (treeIn listing) (q .call) R
             → (R then unless 13 C) ≡ refuse n w k → Cause listing q (x .store) n
         go R passed e = last C o e
           where
             last : (C : Bool) → room listing q (x .store) ≡ C → unless 13 C ≡ refuse n w k → Cause listing q (x .store) n
-            last true o e = absurd (bot (cc))
-            last false o e = subst (Cause listing q (x .store)) (cc) (no-room (leb-false (length (encode (tableAfter listing q (x .store)))) (length (x .store .table)) o))
-        go R (because m z) e = subst (Cause listing q (x .store)) (cc) (exceeds m z)
+            last true o e = absurd (not-pass n w k e)
+            last false o e = subst (Cause listing q (x .store)) (number-is 13 0 0 n w k e) (no-room (leb-false (length (encode (tableAfter listing q (x .store)))) (length (x .store .table)) o))
+        go R (because m z) e = subst (Cause listing q (x .store)) (number-is m 0 0 n w k e) (exceeds m z)
 
     pub with-cause : (x : State) (q : Request) → WordedCall (q .call) → Reached x → RefusedWithCause listing x q
     with-cause x q y r n w k h p =
@@ -176,7 +187,7 @@ module _ (listing : Bytes) (E : ℕ) where
       where
         go : (c : Check) → verdict listing q (x .store) ≡ c → settle c listing q (x .store) .reply ≡ accepted v
             → (stepBy c q x .store .table ≡ x .store .table → ⊥) → stepBy c q x .store .rec .charge ≤ q .limit
-        go (refuse n w j) e h d = absurd (bot (cc))
+        go (refuse n w j) e h d = absurd (not-refused v n w j (sym h))
         go pass e h d = let p = has-passed q (x .store) e in
             elim (in-limit (x .store .rec .«entry_size») (q .limit) (entriesOf (x .store)) (treeIn listing) (q .call) (p .rule)) [
               | inl z ↦ z
@@ -187,14 +198,14 @@ module _ (listing : Bytes) (E : ℕ) where
     leaves x q y r n w k h = untouched listing q (x .store) n w k h
 
     pub over-malformed : isListing listing ≡ false → (x : State) (q : Request) → WordedCall (q .call) → Reached x → RefusedAndEmpty listing x q
-    over-malformed z x q y r = (λ v h. bot (cc (accepted-passed q (x .store) v h .well)), reached-step q x y r .nothing-kept z)
+    over-malformed z x q y r = (λ v h. both (isListing listing) (accepted-passed q (x .store) v h .well) z, reached-step q x y r .nothing-kept z)
 
     pub as-posix : (x : State) (q : Request) → WordedCall (q .call) → Reached x → DoesAsPosix listing x q
     as-posix x q y r v h = go (verdict listing q (x .store)) refl h
       where
         go : (c : Check) → verdict listing q (x .store) ≡ c → settle c listing q (x .store) .reply ≡ accepted v
             → Posix (shown (entriesOf (x .store)) (treeIn listing)) (shown (entriesOf (stepBy c q x .store)) (treeIn listing)) (q .call)
-        go (refuse n w j) e h = absurd (bot (cc))
+        go (refuse n w j) e h = absurd (not-refused v n w j (sym h))
         go pass e h =
             let p = has-passed q (x .store) e in
             let m = made q x y r p in

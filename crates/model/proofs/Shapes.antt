@@ -16,8 +16,8 @@ use Rattle.model.specs.Table.{charge, isTable, tableIn, sized}
 use Rattle.model.specs.Listing.{isListing, treeIn}
 use Rattle.model.specs.Checks.{Check, pass, refuse, _then_, unless, form, parent, parentsIn, parents, writeAt, ancestor, ancestorsIn, mkdirParents, mkdirAt, unlinkAt, unlinkEntry, notRoot, visibleChild, empty, rmdirAt, rmdirEntry, Memory, limited, unlimited, charged}
 use Rattle.model.specs.Rename.{notLink, notDeleted, noClash, present, ifDirectory, planned, plan, budget, Walk, sum, overBudget, atLink, walkFrom, walked, keysFit, carried, moved, renameChecks}
-use Rattle.model.specs.Calls.{Call, write, mkdir, unlink, rmdir, rename, changed, forms, rules, Query, says}
-use Rattle.model.specs.Answer.{refused}
+use Rattle.model.specs.Calls.{Call, write, mkdir, unlink, rmdir, rename, changed, forms, rules, valueOf, Query, says}
+use Rattle.model.specs.Answer.{accepted, refused}
 use Rattle.model.specs.Outcome.{Store, Request, lent, room, verdict, settle, outcome, answered, ask, opened}
 use Rattle.model.proofs.Orders.{bot, yea, nay, test, mem, same-refl, mem-ancestors}
 
@@ -270,12 +270,16 @@ restated S n w k {n′} {w′} {k′} v e =
     let z : k′ ≡ k = cc in
     subst₃ S x y z v
 
+-- an answer that accepts is no refusal
+pub not-refused : (v n w k : ℕ) → accepted v ≡ refused n w k → ⊥
+not-refused v n w k e = bot (cc)
+
 -- every refusal of every changing call
 pub shaped : (listing : Bytes) (q : Request) (s : Store) (n w k : ℕ) → outcome listing q s .reply ≡ refused n w k → Shaped (q .call) n w k
 shaped l q s n w k h = go (well-verdict l q s) h
   where
     go : {x : Check} → Well (q .call) x → settle x l q s .reply ≡ refused n w k → Shaped (q .call) n w k
-    go passes e = absurd (bot (cc))
+    go passes e = absurd (not-refused (valueOf (q .call)) n w k e)
     go (refuses v) e = restated (Shaped (q .call)) n w k v e
 
 -- what a query may be refused with: number, path and length; its path is path 0
@@ -295,7 +299,7 @@ shaped-query f l p s n w k h =
     go false b d y e = restated ShapedQuery n w k bad-table e
     go true false d y e = restated ShapedQuery n w k bad-listing e
     go true true false y e = restated ShapedQuery n w k bad-path e
-    go true true true y e = absurd (bot (cc))
+    go true true true y e = absurd (not-refused (cond y 1 0) n w k e)
 
 -- opening: "its one refusal is 1"
 pub shaped-opening : (E : ℕ) (t : Bytes) (n w k : ℕ) → opened E t .reply ≡ refused n w k → (n ≡ 1) × (w ≡ 0) × (k ≡ 0)
@@ -307,7 +311,7 @@ pub untouched : (listing : Bytes) (q : Request) (s : Store) (n w k : ℕ) → ou
 untouched l q s n w k h = go (verdict l q s) h
   where
     go : (c : Check) → settle c l q s .reply ≡ refused n w k → (settle c l q s .store ≡ s) × (settle c l q s .work ≡ q .work)
-    go pass e = absurd (bot (cc))
+    go pass e = absurd (not-refused (valueOf (q .call)) n w k e)
     go (refuse n′ w′ k′) e = (refl, refl)
 
 -- "bad input gets one of document 01's thirteen numbers": 1, then 2, then 3

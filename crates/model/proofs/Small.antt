@@ -1,6 +1,6 @@
 -- write, mkdir, unlink and rmdir keep the invariant; what their checks say of what is visible.
 -- Assumes nothing.
-use mathlib.Core.Path.{_≡_, refl, sym, _∙_}
+use mathlib.Core.Path.{_≡_, refl, ap, sym, _∙_}
 use mathlib.Core.Logic.{_⊎_, inl, inr}
 use mathlib.Core.List.{List, [], _∷_}
 use mathlib.Core.Bool.{Bool, true, false, cond, not, _&&_, _||_}
@@ -12,7 +12,7 @@ use Rattle.model.specs.Path.{Path, below, child, ancestors}
 use Rattle.model.specs.Map.{Map, lookup, put, puts, each, keys}
 use Rattle.model.specs.Tree.{Node, dir, file, link, Entry, own, reference, directory, deleted, Table, Tree, View, over, shown}
 use Rattle.model.specs.Tree.{Kind, nothing, aDirectory, aFile, aLink, kindOf, kind, isNothing}
-use Rattle.model.specs.Checks.{pass, _then_, parents, writeAt, writeChecks, ancestor, ancestorsIn, mkdirParents, missing, makes}
+use Rattle.model.specs.Checks.{Check, pass, _then_, parents, writeAt, writeChecks, ancestor, ancestorsIn, mkdirAt, mkdirParents, missing, makes}
 use Rattle.model.specs.Checks.{unlinkAt, unlinkChecks, notRoot, visibleChild, empty, rmdirAt, rmdirEntry, rmdirChecks}
 use Rattle.model.proofs.Orders.{split, Split, and-true, bot, yea, nay, test, is-none, is-some, opt, mem, mem-ancestors, below-trans}
 use Rattle.model.proofs.Maps.{orElse, lookup-puts, lookup-each}
@@ -88,9 +88,42 @@ parents-may n g (k ∷ ks) h q b =
     let r = then-pass (ancestor (length k) n (g k)) (ancestorsIn n g ks) h in
     elim (split k q) [ Split.eq e w ↦ rw (← e) (parent-may n k (g k) (r .0)) | Split.ne e w ↦ parents-may n g ks (r .1) q (cc) ]
 
+-- what an accepted mkdir has met at its path: nothing, and checks behind it that pass; or a directory, which exist_ok accepts
+pub data MkdirMet (ok : Bool) (k : Kind) (later : Check) : Type 0 where
+  met-nothing : k ≡ nothing → later ≡ pass → MkdirMet ok k later
+  met-directory : k ≡ aDirectory → ok ≡ true → MkdirMet ok k later
+
+pub mkdir-met : (n : ℕ) (ok : Bool) (k : Kind) (later : Check) → mkdirAt n ok k later ≡ pass → MkdirMet ok k later
+mkdir-met n ok nothing later h = met-nothing refl h
+mkdir-met n true aDirectory later h = met-directory refl refl
+mkdir-met n false aDirectory later h = absurd (bot (cc))
+mkdir-met n ok aFile later h = absurd (bot (cc))
+mkdir-met n ok aLink later h = absurd (bot (cc))
+
+-- and what it then makes
+pub makes-missing : (f : View) (p : Path) → kind f p ≡ nothing → makes f p ≡ missing (kind f) (p ∷ ancestors p)
+makes-missing f p e = ap (λ (k : Kind). cond (isNothing k) (missing (kind f) (p ∷ ancestors p)) []) e
+
+pub makes-none : (f : View) (p : Path) → kind f p ≡ aDirectory → makes f p ≡ []
+makes-none f p e = ap (λ (k : Kind). cond (isNothing k) (missing (kind f) (p ∷ ancestors p)) []) e
+
 -- directories made at all the paths of a list
 abbrev pub madeAt : ℕ → List Path → Path → Option Entry
 madeAt m ks q = cond (mem q ks) (some (directory m)) none
+
+unmade-at : (m : ℕ) (b : Bool) → b ≡ false → cond b (some (directory m)) none ≡ none
+unmade-at m b e = ap (λ (c : Bool). cond c (some (directory m)) none) e
+
+made-some : (m : ℕ) (x : Entry) (b : Bool) → cond b (some (directory m)) none ≡ some x → b ≡ true
+made-some m x true h = refl
+made-some m x false h = cc
+
+no-reference : (m n s : ℕ) (p : Path) (b : Bool) → cond b (some (directory m)) none ≡ some (reference n s p) → ⊥
+no-reference m n s p true h = bot (cc)
+no-reference m n s p false h = bot (cc)
+
+pub not-both : (k : Kind) → k ≡ aDirectory → k ≡ nothing → ⊥
+not-both k d n = bot (cc)
 
 module _ (f : View) (p : Path) (m : ℕ) (c : Closed f) (a : kind f p ≡ nothing) (up : (q : Path) → below q p ≡ true → (kind f q ≡ aDirectory) ⊎ (kind f q ≡ nothing)) where
   makes-is : (q : Path) → mem q (makes f p) ≡ ((same p q || below q p) && isNothing (kind f q))
@@ -134,10 +167,10 @@ module _ (t : Table) (l : Tree) (i : Inv t l) (p : Path) (m : ℕ) where
       → Inv (puts (each (directory m) (makes (shown t l) p)) t) l
   mkdir-inv a up = inv-over t (puts (each (directory m) (makes (shown t l) p)) t) l (madeAt m (makes (shown t l) p)) mkdir-lookup i
       (mkdir-closed (shown t l) p m (i .closed) a up)
-      (λ k h. elim (test (mem k (makes (shown t l) p))) [ yea e ↦ absurd (absent-no-link k (gap k e) h) | nay e ↦ cc ])
-      (λ k x s q h. elim (test (mem k (makes (shown t l) p))) [ yea e ↦ cc | nay e ↦ cc ])
-      (λ k x j q n h g b y z w. elim (test (mem k (makes (shown t l) p))) [ yea e ↦ bot (cc (gap k e, i .closed k q n b (cc))) | nay e ↦ bot (cc) ])
-      (elim (test (mem [] (makes (shown t l) p))) [ yea e ↦ cc (gap [] e) | nay e ↦ cc ])
+      (λ k h. elim (test (mem k (makes (shown t l) p))) [ yea e ↦ absurd (absent-no-link k (gap k e) h) | nay e ↦ unmade-at m (mem k (makes (shown t l) p)) e ])
+      (λ k x s q h. absurd (no-reference m x s q (mem k (makes (shown t l) p)) h))
+      (λ k x j q n h g b y z w. not-both (kind (shown t l) k) (i .closed k q n b (ap (λ (o : Option Entry). over o (lookup l q)) w ∙ y)) (gap k (made-some m (directory x) (mem k (makes (shown t l) p)) h)))
+      (elim (test (mem [] (makes (shown t l) p))) [ yea e ↦ absurd (not-both aDirectory refl (gap [] e)) | nay e ↦ unmade-at m (mem [] (makes (shown t l) p)) e ])
     where
       gap : (q : Path) → mem q (makes (shown t l) p) ≡ true → kind (shown t l) q ≡ nothing
       gap = makes-absent (shown t l) p m (i .closed) a up
@@ -206,6 +239,18 @@ rmdir-dir n aDirectory h = refl
 rmdir-dir n aFile h = cc
 rmdir-dir n aLink h = cc
 
+root-refused : (w : ℕ) (p : Path) → notRoot w p ≡ pass → p ≡ [] → ⊥
+root-refused w [] h e = bot (cc)
+root-refused w (c ∷ p) h e = bot (cc)
+
+-- what rmdir's check on the path's own entry says of the kind there: without an entry, what the checks behind it say; else the entry is a directory
+rmdir-entry : (n : ℕ) (o : Option Entry) (y : Check) (k : Kind) → rmdirEntry n o y ≡ pass → (y ≡ pass → k ≡ aDirectory) → ((m : ℕ) → o ≡ some (directory m) → k ≡ aDirectory) → k ≡ aDirectory
+rmdir-entry n none y k h a b = a h
+rmdir-entry n (some (own m c)) y k h a b = cc
+rmdir-entry n (some (reference m z q)) y k h a b = cc
+rmdir-entry n (some (directory m)) y k h a b = b m refl
+rmdir-entry n (some deleted) y k h a b = cc
+
 pub record RmdirOk (f : View) (p : Path) : Type 0 where
   pub proper : p ≡ [] → ⊥
   pub isDir : kind f p ≡ aDirectory
@@ -217,14 +262,10 @@ module _ (t : Table) (l : Tree) (i : Inv t l) (p : Path) where
       let a = then-pass (notRoot 0 p) (rmdirEntry (length p) (lookup t p) (parents 0 (shown t l) p then rmdirAt (length p) (kind (shown t l) p)) then empty 0 t l p) h in
       let b = then-pass (rmdirEntry (length p) (lookup t p) (parents 0 (shown t l) p then rmdirAt (length p) (kind (shown t l) p))) (empty 0 t l p) (a .1) in
       record {
-        proper = λ e. bot (cc (a .0));
-        isDir = elim (entry-at (lookup t p)) [
-          | at-none e ↦ rmdir-dir (length p) (kind (shown t l) p) (then-pass (parents 0 (shown t l) p) (rmdirAt (length p) (kind (shown t l) p)) (cc (b .0)) .1)
-          | at-own m d e ↦ cc (b .0)
-          | at-reference m s q e ↦ cc (b .0)
-          | at-directory m e ↦ kind-entry t l i p (directory m) e
-          | at-deleted e ↦ cc (b .0)
-        ];
+        proper = root-refused 0 p (a .0);
+        isDir = rmdir-entry (length p) (lookup t p) (parents 0 (shown t l) p then rmdirAt (length p) (kind (shown t l) p)) (kind (shown t l) p) (b .0)
+            (λ y. rmdir-dir (length p) (kind (shown t l) p) (then-pass (parents 0 (shown t l) p) (rmdirAt (length p) (kind (shown t l) p)) y .1))
+            (λ m e. kind-entry t l i p (directory m) e);
         empty = childless-empty t l p 0 (i .closed) (b .1);
       }
 

@@ -7,10 +7,10 @@ use Rattle.corners.proofs.guard.fill.Statement.{statement}
 use Rattle.corners.proofs.guard.fill.Tie as tie
 
 abbrev Inv-loop : tie.InvT-loop
-Inv-loop s₀ byte i₀ i-end s i = (length s ≡ length s₀) × (i-end ≡ length s₀)
+Inv-loop s₀ i₀ i-end s i = (length s ≡ length s₀) × (i-end ≡ length s₀)
 
 abbrev μ-loop : tie.MeasureT-loop
-μ-loop s₀ byte i₀ i-end s i = i-end - i
+μ-loop s₀ i₀ i-end s i = i-end - i
 
 loop-holds : tie.Need-loop-holds Inv-loop μ-loop
 loop-holds c = (refl, refl)

@@ -7,10 +7,10 @@ use Rattle.corners.proofs.guard.is_filled.Statement.{statement}
 use Rattle.corners.proofs.guard.is_filled.Tie as tie
 
 abbrev Inv-loop : tie.InvT-loop
-Inv-loop s byte filled₀ i₀ i-end filled i = i-end ≡ length s
+Inv-loop s filled₀ i₀ i-end filled i = i-end ≡ length s
 
 abbrev μ-loop : tie.MeasureT-loop
-μ-loop s byte filled₀ i₀ i-end filled i = i-end - i
+μ-loop s filled₀ i₀ i-end filled i = i-end - i
 
 loop-holds : tie.Need-loop-holds Inv-loop μ-loop
 loop-holds c = refl

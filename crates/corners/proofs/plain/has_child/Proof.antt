@@ -15,8 +15,11 @@ abbrev μ-loop : tie.MeasureT-loop
 loop-holds : tie.Need-loop-holds Inv-loop μ-loop
 loop-holds c = search needs
 
-is-child-requires : tie.Need-is-child-requires Inv-loop μ-loop
-is-child-requires c κs = search needs
+parent-requires : tie.Need-parent-requires Inv-loop μ-loop
+parent-requires c κs = search needs
+
+kind-requires : tie.Need-kind-requires Inv-loop μ-loop
+kind-requires c κs = search needs
 
 add-k : tie.Need-add-k Inv-loop μ-loop
 add-k c = search needs
@@ -33,4 +36,13 @@ returns c = search needs
 pub has-child-spec : {M : Type 1} → statement M
 has-child-spec =
     tie.close
-    (tie.spec Inv-loop μ-loop loop-holds is-child-requires add-k loop-less loop-again returns)
+    (tie.spec
+    Inv-loop
+    μ-loop
+    loop-holds
+    parent-requires
+    kind-requires
+    add-k
+    loop-less
+    loop-again
+    returns)

@@ -5,10 +5,10 @@ use Rattle.corners.proofs.random.lists.Statement.{statement}
 use Rattle.corners.proofs.random.lists.Tie as tie
 
 abbrev Inv-loop : tie.InvT-loop
-Inv-loop now₀ -i₀ now -i = Unit {0}
+Inv-loop names now₀ -i₀ now -i = Unit {0}
 
 abbrev μ-loop : tie.MeasureT-loop
-μ-loop now₀ -i₀ now -i = 250 - -i
+μ-loop names now₀ -i₀ now -i = 250 - -i
 
 loop-holds : tie.Need-loop-holds Inv-loop μ-loop
 loop-holds c = search needs

@@ -7,16 +7,19 @@ use Rattle.corners.proofs.random.plant.Statement.{statement}
 use Rattle.corners.proofs.random.plant.Tie as tie
 
 abbrev Inv-loop : tie.InvT-loop
-Inv-loop kinds₀ seed bare now₀ i₀ kinds now i = length kinds ≡ length kinds₀
+Inv-loop kinds₀ seed now₀ i₀ kinds now i = length kinds ≡ length kinds₀
 
 abbrev μ-loop : tie.MeasureT-loop
-μ-loop kinds₀ seed bare now₀ i₀ kinds now i = 18 - i
+μ-loop kinds₀ seed now₀ i₀ kinds now i = 18 - i
 
 loop-holds : tie.Need-loop-holds Inv-loop μ-loop
 loop-holds c = refl
 
 next-requires : tie.Need-next-requires Inv-loop μ-loop
 next-requires c κs = search needs
+
+below-requires : tie.Need-below-requires Inv-loop μ-loop
+below-requires c κs = search needs
 
 sow-requires : tie.Need-sow-requires Inv-loop μ-loop
 sow-requires c κs = search needs
@@ -44,6 +47,7 @@ plant-spec =
     μ-loop
     loop-holds
     next-requires
+    below-requires
     sow-requires
     add-i
     loop-less

@@ -1,4 +1,4 @@
--- `script::run` is safe and ends: an item stands from `from` up to `end`, within the text; both buffers keep their lengths.
+-- `script::run` is safe and ends: an item stands from `from` up to `end`, within the text; the buffers keep their lengths.
 -- The measure is how many bytes of the text are to come. Assumes nothing.
 use mathlib.Core.Path.{_≡_, refl, _∙_}
 use lib.ListN.{length}
@@ -8,17 +8,18 @@ use Rattle.corners.proofs.script.run.Statement.{statement}
 use Rattle.corners.proofs.script.run.Tie as tie
 
 abbrev Inv-loop : tie.InvT-loop
-Inv-loop table₀ work₀ entry-size list rec₀ from₀ end₀ table work rec from end =
-    (length table ≡ length table₀) × (length work ≡ length work₀) × (from ≤ end) × (end ≤ length list)
+Inv-loop first second table₀ old₀ work₀ entry-size list rec₀ from₀ end₀ table old work rec from end =
+    (length table ≡ length table₀) × (length old ≡ length old₀) × (length work ≡ length work₀) × (from ≤ end) × (end ≤ length list)
 
 abbrev μ-loop : tie.MeasureT-loop
-μ-loop table₀ work₀ entry-size list rec₀ from₀ end₀ table work rec from end = length list - end
+μ-loop first second table₀ old₀ work₀ entry-size list rec₀ from₀ end₀ table old work rec from end =
+    length list - end
 
 bar-requires : tie.Need-bar-requires Inv-loop μ-loop
 bar-requires c κs = search needs
 
 loop-holds : tie.Need-loop-holds Inv-loop μ-loop
-loop-holds c = (refl, refl, search needs, search needs)
+loop-holds c = (refl, refl, refl, search needs, search needs)
 
 sub-item : tie.Need-sub-item Inv-loop μ-loop
 sub-item c = search needs
@@ -43,16 +44,19 @@ loop-less c = search needs
 
 loop-again : tie.Need-loop-again Inv-loop μ-loop
 loop-again c =
-    let ran = c .before .before .before .before .before in
-    let k = ran .item .kept in
-    let i = ran .before .before .before .before .before .loop .inv in
-    (k .0 ∙ i .0, k .1 .0 ∙ i .1, search needs, search needs)
+    let ran = c .before .before .before .before .before .before .before in
+    let k = ran .item .kept .1 .1 in
+    let i = ran .before .before .before .before .before .before .loop .inv in
+    (k .0 ∙ i .0, k .1 .0 ∙ i .1, k .1 .1 .0 ∙ i .2, search needs, search needs)
 
 same-length : tie.Need-same-length Inv-loop μ-loop
 same-length c = c .before .loop .inv .0
 
 same-length-2 : tie.Need-same-length-2 Inv-loop μ-loop
 same-length-2 c = c .before .loop .inv .1
+
+same-length-3 : tie.Need-same-length-3 Inv-loop μ-loop
+same-length-3 c = c .before .loop .inv .2
 
 returns : tie.Need-returns Inv-loop μ-loop
 returns c = search needs
@@ -75,4 +79,5 @@ run-spec =
     loop-again
     same-length
     same-length-2
+    same-length-3
     returns)

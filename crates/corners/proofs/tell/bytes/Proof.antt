@@ -7,16 +7,10 @@ use Rattle.corners.proofs.tell.bytes.Statement.{statement}
 use Rattle.corners.proofs.tell.bytes.Tie as tie
 
 abbrev Inv-loop : tie.InvT-loop
-Inv-loop s i₀ t4 i-end i = i-end ≡ length s
+Inv-loop s i₀ i-end i = i-end ≡ length s
 
 abbrev μ-loop : tie.MeasureT-loop
-μ-loop s i₀ t4 i-end i = i-end - i
-
-slice-aggregate-text : tie.Need-slice-aggregate-text Inv-loop μ-loop
-slice-aggregate-text c = search needs
-
-text-requires : tie.Need-text-requires Inv-loop μ-loop
-text-requires c κs = search needs
+μ-loop s i₀ i-end i = i-end - i
 
 loop-holds : tie.Need-loop-holds Inv-loop μ-loop
 loop-holds c = refl
@@ -36,12 +30,6 @@ loop-less c = search needs
 loop-again : tie.Need-loop-again Inv-loop μ-loop
 loop-again c = search needs
 
-slice-aggregate-text-2 : tie.Need-slice-aggregate-text-2 Inv-loop μ-loop
-slice-aggregate-text-2 c = search needs
-
-text-requires-2 : tie.Need-text-requires-2 Inv-loop μ-loop
-text-requires-2 c κs = search needs
-
 returns : tie.Need-returns Inv-loop μ-loop
 returns c = search needs
 
@@ -51,14 +39,10 @@ bytes-spec =
     (tie.spec
     Inv-loop
     μ-loop
-    slice-aggregate-text
-    text-requires
     loop-holds
     shared-slice-read-byte
     byte-requires
     add-i
     loop-less
     loop-again
-    slice-aggregate-text-2
-    text-requires-2
     returns)
