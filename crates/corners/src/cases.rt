@@ -1,4 +1,5 @@
-// Document 01's cases for the calls but rename, and the corners beside them, as texts for `script`. What each must print stands in the program's stdout.
+// Document 01's cases for the calls but rename, and the corners beside them, as texts for `script`.
+// What each must print is worked out by hand and stands in the program's stdout; items of one function share listings and buffers where they can.
 use crate::script;
 
 // Items run over two listings, in a table buffer of n bytes with a work buffer of m. The buffers stand here and are lent on.

@@ -175,30 +175,15 @@ fn step(
     let call = drawn(last, given.charge);
     let must = plain::judged(kinds, i, call);
     guard::prepare(table, old, work);
-    let done = calls::make(
-        listing,
-        table,
-        given,
-        work,
-        plain::path(names, i),
-        content,
-        call,
-    );
+    let path = plain::path(names, i);
+    let done = calls::make(listing, table, given, work, path, content, call);
     let answer = done.answer;
     let after = done.record;
     let number = number(answer);
     plain::done(kinds, i, call.letter, number == 0);
     let a = is_number(number, must, call.limit);
-    let b = is_left_well(
-        table,
-        old,
-        work,
-        given,
-        after,
-        answer,
-        call,
-        content.len() as u64,
-    );
+    let n = content.len() as u64;
+    let b = is_left_well(table, old, work, given, after, answer, call, n);
     let c = is_all_seen(listing, table, after, kinds, names);
     counted(st, after, last, number, a & b & c)
 }
@@ -291,15 +276,11 @@ fn listed(s: &mut [u8], kinds: &[u8], names: &[u8]) -> usize {
     at
 }
 
-// A list of calls over a random tree; the buffers stand here and are lent on.
-fn list(names: &[u8], st: State) -> State {
-    let mut kinds = [0u8; 18];
-    let mut listing = [0u8; 512];
+// A list of calls over a tree; the buffers stand here and are lent on.
+fn over(listing: &[u8], names: &[u8], kinds: &mut [u8], seed: u64, st: State) -> State {
     let mut table = [255u8; 640];
     let mut old = [0u8; 640];
     let mut work = [255u8; 640];
-    let seed = plant(&mut kinds, st.seed);
-    let n = listed(&mut listing, &kinds, names);
     let opened = overlay_open::open(&mut table, 40);
     let rec = opened.record;
     let start = State {
@@ -310,18 +291,27 @@ fn list(names: &[u8], st: State) -> State {
         limited: st.limited,
         wrong: st.wrong,
     };
+    steps(
+        listing,
+        names,
+        &mut table,
+        &mut old,
+        &mut work,
+        kinds,
+        start,
+    )
+}
+
+// A list of calls over a random tree.
+fn list(names: &[u8], st: State) -> State {
+    let mut kinds = [0u8; 18];
+    let mut listing = [0u8; 512];
+    let seed = plant(&mut kinds, st.seed);
+    let n = listed(&mut listing, &kinds, names);
     if n <= 512 {
-        return steps(
-            &listing[0..n],
-            names,
-            &mut table,
-            &mut old,
-            &mut work,
-            &mut kinds,
-            start,
-        );
+        return over(&listing[0..n], names, &mut kinds, seed, st);
     }
-    start
+    st
 }
 
 fn lists(names: &[u8], st: State) -> State {

@@ -66,7 +66,33 @@ fn given(rec: Record, wrong: u8) -> Record {
     new
 }
 
-// A changing call, and whether it kept what it must; a wrong record is not handed on.
+// What a call answered, and whether it kept what it must; a refused call's record is not handed on, since it may be a wrong one.
+fn reported(
+    table: &[u8],
+    old: &[u8],
+    work: &[u8],
+    answer: Answer,
+    after: Record,
+    before_call: Record,
+    rec: Record,
+) -> Record {
+    tell::answer(answer);
+    tell::rec(after);
+    match answer {
+        Answer::Accepted(_) => {
+            tell::end(guard::is_clean(table, work, after), b", work 0\n");
+            return after;
+        }
+        Answer::Refused(_) => {
+            tell::end(
+                guard::is_kept(table, old, work, after, before_call),
+                b", all kept\n",
+            );
+            return rec;
+        }
+    }
+}
+
 fn change(
     listing: &[u8],
     table: &mut [u8],
@@ -85,21 +111,7 @@ fn change(
     let done = calls::make(listing, table, rec_given, work, path, sevens, call(s));
     let after = done.record;
     let answer = done.answer;
-    tell::answer(answer);
-    tell::rec(after);
-    match answer {
-        Answer::Accepted(_) => {
-            tell::end(guard::is_clean(table, work, after), b", work 0\n");
-            return after;
-        }
-        Answer::Refused(_) => {
-            tell::end(
-                guard::is_kept(table, old, work, after, rec_given),
-                b", all kept\n",
-            );
-            return rec;
-        }
-    }
+    reported(table, old, work, answer, after, rec_given, rec)
 }
 
 // exists, is_file or is_dir, by the letter in which their names differ.

@@ -1,4 +1,5 @@
-// What the program prints.
+// What the program prints: texts with numbers, an answer as document 01 numbers it, and what a call left.
+// An accepted call shows its value, a refused one its number and in brackets a path and a length.
 use crate::calls;
 use libc::STDOUT_FILENO;
 use model::Answer;
