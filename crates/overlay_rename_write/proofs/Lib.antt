@@ -1,0 +1,5 @@
+pub mod Items
+pub mod Loops
+pub mod Sequences
+pub mod Lists
+pub mod Ascents
