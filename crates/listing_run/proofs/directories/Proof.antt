@@ -2,12 +2,12 @@ use mathlib.Core.Path.{_≡_, refl}
 use lib.ListN.{length}
 use Prim.Native.Nat.{_-_}
 use borrow.Author.Needs.{needs}
-use Rattle.listing_run.proofs.shapes.directories.Statement.{statement}
-use Rattle.listing_run.proofs.shapes.directories.Tie as tie
-use Rattle.listing_run.proofs.shapes.directories.Reads as reads
-use Rattle.listing_run.proofs.shapes.directories.Lts as lts
-use Rattle.listing_run.proofs.shapes.directory.Reads as directory-reads
-use Rattle.listing_run.proofs.shapes.name.Reads as name-reads
+use Rattle.listing_run.proofs.directories.Statement.{statement}
+use Rattle.listing_run.proofs.directories.Tie as tie
+use Rattle.listing_run.proofs.directories.Reads as reads
+use Rattle.listing_run.proofs.directories.Lts as lts
+use Rattle.listing_run.proofs.directory.Reads as directory-reads
+use Rattle.listing_run.proofs.name.Reads as name-reads
 
 abbrev Inv-loop : tie.InvT-loop
 Inv-loop s₀ at n next₀ i₀ s next i = length s ≡ length s₀
@@ -15,35 +15,27 @@ Inv-loop s₀ at n next₀ i₀ s next i = length s ≡ length s₀
 abbrev μ-loop : tie.MeasureT-loop
 μ-loop s₀ at n next₀ i₀ s next i = n - i
 
--- src/shapes.rt:66:5
 loop-holds : tie.Need-loop-holds Inv-loop μ-loop
 loop-holds c = refl
 
--- src/shapes.rt:67:9
 directory-requires : tie.Need-directory-requires Inv-loop μ-loop
 directory-requires c κs = search needs
 
--- src/shapes.rt:68:9
 name-requires : tie.Need-name-requires Inv-loop μ-loop
 name-requires c κs = search needs
 
--- src/shapes.rt:66:9
 add-i : tie.Need-add-i Inv-loop μ-loop
 add-i c = search needs
 
--- src/shapes.rt:66:5
 loop-less : tie.Need-loop-less Inv-loop μ-loop
 loop-less c = search needs
 
--- src/shapes.rt:66:5
 loop-again : tie.Need-loop-again Inv-loop μ-loop
 loop-again c = search needs
 
--- src/shapes.rt:64:1
 same-length : tie.Need-same-length Inv-loop μ-loop
 same-length c = c .before .loop .inv
 
--- src/shapes.rt:64:1
 returns : tie.Need-returns Inv-loop μ-loop
 returns c = search needs
 

@@ -2,11 +2,11 @@ use mathlib.Core.Path.{_≡_, refl}
 use lib.ListN.{length}
 use Prim.Native.Nat.{_-_}
 use borrow.Author.Needs.{needs}
-use Rattle.listing_run.proofs.shapes.chains.Statement.{statement}
-use Rattle.listing_run.proofs.shapes.chains.Tie as tie
-use Rattle.listing_run.proofs.shapes.chains.Reads as reads
-use Rattle.listing_run.proofs.shapes.chains.Lts as lts
-use Rattle.listing_run.proofs.shapes.chain.Reads as chain-reads
+use Rattle.listing_run.proofs.chains.Statement.{statement}
+use Rattle.listing_run.proofs.chains.Tie as tie
+use Rattle.listing_run.proofs.chains.Reads as reads
+use Rattle.listing_run.proofs.chains.Lts as lts
+use Rattle.listing_run.proofs.chain.Reads as chain-reads
 
 abbrev Inv-loop : tie.InvT-loop
 Inv-loop s₀ at n next₀ i₀ s next i = length s ≡ length s₀
@@ -14,31 +14,24 @@ Inv-loop s₀ at n next₀ i₀ s next i = length s ≡ length s₀
 abbrev μ-loop : tie.MeasureT-loop
 μ-loop s₀ at n next₀ i₀ s next i = n - i
 
--- src/shapes.rt:102:5
 loop-holds : tie.Need-loop-holds Inv-loop μ-loop
 loop-holds c = refl
 
--- src/shapes.rt:103:9
 chain-requires : tie.Need-chain-requires Inv-loop μ-loop
 chain-requires c κs = search needs
 
--- src/shapes.rt:102:9
 add-i : tie.Need-add-i Inv-loop μ-loop
 add-i c = search needs
 
--- src/shapes.rt:102:5
 loop-less : tie.Need-loop-less Inv-loop μ-loop
 loop-less c = search needs
 
--- src/shapes.rt:102:5
 loop-again : tie.Need-loop-again Inv-loop μ-loop
 loop-again c = search needs
 
--- src/shapes.rt:100:1
 same-length : tie.Need-same-length Inv-loop μ-loop
 same-length c = c .before .loop .inv
 
--- src/shapes.rt:100:1
 returns : tie.Need-returns Inv-loop μ-loop
 returns c = search needs
 
