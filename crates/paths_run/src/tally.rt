@@ -2,6 +2,7 @@
 // Assumes nothing. A count would wrap only at 2^64 vectors.
 ghost use mathlib.Core.Path.{_≡_};
 ghost use Rattle.model.specs.Utf8.{utf8};
+ghost use Rattle.paths_run.specs.Tallied.{tallied, agrees, gave};
 use libc::STDOUT_FILENO;
 
 // How many vectors were run, and how many gave what they must.
@@ -10,11 +11,15 @@ pub struct Tally {
     pub right: u64,
 }
 
-pub fn none() -> Tally {
+pub fn none() -> Tally
+    ensures { λ r. ⌜ r ≡ record { run = 0; right = 0 } ⌝ }
+{
     Tally { run: 0, right: 0 }
 }
 
-pub fn counted(t: Tally, ok: bool) -> Tally {
+pub fn counted(t: Tally, ok: bool) -> Tally
+    ensures { λ r. ⌜ r ≡ tallied t ok ⌝ }
+{
     let run = std::num::wrapping_add_u64(t.run, 1);
     let right = std::num::wrapping_add_u64(t.right, ok as u64);
     Tally { run, right }
@@ -46,9 +51,20 @@ pub fn is_utf8(s: &[u8]) -> bool
     t.need == 0
 }
 
+fn agrees(a: bool, b: bool) -> bool
+    ensures { λ r. ⌜ r ≡ agrees a b ⌝ }
+{
+    if a {
+        return b;
+    }
+    !b
+}
+
 // s must be a path, or must not; and where it is a text, which has no byte that a path forbids, it must be UTF-8, or must not, too.
-pub fn one(t: Tally, s: &[u8], text: bool, must: bool) -> Tally {
-    let a = path_security::is_path(s);
-    let b = is_utf8(s);
-    counted(t, (a == must) & (!text | (b == must)))
+pub fn one(t: Tally, s: &[u8], text: bool, must: bool) -> Tally
+    ensures { λ r. ⌜ r ≡ tallied t (gave (now (s .entry)) text must) ⌝ }
+{
+    let path = agrees(path_security::is_path(s), must);
+    let utf8 = agrees(is_utf8(s), must);
+    counted(t, path & (!text | utf8))
 }
