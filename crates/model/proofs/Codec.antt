@@ -16,7 +16,7 @@ use Rattle.model.specs.Path.{Path, isPath, isRoot, short, component, com
 use Rattle.model.specs.Utf8.{utf8}
 use Rattle.model.specs.Map.{ascends}
 use Rattle.model.specs.Tree.{Entry, own, reference, directory, deleted, Table}
-use Rattle.model.specs.Table.{typeOf, mtimeOf, sizeOf, bodyOf, entryBytes, encode, padded, recordOf, keyAt, bodyAt, entryOf, entryAt, entryEnd}
+use Rattle.model.specs.Table.{typeOf, mtimeOf, sizeOf, bodyOf, entryBytes, encode, padded, charge, recordOf, keyAt, bodyAt, entryOf, entryAt, entryEnd}
 use Rattle.model.specs.Table.{entriesAt, tableIn, formedBody, formedEntry, sameRecord, sized, isTable}
 use Rattle.model.specs.declared.Record.{Record}
 use Rattle.model.proofs.Words.{Word, Worded, Words}
@@ -76,6 +76,10 @@ decoded s r h =
     let e : s ≡ padded (length s) (encode t) = same-is s (padded (length s) (encode t)) (x .1) in
     let l : length s ≡ length (encode t) + (length s - length (encode t)) = ap length e ∙ length-padded (length s) (encode t) in
     record { bytes = e; rec = same-record-is r q (w .1); size = z .0; ascending = z .1; formed = y .1; fits = omega arith }
+
+-- the record's charge is the table's
+pub charge-is : (s : Bytes) (r : Record) → isTable s r ≡ true → r .charge ≡ charge (r .«entry_size») (tableIn s r)
+charge-is s r h = ap (λ (q : Record). q .charge) (decoded s r h .rec)
 
 -- the numbers that a table's bytes can hold: mtimes are any of 64 bits, and `formedBody` bounds the sizes
 

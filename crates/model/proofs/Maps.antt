@@ -4,7 +4,7 @@ use mathlib.Core.Path.{_≡_, refl, ap, ap₂, sym, _∙_}
 use mathlib.Core.List.{List, [], _∷_, _++_}
 use mathlib.Core.Bool.{Bool, true, false, cond, _||_}
 use mathlib.Core.Option.{Option, none, some}
-use Rattle.model.specs.Bytes.{same, before}
+use Rattle.model.specs.Bytes.{every, same, before}
 use Rattle.model.specs.Path.{Path, rest}
 use Rattle.model.specs.Map.{Map, byRest, lookup, ascends, put, puts, del, only, each, keys, rekey, outside, mapped}
 use Rattle.model.proofs.Orders.{Lt, Lt-irrefl, Lt-trans, Lt-≢, same-no, same-refl, Split, split, Cmp, cmp, mem, rest-is, rest-app, is-none, is-some, opt, bot, yea, nay, test, and-true}
@@ -107,6 +107,11 @@ module _ {A : Type 0} where
   ascending-puts [] m a = a
   ascending-puts (x ∷ xs) m a = ascending-put (x .0) (x .1) (puts xs m) (ascending-puts xs m a)
 
+  pub above-puts : (j : Path) (xs m : Map A) → Above j xs → Ascending xs → Above j m → Above j (puts xs m)
+  above-puts j [] m h a g = g
+  above-puts j (x ∷ xs) m h a g =
+      above-put j (x .0) (x .1) (puts xs m) h (above-puts j xs m (above-trans j (x .0) xs h (a .0)) (a .1) g)
+
   pub lookup-each : (v : A) (ks : List Path) (q : Path) → lookup (each v ks) q ≡ cond (mem q ks) (some v) none
   lookup-each v [] q = refl
   lookup-each v (k ∷ ks) q = ap (cond (same k q) (some v)) (lookup-each v ks q) ∙ either (same k q) (mem q ks) (some v)
@@ -167,6 +172,14 @@ module _ {A B : Type 0} where
   lookup-mapped f [] q = refl
   lookup-mapped f (x ∷ xs) q = ap (cond (same (x .0) q) (some (f (x .1)))) (lookup-mapped f xs q) ∙ outward f (same (x .0) q) (x .1) (lookup xs q)
 
+  pub above-mapped : (f : A → B) (k : Path) (xs : Map A) → Above k xs → Above k (mapped f xs)
+  above-mapped f k [] h = tt
+  above-mapped f k (x ∷ xs) h = h
+
+  pub ascending-mapped : (f : A → B) (xs : Map A) → Ascending xs → Ascending (mapped f xs)
+  ascending-mapped f [] a = tt
+  ascending-mapped f (x ∷ xs) a = (above-mapped f (x .0) xs (a .0), ascending-mapped f xs (a .1))
+
 module _ {A : Type 0} where
   pub lookup-only : (P : Path → Bool) (xs : Map A) (q : Path) → lookup (only P xs) q ≡ cond (P q) (lookup xs q) none
   lookup-only P [] q = elim (test (P q)) [ yea e ↦ cc | nay e ↦ cc ]
@@ -175,13 +188,17 @@ module _ {A : Type 0} where
     | Split.ne e w ↦ elim (test (P (x .0))) [ yea f ↦ cc | nay f ↦ cc ]
   ]
 
-  above-only : (P : Path → Bool) (k : Path) (xs : Map A) → Above k xs → Ascending xs → Above k (only P xs)
+  pub above-only : (P : Path → Bool) (k : Path) (xs : Map A) → Above k xs → Ascending xs → Above k (only P xs)
   above-only P k [] h a = tt
   above-only P k (x ∷ xs) h a = let ih = above-only P k xs (above-trans k (x .0) xs h (a .0)) (a .1) in elim (test (P (x .0))) [ yea e ↦ rw e h | nay e ↦ rw e ih ]
 
   pub ascending-only : (P : Path → Bool) (xs : Map A) → Ascending xs → Ascending (only P xs)
   ascending-only P [] a = tt
   ascending-only P (x ∷ xs) a = let ih = ascending-only P xs (a .1) in elim (test (P (x .0))) [ yea e ↦ rw e (above-only P (x .0) xs (a .0) (a .1), ih) | nay e ↦ rw e ih ]
+
+  pub every-only : (P : Path → Bool) (xs : Map A) → every P (keys (only P xs)) ≡ true
+  every-only P [] = refl
+  every-only P (x ∷ xs) = let ih = every-only P xs in elim (test (P (x .0))) [ yea e ↦ rw (e, e) ih | nay e ↦ rw e ih ]
 
   -- the test and the type
   above-ascends : (p : Path) (xs : Map A) → ascends p xs ≡ true → Above p xs

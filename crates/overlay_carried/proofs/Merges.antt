@@ -2,35 +2,19 @@
 -- Assumes nothing.
 use mathlib.Core.Path.{_≡_, refl, ap, sym, _∙_}
 use mathlib.Core.List.{[], _∷_}
-use mathlib.Core.Bool.{Bool, true, false}
+use mathlib.Core.Bool.{false}
 use mathlib.Core.Option.{none}
-use Rattle.model.specs.Bytes.{every, before}
+use Rattle.model.specs.Bytes.{before}
 use Rattle.model.specs.Path.{Path, below}
-use Rattle.model.specs.Map.{Map, lookup, put, puts, only, keys, mapped}
+use Rattle.model.specs.Map.{Map, lookup, put, puts, only, mapped}
 use Rattle.model.specs.Tree.{Table, Tree}
 use Rattle.model.specs.Rename.{asEntry, uncovered}
 use Rattle.model.proofs.Orders.{Lt, Lt-irrefl, Lt-trans, Lt-≢, Cmp, cmp, Split, split, same-refl, bot, yea, nay, test}
-use Rattle.model.proofs.Maps.{Above, Ascending, above-trans, lookup-puts, lookup-mapped, lookup-only, ascending-puts, ascending-only, map-ext}
+use Rattle.model.proofs.Maps.{Above, Ascending, above-trans, above-puts, lookup-puts, lookup-mapped, lookup-only, ascending-puts, ascending-only, ascending-mapped, map-ext}
 use Rattle.fields.proofs.Common.{Lt-before}
 use Rattle.overlay_carried.specs.Streams.{carriedBelow}
 
 module _ {A : Type 0} where
-  above-put : (j k : Path) (v : A) (m : Map A) → Lt j k → Above j m → Above j (put k v m)
-  above-put j k v [] h a = h
-  above-put j k v (x ∷ xs) h a = elim (cmp k (x .0)) [ Cmp.lt g w ↦ rw w h | Cmp.eq e w ↦ rw w h | Cmp.gt g w ↦ rw w a ]
-
-  pub above-puts : (j : Path) (xs m : Map A) → Above j xs → Ascending xs → Above j m → Above j (puts xs m)
-  above-puts j [] m h a g = g
-  above-puts j (x ∷ xs) m h a g =
-      above-put j (x .0) (x .1) (puts xs m) h (above-puts j xs m (above-trans j (x .0) xs h (a .0)) (a .1) g)
-
-  pub above-only : (f : Path → Bool) (k : Path) (xs : Map A) → Above k xs → Ascending xs → Above k (only f xs)
-  above-only f k [] h a = tt
-  above-only f k (x ∷ xs) h a = elim (test (f (x .0))) [
-    | yea e ↦ rw e h
-    | nay e ↦ rw e (above-only f k xs (above-trans k (x .0) xs h (a .0)) (a .1))
-  ]
-
   put-low : (k : Path) (v : A) (m : Map A) → Above k m → put k v m ≡ (k, v) ∷ m
   put-low k v [] h = refl
   put-low k v (x ∷ xs) h = elim (cmp k (x .0)) [
@@ -66,19 +50,6 @@ module _ {A : Type 0} where
 
   pub behind-first : (q : Path) (x : Path × A) (xs : Map A) → lookup (x ∷ xs) q ≡ none → lookup xs q ≡ none
   behind-first q x xs l = elim (split (x .0) q) [ Split.eq e w ↦ absurd (bot (cc)) | Split.ne e w ↦ cc ]
-
-  pub every-only : (f : Path → Bool) (m : Map A) → every f (keys (only f m)) ≡ true
-  every-only f [] = refl
-  every-only f (x ∷ xs) = let ih = every-only f xs in elim (test (f (x .0))) [ yea e ↦ rw (e, e) ih | nay e ↦ rw e ih ]
-
-module _ {A B : Type 0} (f : A → B) where
-  pub above-mapped : (k : Path) (xs : Map A) → Above k xs → Above k (mapped f xs)
-  above-mapped k [] h = tt
-  above-mapped k (x ∷ xs) h = h
-
-  pub ascending-mapped : (xs : Map A) → Ascending xs → Ascending (mapped f xs)
-  ascending-mapped [] a = tt
-  ascending-mapped (x ∷ xs) a = (above-mapped (x .0) xs (a .0), ascending-mapped xs (a .1))
 
 module _ (t : Table) (l : Tree) (a : Path) where
   abbrev inside : Table

@@ -4,8 +4,10 @@ use mathlib.Core.Path.{_≡_, refl, ap, sym, _∙_}
 use mathlib.Core.List.{List, [], _∷_}
 use mathlib.Core.Bool.{Bool, true, false, not, _||_}
 use mathlib.Core.Option.{Option, none}
-use Prim.Native.Nat.{ℕ, zero, suc, _-_, _<_}
+use Prim.Native.Nat.{ℕ, zero, suc, _+_, _-_, _<_, _≤_}
 use native.Mathlib.Omega.{arith}
+use lib.Dec.{ltb}
+use borrow.Author.Tests.{ltb-true, ltb-false}
 use Rattle.model.specs.Bytes.{Bytes, every, before}
 use Rattle.model.specs.Path.{Path, ancestors, below}
 use Rattle.model.specs.Map.{isNone, lookup, ascends, puts, only, keys, mapped}
@@ -14,7 +16,7 @@ use Rattle.model.specs.Listing.{recordAt, recordEnd, nodeOf}
 use Rattle.model.specs.Table.{keyAt, entryAt, entryEnd, entriesAt}
 use Rattle.model.specs.Rename.{asEntry, uncovered}
 use Rattle.model.proofs.Orders.{bot, and-true, is-none, is-some, opt, yea, nay, test}
-use Rattle.model.proofs.Maps.{Above, Ascending, ascends-is, is-ascends, ascending-puts, ascending-only, lookup-only}
+use Rattle.model.proofs.Maps.{Above, Ascending, above-puts, above-only, above-mapped, ascends-is, is-ascends, ascending-puts, ascending-only, ascending-mapped, lookup-only, every-only}
 use Rattle.fields.proofs.Common.{before-Lt}
 use Rattle.listing_parts.specs.Place.{treeAt}
 use Rattle.listing_parts.specs.Place as listing
@@ -28,8 +30,7 @@ use Rattle.overlay_carried.specs.Streams.{carriedBelow, ahead, remaining
 use Rattle.overlay_carried.specs.declared.Stream.{Stream}
 use Rattle.overlay_carried.specs.declared.Head.{Head}
 use Rattle.overlay_carried.specs.declared.Head.the-variants as next
-use Rattle.overlay_carried.proofs.Merges.{above-puts, above-only, puts-first, puts-second, before-first, behind-first, every-only}
-use Rattle.overlay_carried.proofs.Merges.{above-mapped, ascending-mapped, carried-parts}
+use Rattle.overlay_carried.proofs.Merges.{puts-first, puts-second, before-first, behind-first, carried-parts}
 
 none-is : (o : Option Entry) → isNone o ≡ true → o ≡ none
 none-is o h = elim (opt o) [ is-none e ↦ e | is-some x e ↦ absurd (bot (cc)) ]
@@ -237,3 +238,19 @@ module _ (own part : Bytes) (t : Table) (a : Path) (n : ℕ) (e : entriesAt own 
       ∙ ap (λ (x : Table). puts x (mapped asEntry (toCome t a part (s .listed .left) (s .listed .at)))) e
       ∙ ap (λ (x : Tree). puts (only (below a) t) (mapped asEntry x)) (f ∙ ap (only (uncovered t a)) g)
       ∙ carried-parts t l a (ascends-is [] l u .1)
+
+-- one of two numbers is not 0, or both are
+pub some-left : (m n : ℕ) → (ltb 0 m || ltb 0 n ≡ true → 0 < m + n) × (ltb 0 m || ltb 0 n ≡ false → m + n ≤ 0)
+some-left m n = (
+  (λ h. elim (test (ltb 0 m)) [
+    | yea e ↦ let x = ltb-true 0 m e in omega arith
+    | nay e ↦ elim (test (ltb 0 n)) [ yea f ↦ let x = ltb-true 0 n f in omega arith | nay f ↦ absurd (bot (cc)) ]
+  ]),
+  (λ h. elim (test (ltb 0 m)) [
+    | yea e ↦ absurd (bot (cc))
+    | nay e ↦ elim (test (ltb 0 n)) [
+      | yea f ↦ absurd (bot (cc))
+      | nay f ↦ let x = ltb-false 0 m e in let y = ltb-false 0 n f in omega arith
+    ]
+  ]),
+)

@@ -2,7 +2,7 @@
 // Assumes a part of a checked table and one of a checked listing, both below the source: only this repository's crates call.
 // A whole pass reads both parts and the table once, and at each step the two keys that are next once more, of at most 512 bytes each.
 ghost use mathlib.Core.Path.{_≡_};
-ghost use mathlib.Core.Bool.{Bool, true};
+ghost use mathlib.Core.Bool.{Bool, true, false};
 ghost use mathlib.Core.List.{List, [], _∷_};
 ghost use Prim.Native.Nat.{_+_, _≤_, _<_};
 ghost use lib.ListN.{length};
@@ -28,6 +28,15 @@ pub enum Head {
     Entry,
     Listed,
     End,
+}
+
+// Whether an item is to come.
+pub fn has_next(stream: Stream) -> bool
+    ensures { λ r. ⌜ (r ≡ true → 0 < remaining stream) × (r ≡ false → remaining stream ≤ 0) ⌝ }
+{
+    let entries = stream.entries;
+    let listed = stream.listed;
+    (0 < entries.left) | (0 < listed.left)
 }
 
 // It reads no more than the two keys at the stream's places.

@@ -10,13 +10,13 @@ use lib.ListN.{length, drop, length-drop}
 use lib.Seq.{length-take-le}
 use Rattle.model.specs.Bytes.{Bytes}
 use Rattle.model.specs.Path.{Path, slashless, below, child}
-use Rattle.model.specs.Map.{Map, lookup, isNone, ascends, only}
+use Rattle.model.specs.Map.{lookup, isNone, ascends, only}
 use Rattle.model.specs.Tree.{Table, Tree}
 use Rattle.model.specs.Listing.{treeIn, isListing}
 use Rattle.model.specs.Table.{entriesAt, tableIn}
 use Rattle.model.specs.declared.Record.{Record}
 use Rattle.model.proofs.Orders.{bot, and-true, yea, nay, test}
-use Rattle.model.proofs.Maps.{Above, Ascending, above-trans, ascends-is, is-ascends, ascending-only}
+use Rattle.model.proofs.Maps.{above-only, ascends-is, is-ascends, ascending-only}
 use Rattle.listing_parts.specs.Place.{treeAt, Standing}
 use Rattle.listing_parts.specs.Parts.{part, PartOf}
 use Rattle.listing_parts.proofs.Places.{checked}
@@ -53,13 +53,6 @@ listed-below t d [] = refl
 listed-below t d (x ∷ xs) = elim (test (below d (x .0))) [
   | yea e ↦ rw e (ap (λ (b : Bool). (child d (x .0) && isNone (lookup t (x .0))) || b) (listed-below t d xs))
   | nay e ↦ rw (e, not-child d (x .0) e) (listed-below t d xs)
-]
-
-above-only : {A : Type 0} (f : Path → Bool) (k : Path) (xs : Map A) → Above k xs → Ascending xs → Above k (only f xs)
-above-only f k [] h a = tt
-above-only f k (x ∷ xs) h a = elim (test (f (x .0))) [
-  | yea e ↦ rw e h
-  | nay e ↦ rw e (above-only f k xs (above-trans k (x .0) xs h (a .0)) (a .1))
 ]
 
 -- the listing's part below d

@@ -81,10 +81,6 @@ ends s w t k left at out used m e =
     let z = m .size in
     (omega arith, omega arith)
 
--- the record's charge is the table's
-pub charge-is : (s : Bytes) (r : Record) → isTable s r ≡ true → r .charge ≡ charge (r .«entry_size») (tableIn s r)
-charge-is s r h = ap (λ (q : Record). q .charge) (decoded s r h .rec)
-
 -- a pass that begins at the first entry, as code has it
 pub counts-first : (s : Bytes) (r : Record) (q : Place) → isTable s r ≡ true → q ≡ record { at = 0; left = r .count } → Counts s (q .left) (q .at) r
 counts-first s r q h e = subst (λ (p : Place). Counts s (p .left) (p .at) r) (sym e) (counts-all s r h)

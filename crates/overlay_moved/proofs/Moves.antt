@@ -1,6 +1,6 @@
--- What rename moves: its keys and their order; that its checks keep source and destination apart; deleted and moved entries merged.
+-- What rename moves: its keys and their order, and that its checks keep source and destination apart.
 -- Assumes nothing but what each law names: lists whose keys ascend, and keys at or below the source.
-use mathlib.Core.Path.{_≡_, refl, ap, sym, _∙_}
+use mathlib.Core.Path.{_≡_, refl, ap, ap₂, sym, _∙_}
 use mathlib.Core.Logic.{inl, inr}
 use mathlib.Core.List.{List, [], _∷_, _++_}
 use mathlib.Core.Bool.{Bool, true, false, cond, not, _||_}
@@ -10,20 +10,18 @@ use native.Mathlib.Omega.{arith}
 use lib.ListN.{length, drop, length-append}
 use Rattle.model.specs.Bytes.{every}
 use Rattle.model.specs.Path.{Path, ancestors, below, rest}
-use Rattle.model.specs.Map.{Map, isNone, lookup, put, puts, only, each, keys, rekey, mapped}
-use Rattle.model.specs.Tree.{Node, Entry, deleted, Table, Tree, shown, aDirectory, aFile, kind, isDirectory}
+use Rattle.model.specs.Map.{Map, isNone, lookup, puts, only, each, keys, rekey, mapped}
+use Rattle.model.specs.Tree.{Node, Entry, deleted, Table, Tree, shown, aDirectory, aFile, kind, isNothing, isDirectory}
 use Rattle.model.specs.Checks.{pass, refuse, _then_, parents, notRoot, empty}
 use Rattle.model.specs.Rename.{notLink, notDeleted, noClash, present, ifDirectory, newKey, asEntry, uncovered, along, carried, moved}
-use Rattle.model.proofs.Orders.{Lt, Lt-irrefl, Lt-trans, Lt-≢, Cmp, cmp, Split, split, yea, nay, test, is-none, is-some, opt}
+use Rattle.model.proofs.Orders.{Lt, Split, split, yea, nay, test, is-none, is-some, opt}
 use Rattle.model.proofs.Orders.{bot, and-true, same-refl, mem, mem-ancestors, below-irrefl, below-trans, below-rest, rest-is, rest-self, inside-both}
-use Rattle.model.proofs.Maps.{Above, Ascending, above-trans, orElse, mapO, map-ext}
+use Rattle.model.proofs.Maps.{Above, Ascending, above-trans, orElse, mapO, map-ext, ascending-mapped}
 use Rattle.model.proofs.Maps.{lookup-puts, lookup-rekey, lookup-keys, lookup-mapped, lookup-only, ascending-puts, ascending-only}
 use Rattle.model.proofs.Invariant.{kind-is, is-nothing, is-directory, is-file, is-link′, kind-at, then-pass, parents-dirs}
 use Rattle.model.proofs.Rules.{child-root, way}
 use Rattle.model.proofs.Small.{childless}
 use Rattle.fields.proofs.Common.{Lt-append}
-use Rattle.overlay_measure.specs.Into.{into}
-use Rattle.overlay_measure.proofs.Intos.{into-puts}
 use Rattle.overlay_rename_checks.specs.Both.{bothChecks, earlyChecks}
 use Rattle.overlay_moved.proofs.Records.{Apart}
 
@@ -78,6 +76,17 @@ module _ {A : Type 0} where
         | is-some r n ↦ cc (new-key a b (x .0) r n)
       ]
 
+  -- with a in the place of a they stay
+  pub rekey-same : (a : Path) (c : Map A) → inside a c ≡ true → rekey a a c ≡ c
+  rekey-same a [] h = refl
+  rekey-same a (x ∷ xs) h =
+      let e = and-true (not (isNone (rest a (x .0)))) (inside a xs) h in
+      let i = rekey-same a xs (e .1) in
+      elim (opt (rest a (x .0))) [
+        | is-none n ↦ absurd (bot (cc (e .0)))
+        | is-some r n ↦ rw n (ap₂ (λ (k : Path) (z : Map A). (k, x .1) ∷ z) (sym (rest-is a (x .0) r n .0)) i)
+      ]
+
   -- what is before all of c is so with b in the place of a
   above-rekey : (a b k r : Path) (c : Map A) → rest a k ≡ some r → Above k c → Ascending c → Above (b ++ r) (rekey a b c)
   above-rekey a b k r [] e h g = tt
@@ -110,16 +119,6 @@ module _ {A : Type 0} where
       ]
 
 module _ {A B : Type 0} where
-  -- the first key stays, with other values
-  above-mapped : (f : A → B) (k : Path) (c : Map A) → Above k c → Above k (mapped f c)
-  above-mapped f k [] h = tt
-  above-mapped f k (x ∷ xs) h = h
-
-  -- so keys that ascend still do
-  pub ascending-mapped : (f : A → B) (c : Map A) → Ascending c → Ascending (mapped f c)
-  ascending-mapped f [] h = tt
-  ascending-mapped f (x ∷ xs) h = (above-mapped f (x .0) xs (h .0), ascending-mapped f xs (h .1))
-
   -- the first key stays, with one value at each
   above-each : (v : B) (k : Path) (c : Map A) → Above k c → Above k (each v (keys c))
   above-each v k [] h = tt
@@ -258,9 +257,9 @@ apart-moved a b c p h q e f =
     ]
 
 module _ (t : Table) (l : Tree) where
-  -- something is shown where a directory is, but for the root
-  dir-shown : (q : Path) → (q ≡ [] → ⊥) → kind (shown t l) q ≡ aDirectory → (n : Node) × (shown t l q ≡ some n)
-  dir-shown q r k = elim (opt (shown t l q)) [
+  -- something is shown where anything is, but for the root
+  pub some-shown : (q : Path) → (q ≡ [] → ⊥) → isNothing (kind (shown t l) q) ≡ false → (n : Node) × (shown t l q ≡ some n)
+  some-shown q r k = elim (opt (shown t l q)) [
     | is-some n e ↦ (n, e)
     | is-none e ↦ absurd (bot (cc (kind-at (shown t l) q none e r)))
   ]
@@ -268,10 +267,10 @@ module _ (t : Table) (l : Tree) where
   -- a directory that is empty is not on the way to a directory whose parents are all there
   not-above : (a b : Path) → kind (shown t l) a ≡ aDirectory → parents 0 (shown t l) a ≡ pass → empty 1 t l b ≡ pass → below b a ≡ true → ⊥
   not-above a b k p e h = elim (way b a h) [
-    | inl c ↦ let n = dir-shown a (child-root b a c) k in childless t l b 1 e a (n .0) c (n .1)
+    | inl c ↦ let n = some-shown a (child-root b a c) (ap isNothing k) in childless t l b 1 e a (n .0) c (n .1)
     | inr z ↦
         let q = z .0 in
-        let n = dir-shown q (child-root b q (z .1)) (parents-dirs 0 (length a) (kind (shown t l)) a q p (z .2)) in
+        let n = some-shown q (child-root b q (z .1)) (ap isNothing (parents-dirs 0 (length a) (kind (shown t l)) a q p (z .2))) in
         childless t l b 1 e q (n .0) (z .1) (n .1)
   ]
 
@@ -317,59 +316,3 @@ module _ (t : Table) (l : Tree) where
           | inr (inr e) ↦ not-under a b (h4 .0) (h5 .0) p e
         ])
       ]
-
--- Two lists of entries merged: `puts m d` is both of them in one order, and their first entries come in turn.
-module _ {A : Type 0} where
-  -- put one after the other in that order, they make the table that m over d makes; where d ascends, `puts m d` does
-  pub merged : (m d t : Map A) → Ascending d → Ascending t → into (puts m d) t ≡ puts m (puts d t)
-  merged m d t h g =
-      into-puts (puts m d) t (ascending-puts m d h) g
-      ∙ map-ext (puts (puts m d) t) (puts m (puts d t)) (ascending-puts (puts m d) t g) (ascending-puts m (puts d t) (ascending-puts d t g))
-      (λ q.
-      let u = lookup-puts (puts m d) t q in
-      let v = lookup-puts m (puts d t) q in
-      let w = lookup-puts m d q in
-      let x = lookup-puts d t q in
-      elim (opt (lookup m q)) [ is-none n ↦ cc | is-some e n ↦ cc ])
-
-  -- what is put before the first comes first
-  put-first : (k : Path) (v : A) (c : Map A) → Above k c → put k v c ≡ (k, v) ∷ c
-  put-first k v [] h = refl
-  put-first k v (x ∷ xs) h = elim (cmp k (x .0)) [
-    | Cmp.lt l w ↦ rw w
-    | Cmp.eq e w ↦ absurd (Lt-≢ k (x .0) h e)
-    | Cmp.gt l w ↦ absurd (Lt-irrefl k (Lt-trans k (x .0) k h l))
-  ]
-
-  -- and what is put behind it comes behind it
-  put-later : (k : Path) (v : A) (x : Path × A) (c : Map A) → Lt (x .0) k → put k v (x ∷ c) ≡ x ∷ put k v c
-  put-later k v x c h = elim (cmp k (x .0)) [
-    | Cmp.gt l w ↦ rw w
-    | Cmp.eq e w ↦ absurd (Lt-≢ (x .0) k h (sym e))
-    | Cmp.lt l w ↦ absurd (Lt-irrefl k (Lt-trans k (x .0) k l h))
-  ]
-
-  -- what is before c and before k is before c with k put
-  above-put : (j k : Path) (v : A) (c : Map A) → Lt j k → Above j c → Above j (put k v c)
-  above-put j k v [] h g = h
-  above-put j k v (x ∷ xs) h g = elim (cmp k (x .0)) [ Cmp.lt l w ↦ rw w h | Cmp.eq e w ↦ rw w h | Cmp.gt l w ↦ rw w g ]
-
-  -- what is before both is before both merged
-  pub above-puts : (k : Path) (m d : Map A) → Above k m → Ascending m → Above k d → Above k (puts m d)
-  above-puts k [] d h a g = g
-  above-puts k (x ∷ xs) d h a g = above-put k (x .0) (x .1) (puts xs d) h (above-puts k xs d (above-trans k (x .0) xs h (a .0)) (a .1) g)
-
-  -- if the first of d is before all of m, it comes first, and then the rest merged
-  pub merged-left : (x : Path × A) (m d : Map A) → Above (x .0) m → Ascending m → puts m (x ∷ d) ≡ x ∷ puts m d
-  merged-left x [] d h a = refl
-  merged-left x (y ∷ ys) d h a =
-      ap (put (y .0) (y .1)) (merged-left x ys d (above-trans (x .0) (y .0) ys h (a .0)) (a .1)) ∙ put-later (y .0) (y .1) x (puts ys d) h
-
-  -- if the first of m is before all of d, likewise
-  pub merged-right : (x : Path × A) (m d : Map A) → Ascending (x ∷ m) → Above (x .0) d → puts (x ∷ m) d ≡ x ∷ puts m d
-  merged-right x m d a g = put-first (x .0) (x .1) (puts m d) (above-puts (x .0) m d (a .0) (a .1) g)
-
-  -- at the end of d what is left of m follows (at the end of m what is left of d, by computation)
-  pub merged-alone : (m : Map A) → Ascending m → puts m [] ≡ m
-  merged-alone [] h = refl
-  merged-alone (x ∷ xs) h = merged-right x xs [] h tt ∙ ap (λ (c : Map A). x ∷ c) (merged-alone xs (h .1))

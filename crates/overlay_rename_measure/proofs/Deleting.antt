@@ -65,7 +65,7 @@ module _ (own part s : Bytes) (a : Path) (r : Record) (count records : ℕ) (fro
         putting-counts s (r .«entry_size») (puts (each deleted (a ∷ keys (ahead T a own part from))) T) q after (m .most)
         (each deleted (keys (ahead T a own part u))) (m .putting) (size-small s r h) (omega arith)
 
-    pub deleting-over : remaining u ≡ 0 → (c : Table) → ahead T a own part from ≡ c
+    pub deleting-over : remaining u ≤ 0 → (c : Table) → ahead T a own part from ≡ c
         → record { used = after .used; count = after .count; charge = after .charge; «entry_size» = r .«entry_size» }
         ≡ recordOf (r .«entry_size») (puts (each deleted (a ∷ keys c)) T)
     deleting-over z c e =

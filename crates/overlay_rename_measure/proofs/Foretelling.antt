@@ -1,6 +1,6 @@
 -- What rename leaves, by the record after its deletions alone and the one after its moves alone.
 -- Assumes a checked table and a checked listing, and paths of which none is at or below both, or one path for both.
-use mathlib.Core.Path.{_≡_, refl, ap, ap₂, sym, subst, _∙_}
+use mathlib.Core.Path.{_≡_, refl, ap, sym, subst, _∙_}
 use mathlib.Core.List.{List, [], _∷_}
 use mathlib.Core.Bool.{Bool, true, false, cond, not, _&&_}
 use mathlib.Core.Option.{none, some}
@@ -10,14 +10,14 @@ use lib.Dec.{leb}
 use lib.ListN.{length}
 use borrow.Author.Tests.{leb-true, le-leb}
 use Rattle.model.specs.Bytes.{Bytes, every, same, before}
-use Rattle.model.specs.Path.{Path, isPath, below, rest, components, short}
-use Rattle.model.specs.Map.{isNone, lookup, put, puts, only, each, keys, rekey, mapped}
+use Rattle.model.specs.Path.{Path, isPath, components, short}
+use Rattle.model.specs.Map.{lookup, put, puts, only, each, keys, rekey, mapped}
 use Rattle.model.specs.Tree.{Entry, deleted, Table, Tree, shown, aDirectory, aFile, kind}
 use Rattle.model.specs.Listing.{ListingRecord, records, ruled, placed, formedRecord, treeFrom, treeIn, isListing}
 use Rattle.model.specs.Table.{bodyOf, encode, entryCharge, charge, formedBody, formedEntry, recordOf, tableIn, isTable}
 use Rattle.model.specs.Rename.{asEntry, uncovered, along, carried, moved}
 use Rattle.model.specs.declared.Record.{Record}
-use Rattle.model.proofs.Orders.{bot, and-true, yea, nay, test, Split, split, is-none, is-some, opt, rest-is}
+use Rattle.model.proofs.Orders.{bot, and-true, yea, nay, test, Split, split}
 use Rattle.model.proofs.Maps.{Ascending, ascends-is}
 use Rattle.model.proofs.Maps.{lookup-puts, lookup-only, lookup-mapped, lookup-keys, lookup-low, ascending-puts}
 use Rattle.model.proofs.Codec.{decoded, same-is, path-short}
@@ -25,7 +25,7 @@ use Rattle.listing_parts.proofs.Places.{checked}
 use Rattle.overlay_insert.proofs.Inserts.{bounds}
 use Rattle.overlay_carried.specs.Streams.{carriedBelow}
 use Rattle.overlay_moved.proofs.Records.{Apart, total, weight, total-put, apart-used, apart-count, apart-charge}
-use Rattle.overlay_moved.proofs.Moves.{inside, inside-carried, ascending-carried, ascending-rekey, carried-directory}
+use Rattle.overlay_moved.proofs.Moves.{rekey-same, inside-carried, ascending-carried, ascending-rekey, carried-directory}
 use Rattle.overlay_moved.proofs.Moves.{carried-file, loose-top, moved-same, apart-moved, Parted}
 use Rattle.overlay_rename_measure.specs.Tallies.{near, far, Moved, Small, Source, combined, Foretold}
 use Rattle.overlay_rename_measure.specs.declared.Moves.{Moves}
@@ -150,16 +150,6 @@ module _ (E : ℕ) (t : Table) (l : Tree) (a b : Path) (x : Table) (w : moved t 
         long = o;
         rec = λ n. e ∙ ap (λ (y : Table). recordOf E (puts y x)) (all-near M (not-is (every short (keys M)) (sym n ∙ o))) ∙ ap (recordOf E) (sym w);
       }
-
-rekey-same : (a : Path) (c : Table) → inside a c ≡ true → rekey a a c ≡ c
-rekey-same a [] h = refl
-rekey-same a (x ∷ xs) h =
-    let y = and-true (not (isNone (rest a (x .0)))) (inside a xs) h in
-    let i = rekey-same a xs (y .1) in
-    elim (opt (rest a (x .0))) [
-      | is-none n ↦ absurd (bot (cc (y .0)))
-      | is-some r n ↦ rw n (ap₂ (λ (k : Path) (z : Table). (k, x .1) ∷ z) (sym (rest-is a (x .0) r n .0)) i)
-    ]
 
 -- what is carried, by what stands at a
 module _ (t : Table) (l : Tree) (a : Path) (up : Ascending l) where

@@ -142,7 +142,7 @@ module _ (own part s : Bytes) (a b : Path) (e : Entry) (r : Record) (count recor
         let w = m .extra-room in
         omega arith
 
-    pub moving-over : remaining u ≡ 0 → (c : Table) → ahead T a own part from ≡ c
+    pub moving-over : remaining u ≤ 0 → (c : Table) → ahead T a own part from ≡ c
         → Moved E T (rekey a b ((a, e) ∷ c)) (record {
           rec = record { used = x .rec .used; count = x .rec .count; charge = x .rec .charge; «entry_size» = E };
           extra = x .extra;

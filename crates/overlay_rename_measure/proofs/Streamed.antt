@@ -2,12 +2,12 @@
 -- Assumes nothing.
 use mathlib.Core.Path.{_≡_, refl, ap}
 use mathlib.Core.List.{List, [], _∷_}
-use mathlib.Core.Bool.{Bool, true, false, _&&_}
+use mathlib.Core.Bool.{Bool, true, _&&_}
 use Prim.Native.Nat.{ℕ, zero, suc, _+_, _-_, _<_, _≤_}
 use native.Mathlib.Omega.{arith}
-use lib.Dec.{leb, ltb, eqb}
+use lib.Dec.{leb, eqb}
 use lib.ListN.{length}
-use borrow.Author.Tests.{leb-true, ltb-true, ltb-false, eqb-true}
+use borrow.Author.Tests.{leb-true, eqb-true}
 use Rattle.model.specs.Bytes.{Bytes, every, before}
 use Rattle.model.specs.Path.{Path, below}
 use Rattle.model.specs.Map.{Map, ascends, only, each, keys, mapped}
@@ -15,8 +15,8 @@ use Rattle.model.specs.Tree.{Entry, Table}
 use Rattle.model.specs.Listing.{ListingRecord, recordAt, recordEnd, filled, nodeOf, treeFrom}
 use Rattle.model.specs.Table.{bodyOf, entriesAt, keyAt, entryAt}
 use Rattle.model.specs.Rename.{asEntry, uncovered}
-use Rattle.model.proofs.Orders.{Lt, bot, and-true, yea, nay, test, below-rest, rest-is}
-use Rattle.model.proofs.Maps.{Above, ascends-is, is-ascends}
+use Rattle.model.proofs.Orders.{Lt, and-true, yea, nay, test, below-rest, rest-is}
+use Rattle.model.proofs.Maps.{Above, above-puts, above-mapped, ascends-is, is-ascends}
 use Rattle.model.proofs.Codec.{entry-length}
 use Rattle.fields.proofs.Common.{Lt-append}
 use Rattle.listing_parts.specs.Place.{treeAt}
@@ -30,7 +30,6 @@ use Rattle.overlay_carried.specs.Streams.{ahead, remaining, Streaming, Next, it
 use Rattle.overlay_carried.specs.declared.Stream.{Stream}
 use Rattle.overlay_carried.specs.declared.Head.{Head}
 use Rattle.overlay_carried.specs.declared.Head.the-variants as next
-use Rattle.overlay_carried.proofs.Merges.{above-puts, above-mapped}
 use Rattle.overlay_uncovered.proofs.Parents.{below-longer}
 use Rattle.overlay_carried.proofs.Items.{entry-below, listed-below}
 use Rattle.overlay_carried.proofs.Steps.{both-ascend, nothing-next}
@@ -145,17 +144,9 @@ module _ (own part table : Bytes) (a : Path) (f : List Bool) (s : Stream) (w : S
   key-short h n key e = let x = item-short h n .0 in let l = ap length e in omega arith
 
 -- nothing is to come where nothing is left
-pub nothing-ahead : (own part : Bytes) (t : Table) (a : Path) (s : Stream) → remaining s ≡ 0 → ahead t a own part s ≡ []
+pub nothing-ahead : (own part : Bytes) (t : Table) (a : Path) (s : Stream) → remaining s ≤ 0 → ahead t a own part s ≡ []
 nothing-ahead own part t a s h = nothing-next own part t a (s .entries .left) (s .entries .at) (s .listed .left) (s .listed .at) (omega arith)
     (omega arith)
-
--- what the code asks of both streams in turn
-pub some-left : (s : Stream) → 0 < s .entries .left → (true ≡ true → 0 < remaining s) × (true ≡ false → remaining s ≡ 0)
-some-left s h = (λ e. omega arith, λ e. absurd (bot (cc)))
-
-pub at-listed : (s : Stream) → s .entries .left ≤ 0 → (ltb 0 (s .listed .left) ≡ true → 0 < remaining s) × (ltb 0 (s .listed .left) ≡ false
-    → remaining s ≡ 0)
-at-listed s h = (λ e. let g = ltb-true 0 (s .listed .left) e in omega arith, λ e. let g = ltb-false 0 (s .listed .left) e in omega arith)
 
 -- a path that is not empty may be the first
 pub first-behind : (a : Path) (v : Entry) (c : Table) → 0 < length a → ascends a c ≡ true → ascends [] ((a, v) ∷ c) ≡ true

@@ -47,18 +47,6 @@ pub struct Projected {
     pub long: bool,
 }
 
-// Whether something is to come.
-fn is_left(stream: Stream) -> bool
-    ensures { λ r. ⌜ (r ≡ true → 0 < remaining stream) × (r ≡ false → remaining stream ≡ 0) ⌝ }
-{
-    let entries = stream.entries;
-    let listed = stream.listed;
-    if 0 < entries.left {
-        return true;
-    }
-    0 < listed.left
-}
-
 // The record as if the source and all that is carried from below it were deleted.
 pub fn measure_deletions<'a>(
     flags: &mut [bool; 513],
@@ -86,7 +74,7 @@ pub fn measure_deletions<'a>(
     let mut place = top.place;
     let mut after = top.rec;
     let mut stream = overlay_carried::first(flags, own, count, part, records, table, rec, source);
-    while is_left(stream) {
+    while overlay_carried::has_next(stream) {
         let head = overlay_carried::head_at(own, part, stream);
         let key = overlay_items::item_key(own, part, stream, head);
         let next = overlay_measure::projected(table, place, after, key, 0);
@@ -223,7 +211,7 @@ pub fn measure_moves<'a>(
 {
     let mut tally = first_move(table, rec, destination, first_len);
     let mut stream = overlay_carried::first(flags, own, count, part, records, table, rec, source);
-    while is_left(stream) {
+    while overlay_carried::has_next(stream) {
         let head = overlay_carried::head_at(own, part, stream);
         tally = with_move(table, tally, own, part, stream, head, source, destination);
         stream = overlay_carried::advance(flags, own, part, table, stream, head, source);

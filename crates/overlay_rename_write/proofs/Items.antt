@@ -1,21 +1,21 @@
--- One item of what is carried: whether one is to come, and what it puts into the table.
+-- One item of what is carried: what it puts into the table.
 -- Assumes nothing.
 use mathlib.Core.Path.{_≡_, refl, ap, sym, subst, _∙_}
-use mathlib.Core.Bool.{true, false, _||_}
+use mathlib.Core.Bool.{true}
 use mathlib.Core.List.{[], _++_}
-use Prim.Native.Nat.{ℕ, _+_, _-_, _≤_, _<_}
+use Prim.Native.Nat.{ℕ, _+_, _-_, _≤_}
 use native.Mathlib.Omega.{arith}
-use lib.Dec.{leb, ltb}
+use lib.Dec.{leb}
 use lib.ListN.{length, take, drop, length-append, length-drop}
 use lib.Seq.{length-take-le}
-use borrow.Author.Tests.{leb-true, ltb-true, ltb-false}
+use borrow.Author.Tests.{leb-true}
 use Rattle.model.specs.Bytes.{Bytes, before}
 use Rattle.model.specs.Path.{Path}
 use Rattle.model.specs.Map.{put}
 use Rattle.model.specs.Tree.{Entry, own, reference, directory, deleted, Table}
 use Rattle.model.specs.Table.{typeOf, mtimeOf, sizeOf, bodyOf, encode, entryOf, entriesAt}
 use Rattle.model.specs.Rename.{newKey}
-use Rattle.model.proofs.Orders.{bot, and-true, yea, nay, test}
+use Rattle.model.proofs.Orders.{and-true}
 use Rattle.overlay_state.specs.Place.{endOf}
 use Rattle.overlay_state.specs.Cut.{upTo}
 use Rattle.overlay_write.specs.Merge.{Written, Merged}
@@ -37,22 +37,6 @@ pub put-of : (s w w′ : Bytes) (x x′ : Merge) (i : Path × Entry) (q : Path) 
     → length w′ ≡ length w → endOf s (x′ .left) (x′ .at) ≡ endOf s (x .left) (x .at) → Put s w w′ x x′ i
 put-of s w w′ x x′ i q v e f h l d =
     subst (λ (y : Path × Entry). Put s w w′ x x′ y) (λ j. (e j, f j)) (record { merged = h; long = l; end = d })
-
--- one of two numbers is not 0, or both are
-pub some-left : (m n : ℕ) → (ltb 0 m || ltb 0 n ≡ true → 0 < m + n) × (ltb 0 m || ltb 0 n ≡ false → m + n ≤ 0)
-some-left m n = (
-  (λ h. elim (test (ltb 0 m)) [
-    | yea e ↦ let x = ltb-true 0 m e in omega arith
-    | nay e ↦ elim (test (ltb 0 n)) [ yea f ↦ let x = ltb-true 0 n f in omega arith | nay f ↦ absurd (bot (cc)) ]
-  ]),
-  (λ h. elim (test (ltb 0 m)) [
-    | yea e ↦ absurd (bot (cc))
-    | nay e ↦ elim (test (ltb 0 n)) [
-      | yea f ↦ absurd (bot (cc))
-      | nay f ↦ let x = ltb-false 0 m e in let y = ltb-false 0 n f in omega arith
-    ]
-  ]),
-)
 
 -- kind 4 without a body is a deleted entry's
 pub deleted-written : Written 4 0 0 []

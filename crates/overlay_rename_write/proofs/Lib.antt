@@ -1,5 +1,3 @@
 pub mod Items
 pub mod Loops
 pub mod Sequences
-pub mod Lists
-pub mod Ascents

@@ -10,7 +10,7 @@ use Rattle.model.specs.Bytes.{Bytes, every, before}
 use Rattle.model.specs.Path.{Path, below}
 use Rattle.model.specs.Map.{ascends, put, only}
 use Rattle.model.specs.Tree.{Entry, Table, Tree}
-use Rattle.model.specs.Table.{bodyOf, encode, entriesAt}
+use Rattle.model.specs.Table.{encode}
 use Rattle.model.proofs.Orders.{and-true}
 use Rattle.listing_parts.specs.Place.{treeAt}
 use Rattle.overlay_state.specs.Place.{endOf}
@@ -22,7 +22,7 @@ use Rattle.overlay_carried.specs.Streams.{carriedBelow, ahead, remaining, Strea
 use Rattle.overlay_carried.specs.declared.Stream.{Stream}
 use Rattle.overlay_carried.specs.declared.Head.{Head}
 use Rattle.overlay_carried.proofs.Steps.{nothing-next}
-use Rattle.overlay_rename_write.specs.Stretch.{turned, Listed, Room, Put, Puttable, Behind, PutAll}
+use Rattle.overlay_rename_write.specs.Stretch.{turned, Listed, Room, Put, Puttable, PutAll}
 
 -- one after the other, as both together
 pub into-append : (xs ys t : Table) → into (xs ++ ys) t ≡ into ys (into xs t)

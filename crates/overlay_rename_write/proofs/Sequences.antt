@@ -10,7 +10,7 @@ use lib.Dec.{eqb}
 use lib.ListN.{length}
 use Rattle.model.specs.Bytes.{Bytes, every, same, before}
 use Rattle.model.specs.Path.{Path}
-use Rattle.model.specs.Map.{isNone, lookup, ascends, put}
+use Rattle.model.specs.Map.{isNone, lookup, ascends}
 use Rattle.model.specs.Tree.{Node, Entry, reference, directory, deleted, Table, Tree}
 use Rattle.model.specs.Listing.{ListingRecord, records, nodeOf, treeFrom, treeIn, isListing}
 use Rattle.model.specs.Rename.{asEntry}
@@ -32,7 +32,6 @@ use Rattle.overlay_write.specs.Merge.{Written, Merged}
 use Rattle.overlay_write.specs.declared.Merge.{Merge}
 use Rattle.overlay_write.proofs.Merges.{merge-begun}
 use Rattle.overlay_insert.proofs.Inserts.{rest-fits, same-used}
-use Rattle.overlay_carried.specs.Streams.{carriedBelow}
 use Rattle.overlay_carried.proofs.Items.{part-of-listing}
 use Rattle.overlay_rename_write.specs.Stretch.{movable, turned, Listed, Movables, Room, Put, Puttable, Behind, PutAll}
 use Rattle.overlay_rename_write.specs.Sequence.{Fits, AllPut, lower, topOf}

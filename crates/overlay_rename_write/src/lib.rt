@@ -24,15 +24,6 @@ use overlay_carried::Head;
 use overlay_carried::Stream;
 use overlay_write::Merge;
 
-// Whether an item is to come.
-fn has_next(stream: Stream) -> bool
-    ensures { λ r. ⌜ (r ≡ true → 0 < remaining stream) × (r ≡ false → remaining stream ≤ 0) ⌝ }
-{
-    let entries = stream.entries;
-    let listed = stream.listed;
-    (0 < entries.left) | (0 < listed.left)
-}
-
 // A deleted entry at the key of the item that is next.
 fn put_deletion<'a>(
     work: &mut [u8],
@@ -79,7 +70,7 @@ pub fn put_deletions<'a>(
 {
     let mut next = merge;
     let mut stream = overlay_carried::first(flags, own, count, part, records, table, rec, source);
-    while has_next(stream) {
+    while overlay_carried::has_next(stream) {
         let head = overlay_carried::head_at(own, part, stream);
         let after = overlay_carried::advance(flags, own, part, table, stream, head, source);
         next = put_deletion(work, own, part, table, stream, head, next);
@@ -154,7 +145,7 @@ pub fn put_moves<'a>(
 {
     let mut next = merge;
     let mut stream = overlay_carried::first(flags, own, count, part, records, table, rec, source);
-    while has_next(stream) {
+    while overlay_carried::has_next(stream) {
         let head = overlay_carried::head_at(own, part, stream);
         let after = overlay_carried::advance(flags, own, part, table, stream, head, source);
         next = put_move(

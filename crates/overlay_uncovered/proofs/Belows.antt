@@ -16,7 +16,7 @@ use Rattle.model.specs.Tree.{Table, Tree, kind, isDirectory}
 use Rattle.model.specs.Listing.{ListingRecord, records, ruled, placed, formedRecord, treeFrom, treeIn, isListing}
 use Rattle.model.specs.Rename.{uncovered}
 use Rattle.model.proofs.Orders.{bot, and-true, is-none, is-some, opt, yea, nay, test}
-use Rattle.model.proofs.Maps.{Above, Ascending, above-trans, ascends-is, is-ascends, ascending-only, lookup-only}
+use Rattle.model.proofs.Maps.{above-only, ascends-is, is-ascends, ascending-only, lookup-only}
 use Rattle.model.proofs.Codec.{path-short}
 use Rattle.listing_parts.specs.Place.{treeAt}
 use Rattle.listing_parts.specs.Parts.{part, PartOf}
@@ -24,13 +24,6 @@ use Rattle.listing_parts.proofs.Places.{checked}
 use Rattle.listing_parts.proofs.Parts.{part-tree}
 use Rattle.listing_parts.proofs.Steps.{not-listed-below}
 use Rattle.overlay_uncovered.specs.Ahead.{fitting, Placed, PartBelow, toCome}
-
-above-only : {A : Type 0} (f : Path → Bool) (k : Path) (xs : Map A) → Above k xs → Ascending xs → Above k (only f xs)
-above-only f k [] h a = tt
-above-only f k (x ∷ xs) h a = elim (test (f (x .0))) [
-  | yea e ↦ rw e h
-  | nay e ↦ rw e (above-only f k xs (above-trans k (x .0) xs h (a .0)) (a .1))
-]
 
 only-both : {A : Type 0} (f g : Path → Bool) (xs : Map A) → only f (only g xs) ≡ only (λ q. f q && g q) xs
 only-both f g [] = refl

@@ -1,6 +1,6 @@
 -- `memory_usage` meets its contract: the record agrees with the table.
 -- Assumes nothing.
-use Rattle.overlay_insert.proofs.Inserts.{charge-is}
+use Rattle.model.proofs.Codec.{charge-is}
 use Rattle.overlay_insert.proofs.memory_usage.Statement.{statement}
 use Rattle.overlay_insert.proofs.memory_usage.Tie as tie
 

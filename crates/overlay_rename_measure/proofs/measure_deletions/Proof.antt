@@ -42,8 +42,8 @@ loop-holds c =
     (e .pre .1 .0) (e .pre .1 .1 .1 .1 .1) (f .ensures .1 .0) (f .ensures .0) (f .ensures .1 .1 .0)
     (g .result) (p .result .place) (p .result .rec) (g .ensures .0) (p .ensures)
 
-is-left-requires : tie.Need-is-left-requires Inv-loop μ-loop
-is-left-requires c κs = search needs
+has-next-requires : tie.Need-has-next-requires Inv-loop μ-loop
+has-next-requires c κs = search needs
 
 head-at-requires : tie.Need-head-at-requires Inv-loop μ-loop
 head-at-requires c κs = let w = c .before .before .loop .inv .streaming in (w .entries, w .listed .stand)
@@ -51,7 +51,7 @@ head-at-requires c κs = let w = c .before .before .loop .inv .streaming in (w .
 item-key-requires : tie.Need-item-key-requires Inv-loop μ-loop
 item-key-requires c κs =
     let w = c .before .before .before .loop .inv .streaming in
-    (w .entries, (w .listed .stand, (c .head-at .ensures .0, c .before .before .is-left .ensures .0 (c .before .if1 .taken))))
+    (w .entries, (w .listed .stand, (c .head-at .ensures .0, c .before .before .has-next .ensures .0 (c .before .if1 .taken))))
 
 projected-requires-2 : tie.Need-projected-requires-2 Inv-loop μ-loop
 projected-requires-2 c κs =
@@ -75,7 +75,7 @@ advance-requires c κs =
       w,
       (
         c .before .before .before .before .before .head-at .ensures .0,
-        c .before .before .before .before .before .before .before .is-left .ensures .0
+        c .before .before .before .before .before .before .before .has-next .ensures .0
             (c .before .before .before .before .before .before .if1 .taken),
       ),
     )
@@ -108,7 +108,7 @@ returns c =
     (l .place) (l .after) (l .stream) (l .inv) (e .pre .1 .0) (e .pre .1 .1 .0) (e .pre .1 .1 .1 .1 .0) in (
       λ t u g.
           deleting-over (a .own .now) (a .part .now) (a .table .now) (a .source .now) (a .rec) (a .count) (a .records) (f .result) (l .flags)
-          (l .place) (l .after) (l .stream) (l .inv) (c .before .is-left .ensures .1 (c .if1 .left)) _ (f .ensures .1 .1 .1 t u g),
+          (l .place) (l .after) (l .stream) (l .inv) (c .before .has-next .ensures .1 (c .if1 .left)) _ (f .ensures .1 .1 .1 t u g),
       (n .used-small, n .count-small, n .charge-small),
     )
 
@@ -122,7 +122,7 @@ measure-deletions-spec =
     projected-requires
     first-requires
     loop-holds
-    is-left-requires
+    has-next-requires
     head-at-requires
     item-key-requires
     projected-requires-2

@@ -40,8 +40,8 @@ loop-holds c =
     (e .pre .1 .0) (p .0, p .1) (f .ensures .1 .0) (f .ensures .0) (f .ensures .1 .1 .0) (a .first-len) (p .2) l (t .result) (t .ensures .0)
     (t .ensures .1)
 
-is-left-requires : tie.Need-is-left-requires Inv-loop μ-loop
-is-left-requires c κs = search needs
+has-next-requires : tie.Need-has-next-requires Inv-loop μ-loop
+has-next-requires c κs = search needs
 
 head-at-requires : tie.Need-head-at-requires Inv-loop μ-loop
 head-at-requires c κs =
@@ -60,7 +60,7 @@ with-move-requires c κs =
     let m = l .inv v (as-long n) in
     let w = m .streaming in
     let h = c .head-at in
-    let z = c .before .before .is-left .ensures .0 (c .before .if1 .taken) in
+    let z = c .before .before .has-next .ensures .0 (c .before .if1 .taken) in
     let s = item-short (a .own .now) (a .part .now) (a .table .now) (a .source .now) (l .flags) (l .stream) w (h .result) (h .ensures .0) in
     let o = item-longer (a .own .now) (a .part .now) (a .table .now) (a .source .now) (l .flags) (l .stream) w (h .result) (h .ensures .0) z in (
       moving-counts (a .own .now) (a .part .now) (a .table .now) (a .source .now) (a .destination .now) v (a .rec) (a .count) (a .records)
@@ -79,7 +79,7 @@ advance-requires : tie.Need-advance-requires Inv-loop μ-loop
 advance-requires c κs =
     let n = c .before .before .before .before .before .before .before .before .before .before .before .before .before .before .args .first-len in
     let w = c .before .before .before .before .before .loop .inv (some-entry n) (as-long n) .streaming in
-    (w, (c .before .before .head-at .ensures .0, c .before .before .before .before .is-left .ensures .0 (c .before .before .before .if1 .taken)))
+    (w, (c .before .before .head-at .ensures .0, c .before .before .before .before .has-next .ensures .0 (c .before .before .before .if1 .taken)))
 
 loop-less : tie.Need-loop-less Inv-loop μ-loop
 loop-less c = c .advance .ensures .0
@@ -115,7 +115,7 @@ returns c =
     (e .pre .1 .1 .0) (e .pre .1 .1 .1 .1 .0) in (
       λ t v u g n.
           moving-over (a .own .now) (a .part .now) (a .table .now) (a .source .now) (a .destination .now) v (a .rec) (a .count) (a .records)
-          (f .result) (l .flags) (l .tally) (l .stream) (l .inv v n) (c .before .before .is-left .ensures .1 (c .before .if1 .left))
+          (f .result) (l .flags) (l .tally) (l .stream) (l .inv v n) (c .before .before .has-next .ensures .1 (c .before .if1 .left))
           _ (f .ensures .1 .1 .1 t u g),
       ((k .used-small, k .count-small, k .charge-small), x),
     )
@@ -129,7 +129,7 @@ measure-moves-spec =
     first-move-requires
     first-requires
     loop-holds
-    is-left-requires
+    has-next-requires
     head-at-requires
     with-move-requires
     advance-requires

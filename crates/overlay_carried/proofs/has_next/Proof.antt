@@ -1,8 +1,8 @@
 -- `has_next` meets its contract: an item is to come where one of the two numbers is not 0.
 -- Assumes nothing.
-use Rattle.overlay_rename_write.proofs.Items.{some-left}
-use Rattle.overlay_rename_write.proofs.has_next.Statement.{statement}
-use Rattle.overlay_rename_write.proofs.has_next.Tie as tie
+use Rattle.overlay_carried.proofs.Steps.{some-left}
+use Rattle.overlay_carried.proofs.has_next.Statement.{statement}
+use Rattle.overlay_carried.proofs.has_next.Tie as tie
 
 returns : tie.Need-returns
 returns c =
