@@ -56,7 +56,7 @@ module _ (listing : Bytes) (q : Request) (s : Store) where
   passes-so : verdict listing q s ≡ pass → outcome listing q s ≡ settle pass listing q s
   passes-so e = ap (λ (c : Check). settle c listing q s) e
 
-  told-so : (r : Refusal) → verdict listing q s ≡ asCheck (toldRefusal r)
+  pub told-so : (r : Refusal) → verdict listing q s ≡ asCheck (toldRefusal r)
       → Meets (outcome listing q s) (record { answer = Refused r; «record» = s .rec }) (s .table) (q .work)
   told-so r e =
       let t = told-as r in
