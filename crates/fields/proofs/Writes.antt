@@ -72,3 +72,15 @@ number-twice n m v t at h =
     ap (λ (k : ℕ). overwritten (overwritten t at low) k high) at-high
     ∙ overwritten-twice t at low (omega arith) high
     ∙ ap (overwritten t at) (bytes-halves n m v)
+
+-- writes in a row, each right behind the one before
+pub two-writes : (t t₁ t₂ xs ys : Bytes) (at b : ℕ) → at + length xs ≤ length t → b ≡ at + length xs
+    → t₁ ≡ overwritten t at xs → t₂ ≡ overwritten t₁ b ys → t₂ ≡ overwritten t at (xs ++ ys)
+two-writes t t₁ t₂ xs ys at b h eb e₁ e₂ = e₂ ∙ ap₂ (λ (u : Bytes) (n : ℕ). overwritten u n ys) e₁ eb ∙ overwritten-twice t at xs h ys
+
+pub three-writes : (t t₁ t₂ t₃ xs ys zs : Bytes) (at b c : ℕ) → at + length xs + length ys ≤ length t → b ≡ at + length xs → c ≡ at + length xs + length ys
+    → t₁ ≡ overwritten t at xs → t₂ ≡ overwritten t₁ b ys → t₃ ≡ overwritten t₂ c zs → t₃ ≡ overwritten t at (xs ++ (ys ++ zs))
+three-writes t t₁ t₂ t₃ xs ys zs at b c h eb ec e₁ e₂ e₃ =
+    let l : length (xs ++ ys) ≡ length xs + length ys = length-append xs ys in
+    two-writes t t₂ t₃ (xs ++ ys) zs at c (omega arith) (omega arith) (two-writes t t₁ t₂ xs ys at b (omega arith) eb e₁ e₂) e₃
+    ∙ ap (overwritten t at) (append-assoc xs ys zs)

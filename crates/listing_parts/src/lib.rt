@@ -128,12 +128,11 @@ fn found_at(listing: &[u8], path: &[u8], at: usize, left: u64) -> Found
     Found::Absent
 }
 
-// What the listing has at a path.
-pub fn find(listing: &[u8], path: &[u8]) -> Found
-    requires { ⌜ isListing (now listing) ≡ true ⌝ }
+// What a listing of `count` records has at a path.
+pub fn find_in(listing: &[u8], count: u64, path: &[u8]) -> Found
+    requires { ⌜ (isListing (now listing) ≡ true) × (count ≡ recordCount (now listing)) ⌝ }
     ensures { λ r. ⌜ r ≡ foundOf (lookup (treeIn (now (listing .entry))) (now (path .entry))) ⌝ }
 {
-    let count = fields::le32(listing, 5);
     let place = seek(listing, path, 9, count);
     found_at(listing, path, place.at, place.left)
 }
@@ -197,7 +196,7 @@ pub fn below(listing: &[u8], dir: &[u8]) -> Part
 }
 
 // The case that says a node's kind.
-fn classify_target(found: Found) -> RealTarget
+pub fn classify_target(found: Found) -> RealTarget
     ensures { λ r. ⌜ targetKind r ≡ foundKind found ⌝ }
 {
     match found {
@@ -217,7 +216,7 @@ fn classify_target(found: Found) -> RealTarget
 }
 
 // Whether a walk goes on behind this.
-fn is_dir(target: RealTarget) -> bool
+pub fn is_dir(target: RealTarget) -> bool
     ensures { λ r. ⌜ r ≡ isDirectory (targetKind target) ⌝ }
 {
     match target {

@@ -10,22 +10,15 @@ use Rattle.model.specs.Tree.{Kind}
 use Rattle.model.specs.Checks.{Check, pass, refuse, _then_, unless, notRoot}
 use Rattle.model.proofs.Orders.{bot}
 use Rattle.overlay_parents.specs.Judged.{refuses}
-
-refused : (c d : Check) → refuses c ≡ true → c ≡ (c then d)
-refused pass d h = absurd (bot (cc))
-refused (refuse n w k) d h = refl
-
-passed : (c d : Check) → refuses c ≡ false → d ≡ (c then d)
-passed pass d h = refl
-passed (refuse n w k) d h = absurd (bot (cc))
+use Rattle.overlay_parents.proofs.Checked.{refused-stops, passed-on}
 
 -- j is what the check c gave, and b whether that refuses
 module _ (c j : Check) (b : Bool) (e : j ≡ c) (i : b ≡ refuses j) where
   pub ends : (d : Check) → b ≡ true → j ≡ (c then d)
-  ends d h = refused j d (sym i ∙ h) ∙ ap (λ (x : Check). x then d) e
+  ends d h = sym (refused-stops j d (sym i ∙ h)) ∙ ap (λ (x : Check). x then d) e
 
   pub goes-on : (d x : Check) → b ≡ false → x ≡ d → x ≡ (c then d)
-  goes-on d x h y = y ∙ passed j d (sym i ∙ h) ∙ ap (λ (z : Check). z then d) e
+  goes-on d x h y = y ∙ sym (passed-on j d (sym i ∙ h)) ∙ ap (λ (z : Check). z then d) e
 
   -- the next check asks for a kind, k as it was found and m as it is defined
   pub goes-on-at : (at : Kind → Check) (k m : Kind) (x : Check) → b ≡ false → x ≡ at k → k ≡ m → x ≡ (c then at m)

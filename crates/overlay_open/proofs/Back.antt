@@ -18,6 +18,7 @@ use Rattle.model.specs.declared.Record.{Record}
 use Rattle.model.proofs.Words.{IsBytes}
 use Rattle.model.proofs.Orders.{eqb-eq, and-true}
 use Rattle.model.proofs.Codec.{entry-length}
+use Rattle.model.proofs.Formed.{bytes-drop}
 use Rattle.fields.specs.Read.{zeros}
 use Rattle.overlay_open.specs.Pass.{headed, referring, inOrder, chargeOf, run}
 use Rattle.overlay_open.proofs.Steps.{Ordered, ordered}
@@ -27,11 +28,6 @@ use Rattle.overlay_open.proofs.Rules.{Types, types, Says, says, bodyRul
 pub bytes-of : (s : Bytes) → ((i : ℕ) → getD s i 0 < 256) → IsBytes s
 bytes-of [] h = tt
 bytes-of (b ∷ s) h = (h 0, bytes-of s (λ i. h (suc i)))
-
-bytes-drop : (i : ℕ) (s : Bytes) → IsBytes s → IsBytes (drop i s)
-bytes-drop zero s h = h
-bytes-drop (suc i) [] h = tt
-bytes-drop (suc i) (b ∷ s) h = bytes-drop i s (h .1)
 
 bytes-take : (i : ℕ) (s : Bytes) → IsBytes s → IsBytes (take i s)
 bytes-take zero s h = tt

@@ -1,7 +1,7 @@
--- The plan's sum over what is below the source alone; what the plan gives, by the two comparisons; what is listed at the source.
+-- The plan's sum over what is below the source alone; what the plan gives, by the two comparisons.
 -- Assumes nothing.
 use mathlib.Core.Path.{_≡_, refl, ap, _∙_}
-use mathlib.Core.Bool.{Bool, true}
+use mathlib.Core.Bool.{true}
 use mathlib.Core.List.{[], _∷_}
 use mathlib.Core.Option.{Option, some}
 use Prim.Native.Nat.{ℕ, _+_, _-_, _*_, _<_, _≤_}
@@ -10,16 +10,13 @@ use lib.ListN.{length}
 use borrow.Author.Tests.{le-leb, lt-leb}
 use Rattle.model.specs.Bytes.{every}
 use Rattle.model.specs.Path.{Path, below}
-use Rattle.model.specs.Map.{lookup, only, keys}
-use Rattle.model.specs.Tree.{Table, Tree, View, kind, isDirectory}
+use Rattle.model.specs.Map.{only, keys}
+use Rattle.model.specs.Tree.{Table}
 use Rattle.model.specs.Table.{charge}
 use Rattle.model.specs.Checks.{Check, refuse, _then_, limited}
 use Rattle.model.specs.Rename.{newKey, planned, plan, budget}
 use Rattle.model.proofs.Orders.{yea, nay, test}
 use Rattle.model.proofs.Maps.{every-only}
-use Rattle.listing_parts.specs.Found.{foundOf, foundKind}
-use Rattle.listing_parts.specs.declared.Found.{Found}
-use Rattle.listing_parts.proofs.Steps.{found-kind}
 
 -- keys that are not below a add nothing
 planned-below : (a b : Path) (t : Table) → planned a b (only (below a) t) ≡ planned a b t
@@ -51,14 +48,3 @@ module _ (E limit : ℕ) (t : Table) (a b : Path) (c : ℕ) (e : c ≡ charge E 
     within at x i j =
         let z : limit - c - s ≡ limit - charge E t - planned a b t = ap (λ (n : ℕ). limit - n - s) e ∙ ap (λ (n : ℕ). limit - charge E t - n) f in
         rw (le-leb (charge E t) limit (omega arith), le-leb (planned a b t) (limit - charge E t) (omega arith)) (j ∙ ap (λ (n : ℕ). at (some n)) z)
-
-pub root-listed : (f : View) (p : Path) → length p ≡ 0 → true ≡ isDirectory (kind f p)
-root-listed f [] h = refl
-root-listed f (b ∷ p) h = absurd (omega arith)
-
--- d is what was found at p, and b whether that is a directory
-pub found-listed :
-    (l : Tree) (p : Path) (d : Found) (b : Bool)
-    → (length p ≡ 0 → ⊥) → d ≡ foundOf (lookup l p) → b ≡ isDirectory (foundKind d) → b ≡ isDirectory (kind (lookup l) p)
-found-listed l [] d b h e f = absurd (h refl)
-found-listed l (c ∷ p) d b h e f = f ∙ ap (λ (x : Found). isDirectory (foundKind x)) e ∙ ap isDirectory (found-kind (lookup l (c ∷ p)))

@@ -13,7 +13,6 @@ ghost use Rattle.model.specs.Table.{tableIn, isTable};
 ghost use Rattle.model.specs.Checks.{_then_, limited};
 ghost use Rattle.model.specs.Rename.{ifDirectory, planned, plan, walkFrom};
 ghost use Rattle.model.specs.Rename as rename;
-ghost use Rattle.listing_parts.specs.Found.{foundKind};
 ghost use Rattle.overlay_parents.specs.Judged.{checkOf};
 ghost use Rattle.overlay_walk.specs.Walked.{walkOf};
 use model::Record;
@@ -37,36 +36,13 @@ fn planned_sum(table: &[u8], rec: Record, source: &[u8], destination: &[u8]) -> 
     )
 }
 
-// Whether a listed thing is a directory.
-fn is_directory(found: listing_parts::Found) -> bool
-    ensures { λ r. ⌜ r ≡ isDirectory (foundKind found) ⌝ }
-{
-    match found {
-        listing_parts::Found::Directory(_) => {
-            return true;
-        }
-        listing_parts::Found::File(_, _) => {
-            return false;
-        }
-        listing_parts::Found::Link => {
-            return false;
-        }
-        listing_parts::Found::Absent => {
-            return false;
-        }
-    }
-}
-
-// Whether the listing has a directory at a path. The root is one, and has no record.
+// Whether the listing has a directory at a path. The root is one.
 fn is_listed_directory(listing: &[u8], path: &[u8]) -> bool
     requires { ⌜ isListing (now listing) ≡ true ⌝ }
     ensures { λ r. ⌜ r ≡ isDirectory (kind (lookup (treeIn (now (listing .entry)))) (now (path .entry))) ⌝ }
 {
-    if path.len() == 0 {
-        return true;
-    }
-    let found = listing_parts::find(listing, path);
-    is_directory(found)
+    let target = listing_dir::kind_of(listing, path);
+    listing_parts::is_dir(target)
 }
 
 // What the walk gives, for a source of `len` bytes.

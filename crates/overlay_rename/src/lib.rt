@@ -40,7 +40,7 @@ fn listed_len(listing: &[u8], source: &[u8]) -> u64
     requires { ⌜ isListing (now listing) ≡ true ⌝ }
     ensures { λ r. ⌜ r ≡ length (bodyOf (topOf none (lookup (treeIn (now (listing .entry))) (now (source .entry))))) ⌝ }
 {
-    let found = listing_parts::find(listing, source);
+    let found = listing_dir::find(listing, source);
     match found {
         Found::Directory(_) => {
             return 0;

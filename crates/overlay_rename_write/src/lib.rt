@@ -303,7 +303,7 @@ fn put_listed(
     ensures { λ r. ⌜ AllPut (now (table .entry)) (now (work .entry)) (now (work .exit))
         ((now (destination .entry), topOf none (lookup (treeIn (now (listing .entry))) (now (source .entry)))) ∷ []) merge r ⌝ }
 {
-    let found = listing_parts::find(listing, source);
+    let found = listing_dir::find(listing, source);
     match found {
         listing_parts::Found::Directory(mtime) => {
             return overlay_write::put_next(

@@ -8,7 +8,7 @@ use lib.ListN.{length}
 use Rattle.model.specs.Bytes.{Bytes, bytes}
 use Rattle.fields.specs.Write.{overwritten}
 use Rattle.fields.proofs.Writes.{overwritten-twice}
-use Rattle.overlay_write.proofs.Merges.{two-writes}
+use Rattle.fields.proofs.Writes.{two-writes}
 use Rattle.overlay_calls.specs.declared.Row.{Row}
 use Rattle.overlay_script.specs.Runs.{rowBytes}
 

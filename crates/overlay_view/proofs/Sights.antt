@@ -2,38 +2,33 @@
 -- Assumes nothing.
 use mathlib.Core.Path.{_≡_, refl, ap, sym, _∙_}
 use mathlib.Core.List.{[], _∷_}
-use mathlib.Core.Bool.{Bool, true, false}
+use mathlib.Core.Bool.{true, false}
 use mathlib.Core.Logic.{inl, inr}
 use mathlib.Core.Option.{Option, none, some}
 use Prim.Native.Nat.{ℕ, zero, suc, _+_, _<_, _≤_}
 use native.Mathlib.Omega.{arith}
 use lib.Ieee.{Float}
 use lib.ListN.{length, take}
-use lib.Seq.{take-all}
 use Rattle.model.specs.Bytes.{Bytes, before}
 use Rattle.model.specs.Path.{Path}
 use Rattle.model.specs.Map.{lookup}
-use Rattle.model.specs.Tree.{Entry, own, reference, directory, deleted, Table, Node, View, over, shown, Kind, kindOf, kind}
+use Rattle.model.specs.Tree.{Entry, own, reference, directory, deleted, Table, Node, over, shown, Kind, kindOf, kind}
 use Rattle.model.specs.Listing.{treeIn, isListing}
 use Rattle.model.specs.Table.{entriesAt, tableIn, isTable}
 use Rattle.model.specs.declared.Record.{Record}
-use Rattle.model.proofs.Orders.{Lt, Lt-irrefl, Lt-trans, Lt-≢, Cmp, cmp, bot}
-use Rattle.fields.proofs.Common.{Lt-take}
+use Rattle.model.proofs.Orders.{Lt, Cmp, cmp, bot}
 use Rattle.listing_parts.specs.declared.ComponentWalk.{ComponentWalk}
 use Rattle.listing_parts.specs.declared.RealTarget.{RealTarget}
 use Rattle.listing_parts.specs.Found.{targetKind}
 use Rattle.listing_parts.specs.Walk.{Walks}
 use Rattle.listing_parts.proofs.Steps.{kind-front, walks-on}
+use Rattle.listing_dir.proofs.Targets.{kind-named}
 use Rattle.overlay_state.specs.declared.OverlayEntry.{OverlayEntry}
-use Rattle.overlay_state.specs.declared.OverlayEntry.the-variants as entry
 use Rattle.overlay_state.specs.declared.Place.{Place}
 use Rattle.overlay_state.specs.Place.{Standing, Sought}
-use Rattle.overlay_state.specs.Cut.{since}
-use Rattle.overlay_state.specs.Said.{Said, said, saidOf, aFile, aReference, aDirectory, isDeleted, noEntry}
+use Rattle.overlay_state.specs.Said.{said, saidOf, aFile, aReference, aDirectory, isDeleted, noEntry}
 use Rattle.overlay_state.proofs.Cuts.{lookup-since}
-use Rattle.overlay_state.proofs.Entries.{table-stands}
-use Rattle.overlay_view.specs.Sight.{visibleKind, Sees}
-use Rattle.overlay_view.specs.declared.Visible.{Visible}
+use Rattle.overlay_view.specs.Sight.{Sees}
 use Rattle.overlay_view.specs.declared.Sight.{Sight}
 
 -- a longer prefix is not before a shorter one
@@ -136,10 +131,11 @@ over-absent (some (reference a y d)) n x h i = absurd (bot (cc))
 over-absent (some (directory a)) n x h i = absurd (bot (cc))
 over-absent (some deleted) n x h i = absurd (bot (cc))
 
--- the root, and a whole path
-pub kind-root : (f : View) (p : Path) → length p ≡ 0 → Kind.aDirectory ≡ kind f p
-kind-root f [] h = refl
-kind-root f (b ∷ p) h = absurd (omega arith)
-
-pub kind-whole : (f : View) (p : Path) → kind f (take (length p) p) ≡ kind f p
-kind-whole f p = ap (kind f) (take-all (length p) p (omega arith))
+-- a whole path, which is not the root
+pub whole-kind : (l s : Bytes) (r : Record) (p : Path) → (length p ≡ 0 → ⊥) → (x : Kind) (e : OverlayEntry) (t : RealTarget)
+    → saidOf s e ≡ said (lookup (tableIn s r) p)
+    → targetKind t ≡ kind (lookup (treeIn l)) p
+    → ((s : Bytes) (o : Option Entry) (n : Option Node) → saidOf s e ≡ said o → targetKind t ≡ kindOf n → x ≡ kindOf (over o n))
+    → x ≡ kind (shown (tableIn s r) (treeIn l)) p
+whole-kind l s r p h x e t f g w =
+    w s (lookup (tableIn s r) p) (lookup (treeIn l) p) f (g ∙ sym (kind-named (lookup (treeIn l)) p h)) ∙ kind-named (shown (tableIn s r) (treeIn l)) p h

@@ -117,7 +117,7 @@ pub fn look(
     let walk = sight.walk;
     let key = &path[..end];
     let got = overlay_state::get_from(table, place, key);
-    let stepped = walk.step(listing, path, end);
+    let stepped = listing_walk::step_once(walk, listing, path, end);
     let entry = got.entry;
     let target = stepped.target;
     let visible = over(entry, target);
@@ -141,7 +141,7 @@ pub fn visible_at(listing: &[u8], table: &[u8], rec: model::Record, path: &[u8])
     if path.len() == 0 {
         return Visible::Directory;
     }
-    let sight = begin(listing, table, rec);
-    let seen = look(sight, listing, table, rec, path, path.len());
-    seen.visible
+    let entry = overlay_state::get(table, rec, path);
+    let target = listing_dir::kind_of(listing, path);
+    over(entry, target)
 }

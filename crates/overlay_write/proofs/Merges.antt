@@ -16,25 +16,13 @@ use Rattle.model.specs.Table.{entryBytes, encode, padded, entryOf, entriesAt, t
 use Rattle.model.specs.declared.Record.{Record}
 use Rattle.model.proofs.Codec.{entry-length}
 use Rattle.fields.specs.Write.{overwritten}
-use Rattle.fields.proofs.Writes.{length-overwritten, take-overwritten, overwritten-twice}
+use Rattle.fields.proofs.Writes.{length-overwritten, take-overwritten, two-writes, three-writes}
 use Rattle.fields.proofs.Zeros.{zeroed-behind}
 use Rattle.overlay_state.specs.Place.{Standing, Sought}
 use Rattle.overlay_state.specs.Cut.{upTo, since, unlessFirst, behind}
 use Rattle.overlay_state.proofs.Cuts.{up-since, encode-append}
 use Rattle.overlay_measure.proofs.Passes.{begun, begun-done, put-on, put-on-done}
 use Rattle.overlay_write.specs.Merge.{Written, Merged}
-
--- writes in a row, each right behind the one before
-pub two-writes : (t t₁ t₂ xs ys : Bytes) (at b : ℕ) → at + length xs ≤ length t → b ≡ at + length xs
-    → t₁ ≡ overwritten t at xs → t₂ ≡ overwritten t₁ b ys → t₂ ≡ overwritten t at (xs ++ ys)
-two-writes t t₁ t₂ xs ys at b h eb e₁ e₂ = e₂ ∙ ap₂ (λ (u : Bytes) (n : ℕ). overwritten u n ys) e₁ eb ∙ overwritten-twice t at xs h ys
-
-pub three-writes : (t t₁ t₂ t₃ xs ys zs : Bytes) (at b c : ℕ) → at + length xs + length ys ≤ length t → b ≡ at + length xs → c ≡ at + length xs + length ys
-    → t₁ ≡ overwritten t at xs → t₂ ≡ overwritten t₁ b ys → t₃ ≡ overwritten t₂ c zs → t₃ ≡ overwritten t at (xs ++ (ys ++ zs))
-three-writes t t₁ t₂ t₃ xs ys zs at b c h eb ec e₁ e₂ e₃ =
-    let l : length (xs ++ ys) ≡ length xs + length ys = length-append xs ys in
-    two-writes t t₂ t₃ (xs ++ ys) zs at c (omega arith) (omega arith) (two-writes t t₁ t₂ xs ys at b (omega arith) eb e₁ e₂) e₃
-    ∙ ap (overwritten t at) (append-assoc xs ys zs)
 
 -- an entry's bytes, from its fields
 pub entry-written : (k : Path) (kind m z : ℕ) (b : Bytes) → Written kind m z b

@@ -1,30 +1,19 @@
--- `is_listed_directory` meets its contract: the root is a directory, and any other path is what is found there.
+-- `is_listed_directory` meets its contract: the kind at the path is asked whether it is a directory.
 -- Assumes nothing.
+use mathlib.Core.Path.{ap, _∙_}
 use borrow.Author.Needs.{needs}
-use Rattle.model.specs.Map.{lookup}
-use Rattle.model.specs.Listing.{treeIn}
-use Rattle.overlay_plan.proofs.Plans.{root-listed, found-listed}
+use Rattle.model.specs.Tree.{isDirectory}
 use Rattle.overlay_plan.proofs.is_listed_directory.Statement.{statement}
 use Rattle.overlay_plan.proofs.is_listed_directory.Tie as tie
 
+kind-of-requires : tie.Need-kind-of-requires
+kind-of-requires c κs = search needs
+
+is-dir-requires : tie.Need-is-dir-requires
+is-dir-requires c κs = search needs
+
 returns : tie.Need-returns
-returns c =
-    let a = c .before .before .before .args in
-    root-listed (lookup (treeIn (a .listing .now))) (a .path .now) (c .if1 .taken)
-
-find-requires : tie.Need-find-requires
-find-requires c κs = search needs
-
-is-directory-requires : tie.Need-is-directory-requires
-is-directory-requires c κs = search needs
-
-returns-2 : tie.Need-returns-2
-returns-2 c =
-    let a = c .before .before .before .before .before .args in
-    let d = c .is-directory in
-    let f = c .before .find in
-    found-listed (treeIn (a .listing .now)) (a .path .now) (f .result) (d .result) (c .before .before .if1 .left) (f .ensures) (d .ensures)
+returns c = c .is-dir .ensures ∙ ap isDirectory (c .before .kind-of .ensures)
 
 pub is-listed-directory-spec : {M : Type 1} → statement M
-is-listed-directory-spec =
-    tie.close (tie.spec returns find-requires is-directory-requires returns-2)
+is-listed-directory-spec = tie.close (tie.spec kind-of-requires is-dir-requires returns)

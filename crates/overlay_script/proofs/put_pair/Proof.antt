@@ -4,7 +4,7 @@ use borrow.Author.Needs.{needs}
 use mathlib.Core.Path.{refl}
 use Prim.Native.Nat.{_+_}
 use Rattle.model.specs.Bytes.{bytes}
-use Rattle.overlay_write.proofs.Merges.{two-writes}
+use Rattle.fields.proofs.Writes.{two-writes}
 use Rattle.overlay_script.proofs.put_pair.Statement.{statement}
 use Rattle.overlay_script.proofs.put_pair.Tie as tie
 

@@ -16,8 +16,10 @@ slice-aggregate-key c =
 get-from-requires : tie.Need-get-from-requires
 get-from-requires c κs = search needs
 
-step-requires : tie.Need-step-requires
-step-requires c κs = search needs
+step-once-requires : tie.Need-step-once-requires
+step-once-requires c κs =
+    let i = c .before .before .before .before .before .before .before in
+    (i .pre .0 .listing, i .pre .0 .walks, i .pre .1 .0, i .pre .1 .1, i .pre .1 .2)
 
 over-requires : tie.Need-over-requires
 over-requires c κs = search needs
@@ -25,16 +27,16 @@ over-requires c κs = search needs
 returns : tie.Need-returns
 returns c =
     let o = c .before .before .over in
-    let t = c .before .before .before .step in
+    let t = c .before .before .before .step-once in
     let g = c .before .before .before .before .get-from in
     let i = c .before .before .before .before .before .before .before .before .before .before .before in
     let a = i .args in (
       seen-kind (a .listing .now) (a .table .now) (a .rec) (a .path .now) (a .sight) (a .end) (i .pre .0) (i .pre .1 .0) (i .pre .1 .1) (g .result .place)
-          (g .ensures .1) (visibleKind (o .result)) (g .result .entry) (t .result .target) (g .ensures .0) (t .ensures .0) (o .ensures),
+          (g .ensures .1) (visibleKind (o .result)) (g .result .entry) (t .result .target) (g .ensures .0) (t .ensures .found) (o .ensures),
       sees-next (a .listing .now) (a .table .now) (a .rec) (a .path .now) (a .sight) (a .end) (i .pre .0) (i .pre .1 .0) (i .pre .1 .1) (g .result .place)
-          (g .ensures .1) (t .result .walk) (t .ensures .1 .1 .1),
+          (g .ensures .1) (t .result .walk) (t .ensures .goes-on),
     )
 
 pub look-spec : {M : Type 1} → statement M
 look-spec =
-    tie.close (tie.spec slice-aggregate-key get-from-requires step-requires over-requires returns)
+    tie.close (tie.spec slice-aggregate-key get-from-requires step-once-requires over-requires returns)

@@ -1,36 +1,36 @@
--- `visible_at` meets its contract: one look at the whole path.
+-- `visible_at` meets its contract: the entry at the path, or what is listed there; the root apart.
 -- Assumes nothing.
-use mathlib.Core.Path.{_∙_}
 use borrow.Author.Needs.{needs}
-use lib.ListN.{length}
 use Rattle.model.specs.Table.{tableIn}
 use Rattle.model.specs.Listing.{treeIn}
-use Rattle.model.specs.Tree.{shown, kind}
-use Rattle.listing_parts.proofs.Steps.{ends-whole}
-use Rattle.overlay_view.proofs.Sights.{sees-on, kind-root, kind-whole}
+use Rattle.model.specs.Tree.{shown}
+use Rattle.listing_dir.proofs.Targets.{root-kind}
+use Rattle.overlay_view.specs.Sight.{visibleKind}
+use Rattle.overlay_view.proofs.Sights.{whole-kind}
 use Rattle.overlay_view.proofs.visible_at.Statement.{statement}
 use Rattle.overlay_view.proofs.visible_at.Tie as tie
 
 returns : tie.Need-returns
 returns c =
     let a = c .before .before .before .before .args in
-    kind-root (shown (tableIn (a .table .now) (a .rec)) (treeIn (a .listing .now))) (a .path .now) (c .if1 .taken)
+    root-kind (shown (tableIn (a .table .now) (a .rec)) (treeIn (a .listing .now))) (a .path .now) (c .if1 .taken)
 
-begin-requires : tie.Need-begin-requires
-begin-requires c κs = search needs
+get-requires : tie.Need-get-requires
+get-requires c κs = search needs
 
-look-requires : tie.Need-look-requires
-look-requires c κs =
-    let a = c .before .before .before .before .before .args in
-    let n = length (a .path .now) in (
-      sees-on (a .listing .now) (a .table .now) (a .rec) (a .path .now) (c .begin .result) 0 n (search needs) (c .begin .ensures (a .path .now)),
-      (search needs, search needs, ends-whole (a .path .now) n (search needs)),
-    )
+kind-of-requires : tie.Need-kind-of-requires
+kind-of-requires c κs = search needs
+
+over-requires : tie.Need-over-requires
+over-requires c κs = search needs
 
 returns-2 : tie.Need-returns-2
 returns-2 c =
-    let a = c .before .before .before .before .before .before .args in
-    c .look .ensures .0 ∙ kind-whole (shown (tableIn (a .table .now) (a .rec)) (treeIn (a .listing .now))) (a .path .now)
+    let a = c .before .before .before .before .before .before .before .args in
+    let g = c .before .before .get in
+    let t = c .before .kind-of in
+    whole-kind (a .listing .now) (a .table .now) (a .rec) (a .path .now) (c .before .before .before .if1 .left) (visibleKind (c .over .result)) (g .result)
+    (t .result) (g .ensures) (t .ensures) (c .over .ensures)
 
 pub visible-at-spec : {M : Type 1} → statement M
-visible-at-spec = tie.close (tie.spec returns begin-requires look-requires returns-2)
+visible-at-spec = tie.close (tie.spec returns get-requires kind-of-requires over-requires returns-2)

@@ -3,7 +3,7 @@
 use Prim.Native.Nat.{_+_}
 use native.Mathlib.Omega.{arith}
 use Rattle.model.specs.Bytes.{bytes}
-use Rattle.overlay_write.proofs.Merges.{three-writes}
+use Rattle.fields.proofs.Writes.{three-writes}
 use borrow.Author.Needs.{needs}
 use Rattle.overlay_write.proofs.put_sizes.Statement.{statement}
 use Rattle.overlay_write.proofs.put_sizes.Tie as tie

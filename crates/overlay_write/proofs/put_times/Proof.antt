@@ -3,7 +3,7 @@
 use Prim.Native.Nat.{_+_}
 use native.Mathlib.Omega.{arith}
 use Rattle.model.specs.Bytes.{bytes}
-use Rattle.overlay_write.proofs.Merges.{two-writes}
+use Rattle.fields.proofs.Writes.{two-writes}
 use borrow.Author.Needs.{needs}
 use Rattle.overlay_write.proofs.put_times.Statement.{statement}
 use Rattle.overlay_write.proofs.put_times.Tie as tie

@@ -1,0 +1,29 @@
+-- An answer in one number, and a record as four numbers.
+-- Assumes nothing.
+use mathlib.Core.List.{List, [], _∷_}
+use Prim.Native.Nat.{ℕ, _+_, _*_, _<_}
+use lib.ListN.{getD}
+use Rattle.model.specs.Answer.{Reply, accepted, refused}
+use Rattle.model.specs.declared.Record.{Record}
+
+-- the number (0: accepted) in the low 8 bits, the path in the next 8, and from bit 16 on the length, or the value of what is accepted
+abbrev pub packed : Reply → ℕ
+packed (accepted v) = 65536 * v
+packed (refused n p l) = n + 256 * p + 65536 * l
+
+-- the parts fit in 8, 8 and 48 bits, so that they can be told apart
+abbrev pub Fits : Reply → Type 0
+Fits (accepted v) = v < 0x1_0000_0000_0000
+Fits (refused n p l) = (n < 256) × (p < 256) × (l < 0x1_0000_0000_0000)
+
+-- x where the call is accepted, else y
+abbrev pub ifAccepted : {A : Type 0} → Reply → A → A → A
+ifAccepted (accepted v) x y = x
+ifAccepted (refused n p l) x y = y
+
+-- a record's four numbers, and the record that four numbers are
+abbrev pub numbers : Record → List ℕ
+numbers r = r .used ∷ r .count ∷ r .charge ∷ r .«entry_size» ∷ []
+
+abbrev pub recordIn : List ℕ → Record
+recordIn s = record { used = getD s 0 0; count = getD s 1 0; charge = getD s 2 0; «entry_size» = getD s 3 0 }

@@ -1,0 +1,317 @@
+// The calls of document 01 for programs in C or Rust to link: numbers and byte slices in, the answer packed in one number out.
+// Nothing is assumed of what is lent, but that no two of the buffers overlap: any bytes and any numbers can be given. A record that is not
+// four numbers is answered with 1. A refused call leaves every lent buffer, the record too, as it was. The cost is that of the call itself.
+ghost use mathlib.Core.Path.{_≡_};
+ghost use mathlib.Core.Bool.{true, false, _&&_};
+ghost use lib.ListN.{length};
+ghost use Rattle.model.specs.Listing.{isListing};
+ghost use Rattle.model.specs.Table.{isTable};
+ghost use Rattle.model.specs.Calls as calls;
+ghost use Rattle.model.specs.Answer.{refused, told, toldRefusal, toldFinding};
+ghost use Rattle.model.specs.Outcome.{opened};
+ghost use Rattle.overlay.specs.Meets.{requested};
+ghost use Rattle.overlay_exports.specs.Packed.{packed, Fits, ifAccepted, numbers, recordIn};
+ghost use Rattle.overlay_exports.specs.Exported.{isFour, left, called, asked, opening};
+use model::Answer;
+use model::Answered;
+use model::Finding;
+use model::Record;
+use model::Refusal;
+
+// The numbers of a record: used, count, charge and entry size.
+const NUMBERS: usize = 4;
+
+// The answer where the record is not four numbers: that of a malformed table.
+const MALFORMED: u64 = 1;
+
+// The record that four numbers are.
+fn record_in(rec: &[u64]) -> Record
+    requires { ⌜ length (now rec) ≡ 4 ⌝ }
+    ensures { λ r. ⌜ r ≡ recordIn (now (rec .entry)) ⌝ }
+{
+    Record {
+        used: rec[0],
+        count: rec[1],
+        charge: rec[2],
+        entry_size: rec[3],
+    }
+}
+
+// The four numbers become those of `after`.
+fn store(rec: &mut [u64], after: Record)
+    requires { ⌜ length (now rec) ≡ 4 ⌝ }
+    ensures { λ _. ⌜ now (rec .exit) ≡ numbers after ⌝ }
+{
+    rec[0] = after.used;
+    rec[1] = after.count;
+    rec[2] = after.charge;
+    rec[3] = after.entry_size;
+}
+
+// A refusal in one number.
+fn pack(number: u64, path: u64, len: u64) -> u64
+    requires { ⌜ Fits (refused number path len) ⌝ }
+    ensures { λ r. ⌜ r ≡ packed (refused number path len) ⌝ }
+{
+    number + 256 * path + 65_536 * len
+}
+
+fn pack_refusal(refusal: Refusal) -> u64
+    requires { ⌜ Fits (toldRefusal refusal) ⌝ }
+    ensures { λ r. ⌜ r ≡ packed (toldRefusal refusal) ⌝ }
+{
+    match refusal {
+        Refusal::MalformedTable => return 1,
+        Refusal::MalformedListing => return 2,
+        Refusal::MalformedPath(path) => return pack(3, path, 0),
+        Refusal::LinkOrRoot(path, len) => return pack(4, path, len),
+        Refusal::NotFound(path, len) => return pack(5, path, len),
+        Refusal::Exists(path, len) => return pack(6, path, len),
+        Refusal::NotADirectory(path, len) => return pack(7, path, len),
+        Refusal::IsADirectory(path, len) => return pack(8, path, len),
+        Refusal::NotEmpty(path, len) => return pack(9, path, len),
+        Refusal::BelowSource(len) => return pack(10, 0, len),
+        Refusal::Limit => return 11,
+        Refusal::KeyTooLong => return 12,
+        Refusal::NoRoom => return 13,
+    }
+}
+
+// A query's answer in one number.
+fn pack_finding(finding: Finding) -> u64
+    requires { ⌜ Fits (toldFinding finding) ⌝ }
+    ensures { λ r. ⌜ r ≡ packed (toldFinding finding) ⌝ }
+{
+    match finding {
+        Finding::Yes => return 65_536,
+        Finding::No => return 0,
+        Finding::Unanswered(refusal) => return pack_refusal(refusal),
+    }
+}
+
+// A changing call's answer in one number.
+fn pack_answer(answer: Answer) -> u64
+    requires { ⌜ Fits (told answer) ⌝ }
+    ensures { λ r. ⌜ r ≡ packed (told answer) ⌝ }
+{
+    match answer {
+        Answer::Accepted(value) => return 65_536 * value,
+        Answer::Refused(refusal) => return pack_refusal(refusal),
+    }
+}
+
+fn is_accepted(answer: Answer) -> bool
+    ensures { λ r. ⌜ r ≡ ifAccepted (told answer) true false ⌝ }
+{
+    match answer {
+        Answer::Accepted(_) => return true,
+        Answer::Refused(_) => return false,
+    }
+}
+
+// The answer in one number. The record is stored where the call is accepted, and nowhere else.
+fn settle(rec: &mut [u64], answered: Answered) -> u64
+    requires { ⌜ length (now rec) ≡ 4 ⌝ }
+    requires { ⌜ Fits (told (answered .answer)) ⌝ }
+    ensures { λ r. ⌜ r ≡ packed (told (answered .answer)) ⌝ }
+    ensures { λ _. ⌜ now (rec .exit) ≡ ifAccepted (told (answered .answer)) (numbers (answered .«record»)) (now (rec .entry)) ⌝ }
+{
+    let answer = answered.answer;
+    let after = answered.record;
+    if is_accepted(answer) {
+        store(rec, after);
+        return pack_answer(answer);
+    }
+    pack_answer(answer)
+}
+
+// Makes the buffer an empty table for entries of this size.
+#[no_mangle]
+pub extern "C" fn overlay_open_table(table: &mut [u8], rec: &mut [u64], entry_size: u64) -> u64
+    ensures { λ r. ⌜ r ≡ packed (opening «entry_size» (now (table .entry)) (now (rec .entry))) ⌝ }
+    ensures { λ _. ⌜ now (rec .exit) ≡ ifAccepted (opening «entry_size» (now (table .entry)) (now (rec .entry)))
+        (numbers (opened «entry_size» (now (table .entry)) .store .rec)) (now (rec .entry)) ⌝ }
+    ensures { λ _. ⌜ now (table .exit) ≡ ifAccepted (opening «entry_size» (now (table .entry)) (now (rec .entry)))
+        (opened «entry_size» (now (table .entry)) .store .table) (now (table .entry)) ⌝ }
+{
+    if rec.len() != NUMBERS {
+        return MALFORMED;
+    }
+    let answered = overlay_open::open(table, entry_size);
+    settle(rec, answered)
+}
+
+// Whether bytes are a listing; whether bytes and a record are a table.
+#[no_mangle]
+pub extern "C" fn overlay_check_listing(listing: &[u8]) -> bool
+    ensures { λ r. ⌜ r ≡ isListing (now (listing .entry)) ⌝ }
+{
+    listing::check(listing)
+}
+
+#[no_mangle]
+pub extern "C" fn overlay_check_table(table: &[u8], rec: &[u64]) -> bool
+    ensures { λ r. ⌜ r ≡ (isFour (now (rec .entry)) && isTable (now (table .entry)) (recordIn (now (rec .entry)))) ⌝ }
+{
+    if rec.len() != NUMBERS {
+        return false;
+    }
+    overlay_open::check(table, record_in(rec))
+}
+
+// Whether anything but a link is visible at the path; a file; a directory.
+#[no_mangle]
+pub extern "C" fn overlay_exists(listing: &[u8], table: &[u8], rec: &[u64], path: &[u8]) -> u64
+    ensures { λ r. ⌜ r ≡ packed (asked calls.exists (now (listing .entry)) (now (path .entry)) (now (table .entry)) (now (rec .entry))) ⌝ }
+{
+    if rec.len() != NUMBERS {
+        return MALFORMED;
+    }
+    let finding = overlay::exists(listing, table, record_in(rec), path);
+    pack_finding(finding)
+}
+
+#[no_mangle]
+pub extern "C" fn overlay_is_file(listing: &[u8], table: &[u8], rec: &[u64], path: &[u8]) -> u64
+    ensures { λ r. ⌜ r ≡ packed (asked calls.isFile (now (listing .entry)) (now (path .entry)) (now (table .entry)) (now (rec .entry))) ⌝ }
+{
+    if rec.len() != NUMBERS {
+        return MALFORMED;
+    }
+    let finding = overlay::is_file(listing, table, record_in(rec), path);
+    pack_finding(finding)
+}
+
+#[no_mangle]
+pub extern "C" fn overlay_is_dir(listing: &[u8], table: &[u8], rec: &[u64], path: &[u8]) -> u64
+    ensures { λ r. ⌜ r ≡ packed (asked calls.isDir (now (listing .entry)) (now (path .entry)) (now (table .entry)) (now (rec .entry))) ⌝ }
+{
+    if rec.len() != NUMBERS {
+        return MALFORMED;
+    }
+    let finding = overlay::is_dir(listing, table, record_in(rec), path);
+    pack_finding(finding)
+}
+
+// The data becomes the content of the path's own file, with these mtime bits.
+#[no_mangle]
+pub extern "C" fn overlay_write_bytes(
+    listing: &[u8],
+    table: &mut [u8],
+    rec: &mut [u64],
+    work: &mut [u8],
+    path: &[u8],
+    data: &[u8],
+    mtime: u64,
+    limit: u64,
+) -> u64
+    ensures { λ r. ⌜ left r (now (rec .exit)) (now (table .exit)) (now (work .exit)) ≡ called (now (listing .entry))
+        (requested (calls.write (now (path .entry)) mtime (now («data» .entry))) limit (now (work .entry)))
+        (now (table .entry)) (now (rec .entry)) ⌝ }
+{
+    if rec.len() != NUMBERS {
+        return MALFORMED;
+    }
+    let before = record_in(&*rec);
+    let answered = overlay::write_bytes(listing, table, before, work, path, mtime, data, limit);
+    settle(rec, answered)
+}
+
+// A directory with these mtime bits at the path; with the flag parents, at its missing ancestors too.
+#[no_mangle]
+pub extern "C" fn overlay_mkdir(
+    listing: &[u8],
+    table: &mut [u8],
+    rec: &mut [u64],
+    work: &mut [u8],
+    path: &[u8],
+    parents: bool,
+    exist_ok: bool,
+    mtime: u64,
+    limit: u64,
+) -> u64
+    ensures { λ r. ⌜ left r (now (rec .exit)) (now (table .exit)) (now (work .exit)) ≡ called (now (listing .entry))
+        (requested (calls.mkdir (now (path .entry)) parents «exist_ok» mtime) limit (now (work .entry))) (now (table .entry)) (now (rec .entry)) ⌝ }
+{
+    if rec.len() != NUMBERS {
+        return MALFORMED;
+    }
+    let before = record_in(&*rec);
+    let answered = overlay_mkdir::mkdir(
+        listing,
+        table,
+        before,
+        work,
+        path,
+        parents,
+        exist_ok,
+        mtime,
+        limit,
+    );
+    settle(rec, answered)
+}
+
+// The path shows nothing from now on.
+#[no_mangle]
+pub extern "C" fn overlay_unlink(
+    listing: &[u8],
+    table: &mut [u8],
+    rec: &mut [u64],
+    work: &mut [u8],
+    path: &[u8],
+    limit: u64,
+) -> u64
+    ensures { λ r. ⌜ left r (now (rec .exit)) (now (table .exit)) (now (work .exit)) ≡ called (now (listing .entry))
+        (requested (calls.unlink (now (path .entry))) limit (now (work .entry))) (now (table .entry)) (now (rec .entry)) ⌝ }
+{
+    if rec.len() != NUMBERS {
+        return MALFORMED;
+    }
+    let before = record_in(&*rec);
+    let answered = overlay::unlink(listing, table, before, work, path, limit);
+    settle(rec, answered)
+}
+
+// The same for an empty directory.
+#[no_mangle]
+pub extern "C" fn overlay_rmdir(
+    listing: &[u8],
+    table: &mut [u8],
+    rec: &mut [u64],
+    work: &mut [u8],
+    path: &[u8],
+    limit: u64,
+) -> u64
+    ensures { λ r. ⌜ left r (now (rec .exit)) (now (table .exit)) (now (work .exit)) ≡ called (now (listing .entry))
+        (requested (calls.rmdir (now (path .entry))) limit (now (work .entry))) (now (table .entry)) (now (rec .entry)) ⌝ }
+{
+    if rec.len() != NUMBERS {
+        return MALFORMED;
+    }
+    let before = record_in(&*rec);
+    let answered = overlay::rmdir(listing, table, before, work, path, limit);
+    settle(rec, answered)
+}
+
+// What is visible at the source, and below it, moves to the destination.
+#[no_mangle]
+pub extern "C" fn overlay_rename(
+    listing: &[u8],
+    table: &mut [u8],
+    rec: &mut [u64],
+    work: &mut [u8],
+    source: &[u8],
+    destination: &[u8],
+    limit: u64,
+) -> u64
+    ensures { λ r. ⌜ left r (now (rec .exit)) (now (table .exit)) (now (work .exit)) ≡ called (now (listing .entry))
+        (requested (calls.rename (now (source .entry)) (now (destination .entry))) limit (now (work .entry)))
+        (now (table .entry)) (now (rec .entry)) ⌝ }
+{
+    if rec.len() != NUMBERS {
+        return MALFORMED;
+    }
+    let before = record_in(&*rec);
+    let answered = overlay_rename::rename(listing, table, before, work, source, destination, limit);
+    settle(rec, answered)
+}
