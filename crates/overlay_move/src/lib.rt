@@ -6,7 +6,7 @@ ghost use mathlib.Core.Bool.{true, cond};
 ghost use Prim.Native.Nat.{_≤_};
 ghost use lib.ListN.{length, replicate};
 ghost use Rattle.model.specs.Bytes.{every};
-ghost use Rattle.model.specs.Path.{short, isPath};
+ghost use Rattle.model.specs.Path.{short};
 ghost use Rattle.model.specs.Map.{keys, rekey};
 ghost use Rattle.model.specs.Tree.{shown, aDirectory, aFile, kind};
 ghost use Rattle.model.specs.Listing.{treeIn, isListing};
@@ -27,7 +27,6 @@ pub fn write_move(
 )
     requires { ⌜ isTable (now table) rec ≡ true ⌝ }
     requires { ⌜ isListing (now listing) ≡ true ⌝ }
-    requires { ⌜ (isPath (now source) ≡ true) × (isPath (now destination) ≡ true) ⌝ }
     requires { ⌜ earlyChecks (tableIn (now table) rec) (treeIn (now listing)) (now source) (now destination) ≡ pass ⌝ }
     requires { ⌜ kind (shown (tableIn (now table) rec) (treeIn (now listing))) (now source) ≡ cond whole aDirectory aFile ⌝ }
     requires { ⌜ every short (keys (rekey (now source) (now destination)

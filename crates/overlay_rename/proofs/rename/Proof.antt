@@ -104,7 +104,7 @@ write-move-requires c κs =
     let m = c .before .before .before .before .before .measure in
     let f = settled-fits l s (a .rec) w x y (a .limit) (j .result) (j .ensures) g (m .result) (m .ensures .0) _ (c .before .before .before .settled2 .given .1) in
     let n = kind-whole (tableIn s (a .rec)) (treeIn l) x y e (visibleKind (v .result)) (v .ensures) (d .result) (d .ensures) in
-    (k .0, (k .2, ((k .3, k .4), (e, (n, (f .0, (f .1, leb-true (length s) (length w) (k .1))))))))
+    (k .0, (k .2, (e, (n, (f .0, (f .1, leb-true (length s) (length w) (k .1)))))))
 
 same-length-3 : tie.Need-same-length-3
 same-length-3 c = search needs
