@@ -27,13 +27,13 @@ then-assoc pass b c = refl
 then-assoc (refuse n w k) b c = refl
 
 -- every refusal is told as one, with its number, path and length
-record Told (r : Refusal) : Type 0 where
-  number : ℕ
-  path : ℕ
-  len : ℕ
-  is : toldRefusal r ≡ refused number path len
+pub record Told (r : Refusal) : Type 0 where
+  pub number : ℕ
+  pub path : ℕ
+  pub len : ℕ
+  pub is : toldRefusal r ≡ refused number path len
 
-told-as : (r : Refusal) → Told r
+pub told-as : (r : Refusal) → Told r
 told-as refusal.MalformedTable = record { number = 1; path = 0; len = 0; is = refl }
 told-as refusal.MalformedListing = record { number = 2; path = 0; len = 0; is = refl }
 told-as (refusal.MalformedPath p) = record { number = 3; path = p; len = 0; is = refl }

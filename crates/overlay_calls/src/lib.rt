@@ -89,7 +89,8 @@ fn refused(number: u64, path: u64, len: u64) -> Row
     Row { number, path, len }
 }
 
-fn told_refusal(refusal: Refusal) -> Row
+// The row of a refusal.
+pub fn told_refusal(refusal: Refusal) -> Row
     ensures { λ r. ⌜ r ≡ rowOf (replies.toldRefusal refusal) ⌝ }
 {
     match refusal {

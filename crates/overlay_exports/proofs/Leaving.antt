@@ -11,53 +11,46 @@ use Rattle.model.specs.Bytes.{Bytes}
 use Rattle.model.specs.Path.{Path}
 use Rattle.model.specs.Table.{isTable, sized}
 use Rattle.model.specs.Calls.{Query}
-use Rattle.model.specs.Answer.{Reply, accepted, refused, told, toldRefusal}
+use Rattle.model.specs.Answer.{Reply, accepted, refused, told, toldRefusal, toldFinding}
 use Rattle.model.specs.Outcome.{Store, Request, Outcome, outcome, ask, opened}
 use Rattle.model.specs.declared.Record.{Record}
 use Rattle.model.specs.declared.Refusal.{Refusal}
-use Rattle.model.specs.declared.Refusal.the-variants as refusal
 use Rattle.model.specs.declared.Answer.{Answer}
 use Rattle.model.specs.declared.Answer.the-variants.{Refused}
 use Rattle.model.specs.declared.Answered.{Answered}
+use Rattle.model.specs.declared.Finding.{Finding}
+use Rattle.model.specs.declared.Finding.the-variants.{Unanswered}
 use Rattle.model.proofs.Orders.{bot}
 use Rattle.model.proofs.Shapes.{untouched}
 use Rattle.overlay.specs.Meets.{stored, Meets}
+use Rattle.overlay.proofs.Settles.{told-as}
+use Rattle.overlay_calls.specs.declared.Row.{Row}
+use Rattle.overlay_calls.specs.Calls.{rowOf}
 use Rattle.overlay_exports.specs.Packed.{packed, Fits, ifAccepted, numbers, recordIn}
 use Rattle.overlay_exports.specs.Exported.{isFour, left, leaves, called, asked, opening}
 use Rattle.overlay_exports.proofs.Fitting.{outcome-fits, ask-fits, opened-fits}
 
--- a refusal that is the case b
-pub case-fits : (a b : Refusal) → a ≡ b → Fits (toldRefusal a) → Fits (toldRefusal b)
-case-fits a b e h = subst (λ (r : Refusal). Fits (toldRefusal r)) e h
+-- a reply's row fits where the reply does, and is packed as the reply is
+pub row-fits : (a : Reply) (w : Row) → w ≡ rowOf a → Fits a → Fits (refused (w .number) (w .path) (w .len))
+row-fits (accepted v) w e h = subst (λ (x : Row). Fits (refused (x .number) (x .path) (x .len))) (sym e) (omega arith, omega arith, h)
+row-fits (refused n p l) w e h = subst (λ (x : Row). Fits (refused (x .number) (x .path) (x .len))) (sym e) h
 
-pub case-packed : (a b : Refusal) → a ≡ b → (r : ℕ) → r ≡ packed (toldRefusal b) → r ≡ packed (toldRefusal a)
-case-packed a b e r h = h ∙ sym (ap (λ (x : Refusal). packed (toldRefusal x)) e)
+pub row-packed : (a : Reply) (w : Row) → w ≡ rowOf a → packed (refused (w .number) (w .path) (w .len)) ≡ packed a
+row-packed (accepted v) w e = ap (λ (x : Row). packed (refused (x .number) (x .path) (x .len))) e ∙ omega arith
+row-packed (refused n p l) w e = ap (λ (x : Row). packed (refused (x .number) (x .path) (x .len))) e
 
--- an answer that is the case b
-pub answer-fits : (a b : Answer) → a ≡ b → Fits (told a) → Fits (told b)
-answer-fits a b e h = subst (λ (x : Answer). Fits (told x)) e h
+-- a query that is refused
+module _ (f : Finding) (r : Refusal) (e : f ≡ Unanswered r) (w : Row) (g : w ≡ rowOf (toldRefusal r)) where
+  pub finding-fits : Fits (toldFinding f) → Fits (refused (w .number) (w .path) (w .len))
+  finding-fits h = row-fits (toldRefusal r) w g (subst (λ (x : Finding). Fits (toldFinding x)) e h)
 
-pub answer-packed : (a b : Answer) → a ≡ b → (r : ℕ) → r ≡ packed (told b) → r ≡ packed (told a)
-answer-packed a b e r h = h ∙ sym (ap (λ (x : Answer). packed (told x)) e)
+  pub finding-packed : packed (refused (w .number) (w .path) (w .len)) ≡ packed (toldFinding f)
+  finding-packed = row-packed (toldRefusal r) w g ∙ sym (ap (λ (x : Finding). packed (toldFinding x)) e)
 
 -- no refusal accepts
-refusal-keeps : (r : Refusal) (x y : Bool) → y ≡ ifAccepted (toldRefusal r) x y
-refusal-keeps refusal.MalformedTable x y = refl
-refusal-keeps refusal.MalformedListing x y = refl
-refusal-keeps (refusal.MalformedPath p) x y = refl
-refusal-keeps (refusal.LinkOrRoot p l) x y = refl
-refusal-keeps (refusal.NotFound p l) x y = refl
-refusal-keeps (refusal.Exists p l) x y = refl
-refusal-keeps (refusal.NotADirectory p l) x y = refl
-refusal-keeps (refusal.IsADirectory p l) x y = refl
-refusal-keeps (refusal.NotEmpty p l) x y = refl
-refusal-keeps (refusal.BelowSource l) x y = refl
-refusal-keeps refusal.Limit x y = refl
-refusal-keeps refusal.KeyTooLong x y = refl
-refusal-keeps refusal.NoRoom x y = refl
-
 pub refusal-told : (a : Answer) (r : Refusal) → a ≡ Refused r → false ≡ ifAccepted (told a) true false
-refusal-told a r e = refusal-keeps r true false ∙ sym (ap (λ (x : Answer). ifAccepted (told x) true false) e)
+refusal-told a r e =
+    sym (ap (λ (x : Answer). ifAccepted (told x) true false) e ∙ ap (λ (x : Reply). ifAccepted x true false) (told-as r .is))
 
 -- b is whether the reply accepts
 pub if-accepted : (r : Reply) (b : Bool) → b ≡ ifAccepted r true false → b ≡ true → (x y : List ℕ) → x ≡ ifAccepted r x y

@@ -7,7 +7,7 @@ ghost use lib.ListN.{length};
 ghost use Rattle.model.specs.Listing.{isListing};
 ghost use Rattle.model.specs.Table.{isTable};
 ghost use Rattle.model.specs.Calls as calls;
-ghost use Rattle.model.specs.Answer.{refused, told, toldRefusal, toldFinding};
+ghost use Rattle.model.specs.Answer.{refused, told, toldFinding};
 ghost use Rattle.model.specs.Outcome.{opened};
 ghost use Rattle.overlay.specs.Meets.{requested};
 ghost use Rattle.overlay_exports.specs.Packed.{packed, Fits, ifAccepted, numbers, recordIn};
@@ -16,7 +16,7 @@ use model::Answer;
 use model::Answered;
 use model::Finding;
 use model::Record;
-use model::Refusal;
+use overlay_calls::Row;
 
 // The numbers of a record: used, count, charge and entry size.
 const NUMBERS: usize = 4;
@@ -48,33 +48,12 @@ fn store(rec: &mut [u64], after: Record)
     rec[3] = after.entry_size;
 }
 
-// A refusal in one number.
-fn pack(number: u64, path: u64, len: u64) -> u64
-    requires { ⌜ Fits (refused number path len) ⌝ }
-    ensures { λ r. ⌜ r ≡ packed (refused number path len) ⌝ }
+// A row in one number.
+fn pack(row: Row) -> u64
+    requires { ⌜ Fits (refused (row .number) (row .path) (row .len)) ⌝ }
+    ensures { λ r. ⌜ r ≡ packed (refused (row .number) (row .path) (row .len)) ⌝ }
 {
-    number + 256 * path + 65_536 * len
-}
-
-fn pack_refusal(refusal: Refusal) -> u64
-    requires { ⌜ Fits (toldRefusal refusal) ⌝ }
-    ensures { λ r. ⌜ r ≡ packed (toldRefusal refusal) ⌝ }
-{
-    match refusal {
-        Refusal::MalformedTable => return 1,
-        Refusal::MalformedListing => return 2,
-        Refusal::MalformedPath(path) => return pack(3, path, 0),
-        Refusal::LinkOrRoot(path, len) => return pack(4, path, len),
-        Refusal::NotFound(path, len) => return pack(5, path, len),
-        Refusal::Exists(path, len) => return pack(6, path, len),
-        Refusal::NotADirectory(path, len) => return pack(7, path, len),
-        Refusal::IsADirectory(path, len) => return pack(8, path, len),
-        Refusal::NotEmpty(path, len) => return pack(9, path, len),
-        Refusal::BelowSource(len) => return pack(10, 0, len),
-        Refusal::Limit => return 11,
-        Refusal::KeyTooLong => return 12,
-        Refusal::NoRoom => return 13,
-    }
+    row.number + 256 * row.path + 65_536 * row.len
 }
 
 // A query's answer in one number.
@@ -85,7 +64,7 @@ fn pack_finding(finding: Finding) -> u64
     match finding {
         Finding::Yes => return 65_536,
         Finding::No => return 0,
-        Finding::Unanswered(refusal) => return pack_refusal(refusal),
+        Finding::Unanswered(refusal) => return pack(overlay_calls::told_refusal(refusal)),
     }
 }
 
@@ -94,10 +73,7 @@ fn pack_answer(answer: Answer) -> u64
     requires { ⌜ Fits (told answer) ⌝ }
     ensures { λ r. ⌜ r ≡ packed (told answer) ⌝ }
 {
-    match answer {
-        Answer::Accepted(value) => return 65_536 * value,
-        Answer::Refused(refusal) => return pack_refusal(refusal),
-    }
+    pack(overlay_calls::told(answer))
 }
 
 fn is_accepted(answer: Answer) -> bool

@@ -1,39 +1,20 @@
--- `pack_answer` meets its contract: a value stands above the low 16 bits; a refusal is packed.
+-- `pack_answer` meets its contract: the answer's row is packed.
 -- Assumes nothing.
 use borrow.Author.Needs.{needs}
-use mathlib.Core.Path.{refl}
-use native.Mathlib.Omega.{arith}
-use Rattle.overlay_exports.proofs.Leaving.{answer-fits, answer-packed}
+use mathlib.Core.Path.{_∙_}
+use Rattle.model.specs.Answer.{told}
+use Rattle.overlay_exports.proofs.Leaving.{row-fits, row-packed}
 use Rattle.overlay_exports.proofs.pack_answer.Statement.{statement}
 use Rattle.overlay_exports.proofs.pack_answer.Tie as tie
 
-enum-known-answer : tie.Need-enum-known-answer
-enum-known-answer c = search needs
+told-requires : tie.Need-told-requires
+told-requires c κs = search needs
 
-mul-result : tie.Need-mul-result
-mul-result c =
-    let f = answer-fits _ _ (c .before .answer .given .1) (c .before .before .before .pre) in
-    omega (arith, f)
+pack-requires : tie.Need-pack-requires
+pack-requires c κs = row-fits (told (c .before .args .answer)) _ (c .told .ensures) (c .before .pre)
 
 returns : tie.Need-returns
-returns c = answer-packed _ _ (c .before .answer .given .1) _ refl
-
-enum-known-answer-2 : tie.Need-enum-known-answer-2
-enum-known-answer-2 c = search needs
-
-pack-refusal-requires : tie.Need-pack-refusal-requires
-pack-refusal-requires c κs = answer-fits _ _ (c .before .answer2 .given .1) (c .before .before .before .pre)
-
-returns-2 : tie.Need-returns-2
-returns-2 c = search needs
+returns c = c .pack .ensures ∙ row-packed (told (c .before .before .args .answer)) _ (c .before .told .ensures)
 
 pub pack-answer-spec : {M : Type 1} → statement M
-pack-answer-spec =
-    tie.close
-    (tie.spec
-    enum-known-answer
-    mul-result
-    returns
-    enum-known-answer-2
-    pack-refusal-requires
-    returns-2)
+pack-answer-spec = tie.close (tie.spec told-requires pack-requires returns)

@@ -1,10 +1,8 @@
--- `pack_finding` meets its contract: yes, no, or a refusal.
+-- `pack_finding` meets its contract: yes, no, or a refusal's row, packed.
 -- Assumes nothing.
 use borrow.Author.Needs.{needs}
-use mathlib.Core.Path.{subst}
-use Rattle.model.specs.Answer.{toldFinding}
-use Rattle.model.specs.declared.Finding.{Finding}
-use Rattle.overlay_exports.specs.Packed.{Fits}
+use mathlib.Core.Path.{_∙_}
+use Rattle.overlay_exports.proofs.Leaving.{finding-fits, finding-packed}
 use Rattle.overlay_exports.proofs.pack_finding.Statement.{statement}
 use Rattle.overlay_exports.proofs.pack_finding.Tie as tie
 
@@ -23,11 +21,14 @@ returns-2 c = search needs
 enum-known-finding : tie.Need-enum-known-finding
 enum-known-finding c = search needs
 
-pack-refusal-requires : tie.Need-pack-refusal-requires
-pack-refusal-requires c κs = subst (λ (f : Finding). Fits (toldFinding f)) (c .before .finding .given .1) (c .before .before .before .pre)
+told-refusal-requires : tie.Need-told-refusal-requires
+told-refusal-requires c κs = search needs
+
+pack-requires : tie.Need-pack-requires
+pack-requires c κs = finding-fits _ _ (c .before .before .finding .given .1) _ (c .told-refusal .ensures) (c .before .before .before .before .pre)
 
 returns-3 : tie.Need-returns-3
-returns-3 c = search needs
+returns-3 c = c .pack .ensures ∙ finding-packed _ _ (c .before .before .before .finding .given .1) _ (c .before .told-refusal .ensures)
 
 pub pack-finding-spec : {M : Type 1} → statement M
 pack-finding-spec =
@@ -38,5 +39,6 @@ pack-finding-spec =
     enum-told-2
     returns-2
     enum-known-finding
-    pack-refusal-requires
+    told-refusal-requires
+    pack-requires
     returns-3)
