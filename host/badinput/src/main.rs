@@ -1,0 +1,85 @@
+//! Puts bad input to every call: tables, records, listings and paths with each byte changed in turn, then at random.
+//!
+//! Every buffer has its exact length and touches a page that may not be touched; listing, path and data may not be written
+//! either. After each call: the number is 0 to 13; refused, table, record and work buffer are as they were; accepted, the work
+//! buffer is all 0 and the table agrees with its record. It prints how many calls gave each number.
+//!
+//! `badinput` makes over 100,000 calls, `badinput --long` over two million; `--seed N` moves them.
+mod guarded;
+mod states;
+
+use differential::{random::Random, words::Words};
+use guarded::{Guarded, Side};
+use overlay::raw;
+use states::{Input, Op};
+
+const SHORT: u64 = 100_000;
+const LONG: u64 = 2_000_000;
+
+/// Memory for each thing that a call is lent, used again by the next call.
+struct Memory {
+    listing: Guarded,
+    table: Guarded,
+    record: Guarded,
+    work: Guarded,
+    paths: [Guarded; 2],
+    data: Guarded,
+}
+
+impl Memory {
+    fn new() -> Memory {
+        let new = || Guarded::new(8192);
+        Memory { listing: new(), table: new(), record: new(), work: new(), paths: [new(), new()], data: new() }
+    }
+
+    /// Makes the call that the input asks for, and sees to what it answers and leaves. The answer's number.
+    fn call(&mut self, input: &Input, random: &mut Random) -> u8 {
+        let mut side = || if random.below(4) == 0 { Side::Start } else { Side::End };
+        let listing = self.listing.seal(&input.listing, side());
+        let [first, second] = &mut self.paths;
+        let paths = [first.seal(&input.paths[0], side()), second.seal(&input.paths[1], side())];
+        let data = self.data.seal(&input.data, side());
+        let table = self.table.hold(&input.table, side());
+        let record = self.record.hold(&input.record, side());
+        let work = self.work.hold(&input.work, side());
+        let mut lent = raw::Lent { table, record, work };
+        let answer = input.call(listing, &mut lent, paths, data);
+        let number = answer as u8;
+        assert!(number <= 13, "the number {number}: {input:?}");
+        if number != 0 || input.op.is_query() {
+            assert!(lent.table == input.table, "the table changed: {input:?}");
+            assert!(lent.record == input.record, "the record changed: {input:?}");
+            assert!(lent.work == input.work, "the work buffer changed: {input:?}");
+        } else {
+            assert!(raw::check_table(lent.table, lent.record), "no table: {input:?}");
+            assert!(input.op == Op::Open || lent.work.iter().all(|byte| *byte == 0), "work is left: {input:?}");
+        }
+        if number != 0 {
+            let path = answer >> 8 & 0xff;
+            assert!(path <= 1 && answer >> 16 <= 512, "path {path}, length {}: {input:?}", answer >> 16);
+        }
+        number
+    }
+}
+
+fn main() {
+    let words = Words::given();
+    let (seed, calls) = (words.seed(), if words.long() { LONG } else { SHORT });
+    let (mut memory, mut random) = (Memory::new(), Random::new(seed));
+    let (mut counts, mut by_byte, mut at_random) = ([0u64; 14], 0u64, 0u64);
+    while by_byte + at_random < calls {
+        let base = states::built(&mut random);
+        for input in states::byte_by_byte(&base, &mut random) {
+            counts[memory.call(&input, &mut random) as usize] += 1;
+            by_byte += 1;
+            let input = states::at_random(&base, &mut random);
+            counts[memory.call(&input, &mut random) as usize] += 1;
+            at_random += 1;
+        }
+    }
+    println!("bad input: seed {seed}, {} calls, {by_byte} with one change, {at_random} at random", by_byte + at_random);
+    for (number, count) in counts.iter().enumerate() {
+        println!("  {number:2}: {count}");
+    }
+    println!("no crash; no number above 13; nothing changed where a call was refused");
+}

@@ -1,0 +1,297 @@
+//! A plain model written from document 01 alone: a map of entries over a map of listed paths, every check in its order.
+//! A third opinion beside the original and the port, and the only one beside the port on 3, 12 and 13.
+
+use std::{collections::BTreeMap, rc::Rc};
+
+use crate::{
+    listing::{Kind, Tree},
+    side::{Answer, Call, Entries, Entry, Op, Side, charge, used},
+};
+
+#[derive(Clone)]
+pub struct Model {
+    listing: Rc<Tree>,
+    entries: Entries,
+    entry_size: u64,
+    room: usize,
+}
+
+type Checked<T = ()> = Result<T, Answer>;
+
+/// Proper ancestors from the top, the root left out.
+fn ancestors(path: &str) -> impl Iterator<Item = &str> {
+    path.match_indices('/').map(|(at, _)| &path[..at])
+}
+
+/// Whether a path has document 01's form.
+pub fn in_form(path: &str) -> bool {
+    let part = |part: &str| {
+        (1..=255).contains(&part.len()) && part != "." && part != ".." && !part.contains(['\0', '\\', ':'])
+    };
+    path.is_empty() || short(path) && path.split('/').all(part)
+}
+
+/// Whether a path has at most 512 bytes and 32 components.
+fn short(path: &str) -> bool {
+    path.len() <= 512 && path.split('/').count() <= 32
+}
+
+impl Model {
+    pub fn new(listing: &Rc<Tree>, entry_size: u64, room: usize) -> Self {
+        Self { listing: Rc::clone(listing), entries: BTreeMap::new(), entry_size, room }
+    }
+
+    pub fn listing(&self) -> &Tree {
+        &self.listing
+    }
+
+    pub fn room(&self) -> usize {
+        self.room
+    }
+
+    fn listed(&self, path: &str) -> Option<Kind> {
+        if path.is_empty() { Some(Kind::Directory) } else { self.listing.get(path).map(|node| node.kind) }
+    }
+
+    /// What is visible at a path.
+    pub fn shown(&self, path: &str) -> Option<Kind> {
+        match self.entries.get(path).map(|entry| entry.kind) {
+            Some(1 | 2) => Some(Kind::File),
+            Some(3) => Some(Kind::Directory),
+            Some(_) => None,
+            None => self.listed(path),
+        }
+    }
+
+    fn covered(&self, path: &str) -> bool {
+        self.entries.contains_key(path)
+    }
+
+    /// Whether something is visible right below a path.
+    fn has_child(&self, path: &str) -> bool {
+        let child = |key: &String| key.rsplit_once('/').map_or("", |(parent, _)| parent) == path;
+        let mut below = self.entries.keys().chain(self.listing.keys()).filter(|key| child(key));
+        below.any(|key| self.shown(key).is_some())
+    }
+
+    fn parents(&self, path: &str, which: u8) -> Checked {
+        for parent in ancestors(path) {
+            match (self.entries.get(parent).map(|entry| entry.kind), self.listed(parent)) {
+                (Some(3), _) | (None, Some(Kind::Directory)) => {}
+                (None, Some(Kind::Link)) => return Err(Answer::named(4, which, path)),
+                _ => return Err(Answer::named(5, which, path)),
+            }
+        }
+        Ok(())
+    }
+
+    /// Puts entries in place, or refuses by 11, 12 or 13.
+    fn put(&mut self, changes: Vec<(String, Entry)>, limit: u64) -> Checked {
+        let mut after = self.entries.clone();
+        let too_long = changes.iter().any(|(key, _)| !short(key));
+        after.extend(changes);
+        if charge(&after, self.entry_size) > limit {
+            return Err(Answer::refused(11));
+        } else if too_long {
+            return Err(Answer::refused(12));
+        } else if used(&after) > self.room {
+            return Err(Answer::refused(13));
+        }
+        self.entries = after;
+        Ok(())
+    }
+
+    fn write(&mut self, path: &str, data: &[u8], mtime: u64, limit: u64) -> Checked {
+        self.parents(path, 0)?;
+        match self.shown(path) {
+            Some(Kind::Directory) => return Err(Answer::named(8, 0, path)),
+            Some(Kind::Link) => return Err(Answer::named(4, 0, path)),
+            _ => {}
+        }
+        self.put(vec![(path.to_owned(), Entry::own(mtime, data.to_vec()))], limit)
+    }
+
+    fn mkdir(&mut self, path: &str, parents: bool, exist_ok: bool, mtime: u64, limit: u64) -> Checked {
+        match self.shown(path) {
+            Some(Kind::Directory) if exist_ok => return Ok(()),
+            Some(Kind::Directory | Kind::File) => return Err(Answer::named(6, 0, path)),
+            Some(Kind::Link) => return Err(Answer::named(4, 0, path)),
+            None => {}
+        }
+        let mut made = Vec::new();
+        if parents {
+            for parent in ancestors(path) {
+                match self.shown(parent) {
+                    Some(Kind::Directory) => {}
+                    Some(Kind::File) => return Err(Answer::named(7, 0, parent)),
+                    Some(Kind::Link) => return Err(Answer::named(4, 0, path)),
+                    None => made.push(parent.to_owned()),
+                }
+            }
+        } else {
+            self.parents(path, 0)?;
+        }
+        made.push(path.to_owned());
+        self.put(made.into_iter().map(|key| (key, Entry::directory(mtime))).collect(), limit)
+    }
+
+    fn unlink(&mut self, path: &str, limit: u64) -> Checked {
+        if !self.covered(path) {
+            self.parents(path, 0)?;
+        }
+        match self.shown(path) {
+            Some(Kind::File) => self.put(vec![(path.to_owned(), Entry::deleted())], limit),
+            Some(Kind::Link) => Err(Answer::named(4, 0, path)),
+            Some(Kind::Directory) => Err(Answer::named(8, 0, path)),
+            None => Err(Answer::named(5, 0, path)),
+        }
+    }
+
+    fn rmdir(&mut self, path: &str, limit: u64) -> Checked {
+        if path.is_empty() {
+            return Err(Answer::named(4, 0, path));
+        } else if !self.covered(path) {
+            self.parents(path, 0)?;
+        }
+        match self.shown(path) {
+            Some(Kind::Link) => Err(Answer::named(4, 0, path)),
+            None => Err(Answer::named(5, 0, path)),
+            Some(Kind::File) => Err(Answer::named(7, 0, path)),
+            Some(Kind::Directory) if self.has_child(path) => Err(Answer::named(9, 0, path)),
+            Some(Kind::Directory) => self.put(vec![(path.to_owned(), Entry::deleted())], limit),
+        }
+    }
+
+    /// The checks of rename up to the absent source, with what stands at the source.
+    fn rename_checks(&self, from: &str, to: &str) -> Checked<Entry> {
+        for (which, path) in [(0, from), (1, to)] {
+            if path.is_empty() {
+                return Err(Answer::named(4, which, path));
+            }
+        }
+        self.parents(to, 1)?;
+        if !self.covered(to) && self.listed(to) == Some(Kind::Link) {
+            return Err(Answer::named(4, 1, to));
+        }
+        self.parents(from, 0)?;
+        if self.entries.get(from).is_some_and(|entry| entry.kind == 4) {
+            return Err(Answer::named(5, 0, from));
+        }
+        let source = self.shown(from);
+        match (source, self.shown(to)) {
+            (Some(Kind::Link), _) => return Err(Answer::named(4, 0, from)),
+            (Some(Kind::Directory), Some(Kind::File)) => return Err(Answer::named(7, 1, to)),
+            (Some(Kind::Directory), Some(_)) if self.has_child(to) => return Err(Answer::named(9, 1, to)),
+            (None | Some(Kind::File), Some(Kind::Directory)) => return Err(Answer::named(8, 1, to)),
+            _ => {}
+        }
+        if source == Some(Kind::Directory) && to.strip_prefix(from).is_some_and(|rest| rest.starts_with('/')) {
+            return Err(Answer::named(10, 0, from));
+        }
+        let entry = self.entries.get(from).cloned().or_else(|| self.carried(from));
+        entry.ok_or(Answer::named(5, 0, from))
+    }
+
+    /// What a listed path becomes where it is moved.
+    fn carried(&self, path: &str) -> Option<Entry> {
+        let node = self.listing.get(path)?;
+        Some(match node.kind {
+            Kind::File => Entry::reference(node.mtime, node.size, path.as_bytes().to_vec()),
+            _ => Entry::directory(node.mtime),
+        })
+    }
+
+    /// The walk over what is listed below the source and has no entry.
+    fn walk(&self, from: &str, budget: u64) -> Checked<Vec<String>> {
+        let mut found = Vec::new();
+        let mut waiting = vec![from];
+        let mut sum = 2 * from.len() as u64 + 1;
+        while let Some(directory) = waiting.pop() {
+            let below = format!("{directory}/");
+            let end = format!("{directory}0");
+            for (path, node) in self.listing.range(below.clone()..end) {
+                if path[below.len()..].contains('/') || self.covered(path) {
+                    continue;
+                }
+                sum += match node.kind {
+                    Kind::Link => return Err(Answer::named(4, 0, from)),
+                    Kind::File => 2 * path.len() as u64 + 512,
+                    Kind::Directory => 3 * path.len() as u64 + 512,
+                };
+                if sum > budget {
+                    return Err(Answer::refused(11));
+                }
+                found.push(path.clone());
+                if node.kind == Kind::Directory {
+                    waiting.push(path);
+                }
+            }
+        }
+        Ok(found)
+    }
+
+    fn rename(&mut self, from: &str, to: &str, limit: u64) -> Checked {
+        let source = self.rename_checks(from, to)?;
+        let moved = |key: &str| format!("{to}{}", &key[from.len()..]);
+        let mut moves = vec![(from.to_owned(), source.clone())];
+        if source.kind == 3 {
+            let below = self.entries.range(format!("{from}/")..format!("{from}0"));
+            moves.extend(below.map(|(key, entry)| (key.clone(), entry.clone())));
+            let cost = |(key, _): &(String, Entry)| (2 * key.len() + moved(key).len() + 256) as u64;
+            let plan: u64 = moves.iter().skip(1).map(cost).sum();
+            let before = charge(&self.entries, self.entry_size);
+            let rest = limit.checked_sub(before).and_then(|rest| rest.checked_sub(plan));
+            let budget = rest.ok_or(Answer::refused(11))?;
+            if self.listed(from) == Some(Kind::Directory) {
+                for path in self.walk(from, budget)? {
+                    let entry = self.carried(&path).expect("listed");
+                    moves.push((path, entry));
+                }
+            }
+        }
+        let left = moves.iter().map(|(key, _)| (key.clone(), Entry::deleted()));
+        let come = moves.iter().map(|(key, entry)| (moved(key), entry.clone()));
+        self.put(left.chain(come).collect(), limit)
+    }
+}
+
+impl Side for Model {
+    fn call(&mut self, call: &Call, mtime: u64) -> Answer {
+        let (path, limit) = (call.path.as_str(), call.limit);
+        if !in_form(path) {
+            return Answer { number: 3, path: 0, value: 0 };
+        }
+        let done = match &call.op {
+            Op::Exists => return Answer::accepted(u64::from(!matches!(self.shown(path), None | Some(Kind::Link)))),
+            Op::IsFile => return Answer::accepted(u64::from(self.shown(path) == Some(Kind::File))),
+            Op::IsDir => return Answer::accepted(u64::from(self.shown(path) == Some(Kind::Directory))),
+            Op::Write { data } => self.write(path, data, mtime, limit),
+            Op::Mkdir { parents, exist_ok } => self.mkdir(path, *parents, *exist_ok, mtime, limit),
+            Op::Unlink => self.unlink(path, limit),
+            Op::Rmdir => self.rmdir(path, limit),
+            Op::Rename { to } if !in_form(to) => Err(Answer { number: 3, path: 1, value: 0 }),
+            Op::Rename { to } => self.rename(path, to, limit),
+        };
+        match (done, &call.op) {
+            (Err(refusal), _) => refusal,
+            (Ok(()), Op::Write { data }) => Answer::accepted(data.len() as u64),
+            (Ok(()), _) => Answer::accepted(0),
+        }
+    }
+
+    fn entries(&self) -> Entries {
+        self.entries.clone()
+    }
+
+    fn charge(&self) -> u64 {
+        charge(&self.entries, self.entry_size)
+    }
+
+    fn copy(&self) -> Self {
+        self.clone()
+    }
+
+    fn load(&mut self, entries: &Entries) {
+        self.entries.clone_from(entries);
+    }
+}

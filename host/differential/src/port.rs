@@ -1,0 +1,112 @@
+//! The port as one side of a comparison: the calls of the library on plain slices.
+//! Every call also checks what the port owes beside its answer: a refused call or a query leaves table, record and work
+//! buffer as they were; an accepted one leaves the work buffer all 0, and a table that agrees with its record.
+
+use std::rc::Rc;
+
+use overlay::{EntryKind, OverlayRef, Record, raw};
+
+use crate::side::{Answer, Call, Entries, Entry, Op, Side, charge, encoded, used};
+
+/// Given instead of the answer where a refused call or a query changed the table or the record.
+const CHANGED: u8 = 251;
+/// Given instead of the answer where the work buffer is not as it has to be left.
+const WORK: u8 = 252;
+
+#[derive(Clone)]
+pub struct Port {
+    listing: Rc<Vec<u8>>,
+    table: Vec<u8>,
+    record: [u64; 4],
+    work: Vec<u8>,
+}
+
+fn answer(packed: u64) -> Answer {
+    Answer { number: packed as u8, path: (packed >> 8) as u8, value: packed >> 16 }
+}
+
+/// The record of a table with these entries.
+fn record(entries: &Entries, entry_size: u64) -> [u64; 4] {
+    [used(entries) as u64, entries.len() as u64, charge(entries, entry_size), entry_size]
+}
+
+impl Port {
+    /// A table opened over a buffer of `room` bytes that held something else.
+    pub fn new(listing: &Rc<Vec<u8>>, entry_size: u64, room: usize) -> Self {
+        let (mut table, mut record) = (vec![0xaa; room], [9; 4]);
+        assert_eq!(raw::open_table(&mut table, &mut record, entry_size), 0, "opening");
+        assert_eq!(record, [0, 0, 0, entry_size], "the record after opening");
+        assert!(table.iter().all(|byte| *byte == 0), "the table after opening");
+        Self { listing: Rc::clone(listing), table, record, work: vec![0; room] }
+    }
+
+    /// The call alone, without a look at what it left.
+    pub fn call_only(&mut self, call: &Call, mtime: u64) -> Answer {
+        let Self { listing, table, record, work } = self;
+        let (path, limit) = (call.path.as_bytes(), call.limit);
+        let mut lent = raw::Lent { table, record, work };
+        answer(match &call.op {
+            Op::Exists => raw::exists(listing, lent.table, lent.record, path),
+            Op::IsFile => raw::is_file(listing, lent.table, lent.record, path),
+            Op::IsDir => raw::is_dir(listing, lent.table, lent.record, path),
+            Op::Write { data } => raw::write_bytes(listing, &mut lent, path, data, mtime, limit),
+            Op::Mkdir { parents, exist_ok } => raw::mkdir(listing, &mut lent, path, *parents, *exist_ok, mtime, limit),
+            Op::Unlink => raw::unlink(listing, &mut lent, path, limit),
+            Op::Rmdir => raw::rmdir(listing, &mut lent, path, limit),
+            Op::Rename { to } => raw::rename(listing, &mut lent, path, to.as_bytes(), limit),
+        })
+    }
+}
+
+impl Side for Port {
+    fn call(&mut self, call: &Call, mtime: u64) -> Answer {
+        self.work.fill(0x77);
+        let before = (self.table.clone(), self.record);
+        let answer = self.call_only(call, mtime);
+        let quiet = answer.number != 0 || matches!(call.op, Op::Exists | Op::IsFile | Op::IsDir);
+        if quiet && (before.0 != self.table || before.1 != self.record) {
+            return Answer::refused(CHANGED);
+        }
+        let left = if quiet { 0x77 } else { 0 };
+        if self.work.iter().any(|byte| *byte != left) {
+            return Answer::refused(WORK);
+        }
+        answer
+    }
+
+    /// The entries; table and record must be what they make.
+    fn entries(&self) -> Entries {
+        let plain = |entry: overlay::Entry| {
+            let value = match entry.kind {
+                EntryKind::Own { mtime, content } => Entry::own(mtime.to_bits(), content.to_vec()),
+                EntryKind::Reference { mtime, size, listed } => {
+                    Entry::reference(mtime.to_bits(), size as i64, listed.to_vec())
+                }
+                EntryKind::Directory { mtime } => Entry::directory(mtime.to_bits()),
+                EntryKind::Deleted => Entry::deleted(),
+            };
+            (entry.path_str().expect("a key in UTF-8").to_owned(), value)
+        };
+        let entries: Entries = OverlayRef::new(&self.table, Record::from(self.record)).entries().map(plain).collect();
+        let (used, rest) = self.table.split_at(self.record[0] as usize);
+        assert_eq!(used, encoded(&entries), "the bytes of the entries");
+        assert!(rest.iter().all(|byte| *byte == 0), "bytes behind the entries");
+        assert_eq!(self.record, record(&entries, self.record[3]), "the record");
+        entries
+    }
+
+    fn charge(&self) -> u64 {
+        self.record[2]
+    }
+
+    fn copy(&self) -> Self {
+        self.clone()
+    }
+
+    fn load(&mut self, entries: &Entries) {
+        let mut table = encoded(entries);
+        self.record = record(entries, self.record[3]);
+        table.resize(self.table.len(), 0);
+        self.table = table;
+    }
+}

@@ -1,0 +1,306 @@
+//! Exhaustive and random runs, each call tried on both sides of the limit that decides it.
+
+use std::{
+    collections::{BTreeMap, HashSet, VecDeque},
+    rc::Rc,
+    time::Instant,
+};
+
+use differential::{
+    listing::{Tree, bytes, listing_l, tree},
+    lists::{every_call, long_pool, long_tree, malformed, pool, queries, random_call, random_tree},
+    model::Model,
+    port::Port,
+    random::Random,
+    side::{Answer, Call, Side},
+    world::{Difference, Setup, World, reduce, run as run_list},
+};
+
+/// What one group of runs compared.
+#[derive(Default)]
+pub struct Count {
+    pub lists: u64,
+    pub calls: u64,
+    pub queries: u64,
+    pub thresholds: u64,
+    pub numbers: BTreeMap<u8, u64>,
+    pub differences: u64,
+}
+
+impl Count {
+    fn add(&mut self, answer: Answer) {
+        self.calls += 1;
+        *self.numbers.entry(answer.number).or_default() += 1;
+    }
+
+    fn merge(&mut self, other: &Count) {
+        self.lists += other.lists;
+        self.calls += other.calls;
+        self.queries += other.queries;
+        self.thresholds += other.thresholds;
+        self.differences += other.differences;
+        for (number, count) in &other.numbers {
+            *self.numbers.entry(*number).or_default() += count;
+        }
+    }
+
+    fn row(&self, name: &str, seconds: f64) {
+        print!("| {name} | {} | {} | {} | {} |", self.lists, self.calls, self.queries, self.thresholds);
+        for number in [0, 3, 4, 5, 6, 7, 8, 9, 10, 11, 12, 13] {
+            print!(" {} |", self.numbers.get(&number).unwrap_or(&0));
+        }
+        println!(" {} | {seconds:.1} |", self.differences);
+    }
+}
+
+/// A world with the calls that led to it.
+struct Place {
+    world: World,
+    calls: Vec<Call>,
+}
+
+impl Place {
+    fn new(setup: &Setup) -> Self {
+        Self { world: World::new(setup), calls: Vec::new() }
+    }
+
+    fn copy(&self) -> Self {
+        Self { world: self.world.copy(), calls: self.calls.clone() }
+    }
+
+    fn call(&mut self, call: &Call, count: &mut Count) -> Result<Answer, Difference> {
+        match self.world.call(call) {
+            Ok(answer) => {
+                count.add(answer);
+                if answer.number == 0 {
+                    self.calls.push(call.clone());
+                }
+                Ok(answer)
+            }
+            Err(what) => {
+                let calls = self.calls.iter().chain([call]).cloned().collect();
+                Err(Difference { what, listing: String::new(), calls })
+            }
+        }
+    }
+
+    /// The call at each of the limits around the one that decides it; the place stays as it is.
+    fn probe(&mut self, call: &Call, more: &[u64], count: &mut Count) -> Result<Option<u64>, Difference> {
+        let Some(threshold) = self.world.threshold(call) else {
+            // No limit decides it: the answer is the same at limit 0.
+            self.copy().call(&call.at(0), count)?;
+            return Ok(None);
+        };
+        count.thresholds += 1;
+        self.call(&call.at(threshold - 1), count)?;
+        for limit in more.iter().chain(&[threshold]) {
+            let mut other = self.copy();
+            let answer = other.call(&call.at(*limit), count)?;
+            if (answer.number == 11) != (*limit < threshold) {
+                let what = format!("{call}: {answer} at limit {limit}, though {threshold} decides");
+                return Err(Difference { what, listing: String::new(), calls: other.calls });
+            }
+        }
+        Ok(Some(threshold))
+    }
+
+    fn ask(&mut self, path: &str, count: &mut Count) -> Result<(), Difference> {
+        for query in queries(path) {
+            self.world.call(&query).map_err(|what| {
+                let calls = self.calls.iter().chain([&query]).cloned().collect();
+                Difference { what, listing: String::new(), calls }
+            })?;
+            count.queries += 1;
+        }
+        Ok(())
+    }
+}
+
+/// The table without its mtimes, which no answer hangs on: what tells two places apart.
+fn shape(world: &World) -> String {
+    let entries = world.original.entries();
+    let word = |(key, entry): (&String, &differential::side::Entry)| {
+        format!("{key}\0{}\0{}\0{:?}\n", entry.kind, entry.size, entry.body)
+    };
+    entries.iter().map(word).collect()
+}
+
+/// Every call from every table that such calls reach (tables equal but for mtimes taken once), at most `most` tables,
+/// those that fewer calls reach first. Says whether those were all.
+fn exhaustive(setup: &Setup, paths: &[&str], most: usize, count: &mut Count) -> Result<bool, Difference> {
+    let calls = every_call(paths);
+    let mut seen = HashSet::from([String::new()]);
+    let mut places = VecDeque::from([Place::new(setup)]);
+    let mut all = true;
+    while let Some(mut place) = places.pop_front() {
+        count.lists += 1;
+        for path in paths {
+            place.ask(path, count)?;
+        }
+        for call in &calls {
+            place.probe(call, &[], count)?;
+            let mut after = place.copy();
+            if after.call(call, count)?.number == 0 {
+                let shape = shape(&after.world);
+                all &= seen.len() < most || seen.contains(&shape);
+                if seen.len() < most && seen.insert(shape) {
+                    places.push_back(after);
+                }
+            }
+        }
+    }
+    Ok(all)
+}
+
+/// One random list, each call probed and then done at a limit that lets it through or at any.
+fn random_list(
+    setup: &Setup,
+    paths: &[String],
+    length: usize,
+    random: &mut Random,
+    count: &mut Count,
+) -> Result<(), Difference> {
+    let mut place = Place::new(setup);
+    count.lists += 1;
+    for _ in 0..length {
+        let call = random_call(random, paths);
+        let before = place.world.model.charge();
+        let any = random.below(3000) as u64;
+        let more = [before.saturating_sub(1), before, before + 1, any];
+        let limit = match place.probe(&call, &more, count)? {
+            Some(threshold) => [threshold, threshold + 1, u64::MAX][random.below(3)],
+            None => u64::MAX,
+        };
+        place.call(&call.at(limit), count)?;
+        for path in [&call.path, random.pick(paths)] {
+            place.ask(path, count)?;
+        }
+    }
+    Ok(())
+}
+
+/// The port beside the model alone: entry sizes that the original cannot have, and paths out of form.
+fn other_entry_sizes(lists: u64, seed: u64, count: &mut Count) -> Result<(), Difference> {
+    let mut random = Random::new(seed);
+    for n in 0..lists {
+        let size = [0, 1, 4096][n as usize % 3];
+        let tree = Rc::new(random_tree(&mut random));
+        let mut paths = pool(&tree);
+        paths.extend(malformed());
+        let mut model = Model::new(&tree, size, 8192);
+        let mut port = Port::new(&Rc::new(bytes(&tree)), size, 8192);
+        count.lists += 1;
+        let mut calls = Vec::new();
+        for _ in 0..12 {
+            let limit = if random.below(2) == 0 { u64::MAX } else { random.below(20_000) as u64 };
+            let call = random_call(&mut random, &paths).at(limit);
+            let mtime = random.number();
+            calls.push(call.clone());
+            let (expected, answer) = (model.call(&call, mtime), port.call(&call, mtime));
+            if expected != answer || model.entries() != port.entries() || model.charge() != port.charge() {
+                let what = format!("{call}, E {size}: the model gives {expected}, the port {answer}");
+                return Err(Difference { what, listing: differential::listing::text(&tree), calls });
+            }
+            count.add(answer);
+        }
+    }
+    Ok(())
+}
+
+/// Runs one group and prints its row; a difference is reduced and printed. What the work says is added to the name.
+fn group(all: &mut Count, name: &str, work: impl FnOnce(&mut Count) -> Result<&'static str, (Setup, Difference)>) {
+    let (start, mut count) = (Instant::now(), Count::default());
+    let told = work(&mut count).unwrap_or_else(|(setup, difference)| {
+        count.differences += 1;
+        // The list from an empty table, which a place reached by copies stands for.
+        let whole = run_list(&setup, &difference.calls).err().unwrap_or(difference);
+        let least = reduce(&setup, whole);
+        println!("DIFFERENCE in {name}: {}", least.what);
+        println!("  listing: {}", least.listing);
+        for call in &least.calls {
+            println!("  {call}");
+        }
+        ""
+    });
+    count.row(&format!("{name}{told}"), start.elapsed().as_secs_f64());
+    all.merge(&count);
+}
+
+/// The listings of the exhaustive runs, each with the paths that its calls name.
+const SMALL: [(&str, &[&str]); 9] = [
+    ("", &["", "a", "a/b", "a/b/c", "b"]),
+    ("z", &["z", "z/x", "z/x/y", "b", "b/x"]),
+    ("l@", &["l", "l/x", "b", "b/x"]),
+    ("a/ a/b/ a/b/f", &["a", "a/b", "a/b/f", "c", "c/b", "c/b/f"]),
+    ("a/ a/b/ a/b/l@", &["a", "a/b", "a/b/l", "a/n", "c"]),
+    ("a/ a-b a/f a0", &["a", "a-b", "a/f", "a0", "a0/f", "c"]),
+    ("a/ b/ b/f", &["a", "a/f", "b", "b/f", "b/g"]),
+    ("a/ a/b/ a/b/l@ a/c/ a/c/f", &["a", "a/b", "a/c", "a/c/f", "e"]),
+    ("a/ a/f b/ b/f c/ c/a/ c/a/f", &["a", "a/f", "b", "b/f", "c", "c/a"]),
+];
+
+/// Every call over the small listings.
+fn exhaustive_groups(all: &mut Count, most: usize) {
+    let l_paths: &[&str] = &["", "a", "a/f", "b", "b/f", "l", "z", "z/n"];
+    let small = SMALL.iter().map(|(text, paths)| (format!("`{text}`"), tree(text), *paths));
+    for (name, tree, paths) in [("L".to_owned(), listing_l(), l_paths)].into_iter().chain(small) {
+        let setup = Setup::new(tree, 2048);
+        group(all, &format!("every call, {name}"), |count| match exhaustive(&setup, paths, most, count) {
+            Ok(all) => Ok(if all { ", all tables" } else { "" }),
+            Err(found) => Err((setup, found)),
+        });
+    }
+}
+
+/// Random lists of `length` calls, each over its own setup.
+fn random_group(
+    all: &mut Count,
+    name: &str,
+    (lists, length, seed): (u64, usize, u64),
+    make: impl Fn(&mut Random) -> (Setup, Vec<String>),
+) {
+    group(all, name, |count| {
+        let mut random = Random::new(seed);
+        for _ in 0..lists {
+            let (setup, paths) = make(&mut random);
+            random_list(&setup, &paths, length, &mut random, count).map_err(|found| (setup, found))?;
+        }
+        Ok("")
+    });
+}
+
+fn random_groups(all: &mut Count, share: u64, seed: u64) {
+    let over = |tree: Tree, mount, room| {
+        let paths = pool(&tree);
+        (Setup { tree, mount, room }, paths)
+    };
+    for (n, mount) in ["/mnt", "/a", "/m/a-b"].into_iter().enumerate() {
+        let name = format!("random listings, mount `{mount}`");
+        random_group(all, &name, (400 * share, 12, seed + n as u64), |random| over(random_tree(random), mount, 4096));
+    }
+    random_group(all, "random lists, L", (100 * share, 40, seed + 10), |_| over(listing_l(), "/mnt", 8192));
+    random_group(all, "random lists, long paths", (60 * share, 12, seed + 11), |_| {
+        (Setup::new(long_tree(), 1 << 15), long_pool())
+    });
+    random_group(all, "random listings, short buffers", (200 * share, 12, seed + 12), |random| {
+        over(random_tree(random), "/mnt", 20 + random.below(300))
+    });
+}
+
+pub fn run(long: bool, seed: u64) -> u64 {
+    let (most, share) = if long { (8000, 40) } else { (250, 1) };
+    let numbers = "0 | 3 | 4 | 5 | 6 | 7 | 8 | 9 | 10 | 11 | 12 | 13";
+    println!();
+    println!("| runs | lists or tables | calls | queries | limits found | {numbers} | differences | s |");
+    println!("|{}", "---|".repeat(19));
+    let (start, mut all) = (Instant::now(), Count::default());
+    exhaustive_groups(&mut all, most);
+    random_groups(&mut all, share, seed * 1000);
+    group(&mut all, "port and model: E 0, 1 and 4096, paths out of form", |count| {
+        let done = other_entry_sizes(1000 * share, seed * 1000 + 13, count);
+        done.map(|()| "").map_err(|found| (Setup::new(Tree::new(), 0), found))
+    });
+    all.row("all", start.elapsed().as_secs_f64());
+    println!();
+    all.differences
+}

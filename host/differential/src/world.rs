@@ -1,0 +1,177 @@
+//! The sides together: one call put to each of them, and what they left compared.
+//! The original answers first, since the port takes the mtime that it stored.
+
+use std::rc::Rc;
+
+use crate::{
+    Manner,
+    listing::{Tree, bytes, text},
+    model::Model,
+    monty_fs::{Original, entry_size},
+    port::Port,
+    side::{Answer, Call, Entries, Op, Side, charge},
+};
+
+/// Over what a list of calls runs.
+#[derive(Clone)]
+pub struct Setup {
+    pub tree: Tree,
+    pub mount: &'static str,
+    pub room: usize,
+}
+
+impl Setup {
+    pub fn new(tree: Tree, room: usize) -> Self {
+        Self { tree, mount: "/mnt", room }
+    }
+}
+
+/// Where two sides part.
+#[derive(Debug, Clone)]
+pub struct Difference {
+    pub what: String,
+    pub listing: String,
+    pub calls: Vec<Call>,
+}
+
+pub struct World {
+    pub original: Original,
+    pub model: Model,
+    pub port: Port,
+}
+
+/// The mtime passed to a call that stores none.
+const UNUSED_MTIME: u64 = 7;
+
+impl World {
+    pub fn new(setup: &Setup) -> Self {
+        let listing = Rc::new(bytes(&setup.tree));
+        Self {
+            original: Original::new(&listing, setup.mount, Manner::default()),
+            model: Model::new(&Rc::new(setup.tree.clone()), entry_size(), setup.room),
+            port: Port::new(&listing, entry_size(), setup.room),
+        }
+    }
+
+    pub fn copy(&self) -> Self {
+        Self { original: self.original.copy(), model: self.model.copy(), port: self.port.clone() }
+    }
+
+    /// Puts one call to all sides; what parts is told in words. Where the cause of 12 or 13 holds, the original is
+    /// left out.
+    pub fn call(&mut self, call: &Call) -> Result<Answer, String> {
+        // The cause of 12 and 13 does not hang on the mtime, so the model is asked apart first.
+        let mut tried = self.model.copy();
+        let foretold = tried.call(call, UNUSED_MTIME);
+        if matches!(foretold.number, 3 | 12 | 13) {
+            return self.others(call, UNUSED_MTIME, foretold);
+        }
+        let answer = self.original.call(call, UNUSED_MTIME);
+        let entries = self.original.entries();
+        let stored = call.takes_mtime() && answer.number == 0;
+        let mtime = entries.get(&call.path).filter(|_| stored).map_or(UNUSED_MTIME, |entry| entry.mtime);
+        let kept = self.original.charge();
+        if kept != charge(&entries, entry_size()) {
+            return Err(format!("the original's charge {kept} is not the sum {}", charge(&entries, entry_size())));
+        }
+        let answer = self.others(call, mtime, answer)?;
+        self.same("model", &self.model, &entries)?;
+        self.same("port", &self.port, &entries)?;
+        Ok(answer)
+    }
+
+    fn others(&mut self, call: &Call, mtime: u64, answer: Answer) -> Result<Answer, String> {
+        let model = self.model.call(call, mtime);
+        if model != answer {
+            return Err(format!("{call}: the original gives {answer}, the model {model}"));
+        }
+        let port = self.port.call(call, mtime);
+        if port != answer {
+            return Err(format!("{call}: expected {answer}, the port gives {port}"));
+        }
+        Ok(answer)
+    }
+
+    fn same(&self, name: &str, side: &impl Side, entries: &Entries) -> Result<(), String> {
+        let others = side.entries();
+        if others != *entries {
+            return Err(format!("the {name}'s entries are {others:?}, the original's {entries:?}"));
+        }
+        if side.charge() != self.original.charge() {
+            return Err(format!("the {name}'s charge is {}, the original's {}", side.charge(), self.original.charge()));
+        }
+        Ok(())
+    }
+
+    /// The smallest limit at which the original does not refuse the call by 11, if some limit is refused.
+    /// Found on copies by the original alone: first at the charge after the call, then by halving above it.
+    pub fn threshold(&self, call: &Call) -> Option<u64> {
+        let at = |limit: u64| {
+            let mut side = self.original.copy();
+            let number = side.call(&call.at(limit), UNUSED_MTIME).number;
+            (number, side.charge())
+        };
+        let (free, after) = at(u64::MAX);
+        if matches!(call.op, Op::Exists | Op::IsFile | Op::IsDir) || at(0).0 != 11 {
+            return None;
+        }
+        if free == 0 && at(after).0 != 11 && at(after - 1).0 == 11 {
+            return Some(after);
+        }
+        let (mut refused, mut passed) = (0, 1 << 40);
+        assert!(at(passed).0 != 11, "a limit of 2^40 is refused");
+        while passed - refused > 1 {
+            let middle = refused + (passed - refused) / 2;
+            if at(middle).0 == 11 {
+                refused = middle;
+            } else {
+                passed = middle;
+            }
+        }
+        Some(passed)
+    }
+}
+
+/// Runs a list from an empty table; the answers, or where it parts.
+pub fn run(setup: &Setup, calls: &[Call]) -> Result<Vec<Answer>, Difference> {
+    let mut world = World::new(setup);
+    let mut answers = Vec::new();
+    for (n, call) in calls.iter().enumerate() {
+        match world.call(call) {
+            Ok(answer) => answers.push(answer),
+            Err(what) => return Err(Difference { what, listing: text(&setup.tree), calls: calls[..=n].to_vec() }),
+        }
+    }
+    Ok(answers)
+}
+
+/// A smaller setup and list that part too: calls and listed paths are left out as long as something parts.
+pub fn reduce(setup: &Setup, difference: Difference) -> Difference {
+    let mut setup = setup.clone();
+    let mut best = difference;
+    loop {
+        let mut smaller = None;
+        for n in 0..best.calls.len() {
+            let mut calls = best.calls.clone();
+            calls.remove(n);
+            smaller = smaller.or_else(|| run(&setup, &calls).err());
+        }
+        let paths: Vec<String> = setup.tree.keys().rev().cloned().collect();
+        for path in paths {
+            let mut less = setup.clone();
+            less.tree.remove(&path);
+            let parent = setup.tree.keys().any(|key| key.starts_with(&format!("{path}/")));
+            if smaller.is_none()
+                && !parent
+                && let Err(found) = run(&less, &best.calls)
+            {
+                smaller = Some(found);
+                setup = less;
+            }
+        }
+        match smaller {
+            Some(found) => best = found,
+            None => return best,
+        }
+    }
+}

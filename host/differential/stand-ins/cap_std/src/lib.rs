@@ -1,0 +1,327 @@
+//! Stands for the crate `cap_std`: a `Dir` over a listing held in memory instead of a directory of the host.
+//! Assumes a well-formed listing (document 01) whose mtimes are times that a host can give: at least 0 and whole
+//! nanoseconds, so that the originals' way from a time to an f64 gives the listed bits back.
+//! Nothing changes during a call, no lookup fails but for a path that is not there, and a directory's entries come
+//! ascending. A link has no target: following one stops the program, so a run that ends has followed none.
+//! Files are never opened: no compared call reads or writes a host file.
+
+pub mod time {
+    pub struct SystemTime(pub(crate) std::time::SystemTime);
+
+    impl SystemTime {
+        pub fn into_std(self) -> std::time::SystemTime {
+            self.0
+        }
+    }
+}
+
+pub mod fs {
+    use std::{
+        collections::BTreeMap,
+        ffi::OsString,
+        io::{self, ErrorKind, Read, Seek, SeekFrom, Write},
+        path::Path,
+        rc::Rc,
+        time::{Duration, UNIX_EPOCH},
+    };
+
+    use super::time::SystemTime;
+
+    /// Where hosts may part: what document 01 fixes (`Manner::default`), and what another host does.
+    #[derive(Debug, Clone, Copy, Default)]
+    pub struct Manner {
+        /// A directory's entries come descending instead of ascending.
+        pub descending: bool,
+        /// A lookup below a file fails with "not a directory" instead of "not found".
+        pub below_file_fails: bool,
+    }
+
+    #[derive(Debug, Clone, Copy, PartialEq, Eq)]
+    enum Kind {
+        Directory,
+        File,
+        Link,
+    }
+
+    #[derive(Debug)]
+    struct Node {
+        kind: Kind,
+        mtime: f64,
+        size: i64,
+        children: BTreeMap<String, Rc<Node>>,
+    }
+
+    impl Node {
+        fn new(kind: Kind, mtime: f64, size: i64) -> Self {
+            Self { kind, mtime, size, children: BTreeMap::new() }
+        }
+    }
+
+    /// A directory of the listed tree.
+    #[derive(Debug, Clone)]
+    pub struct Dir {
+        node: Rc<Node>,
+        manner: Manner,
+    }
+
+    fn number<const N: usize>(bytes: &[u8], at: usize) -> [u8; N] {
+        bytes[at..at + N].try_into().expect("a listing's field")
+    }
+
+    impl Dir {
+        /// The root of the tree that `listing` lists.
+        pub fn of_listing(listing: &[u8], manner: Manner) -> Self {
+            let mut root = Node::new(Kind::Directory, 0.0, 0);
+            let mut at = 9;
+            while at < listing.len() {
+                let length = usize::from(u16::from_le_bytes(number(listing, at)));
+                let kind = [Kind::Directory, Kind::File, Kind::Link][usize::from(listing[at + 2]) - 1];
+                let mtime = f64::from_bits(u64::from_le_bytes(number(listing, at + 3)));
+                let size = i64::from_le_bytes(number(listing, at + 11));
+                let path = std::str::from_utf8(&listing[at + 19..at + 19 + length]).expect("a listed path");
+                let (parents, name) = path.rsplit_once('/').unwrap_or(("", path));
+                let mut here = &mut root;
+                for part in parents.split('/').filter(|part| !part.is_empty()) {
+                    // Not shared yet while the tree is made.
+                    here = Rc::get_mut(here.children.get_mut(part).expect("a listed parent")).expect("not shared");
+                }
+                here.children.insert(name.to_owned(), Rc::new(Node::new(kind, mtime, size)));
+                at += 19 + length;
+            }
+            Self { node: Rc::new(root), manner }
+        }
+
+        /// What is at `path` from here, a link as itself if it is the last component.
+        fn look(&self, path: &Path) -> io::Result<&Rc<Node>> {
+            let mut here = &self.node;
+            for part in path.to_str().expect("a path in UTF-8").split('/').filter(|part| *part != ".") {
+                match here.kind {
+                    Kind::Directory => {}
+                    Kind::File if self.manner.below_file_fails => return Err(ErrorKind::NotADirectory.into()),
+                    Kind::File => return Err(ErrorKind::NotFound.into()),
+                    Kind::Link => panic!("a link was followed on the way to {}", path.display()),
+                }
+                here = here.children.get(part).ok_or(ErrorKind::NotFound)?;
+            }
+            Ok(here)
+        }
+
+        /// What is at `path` from here, where a link would be followed.
+        fn follow(&self, path: &Path) -> io::Result<&Rc<Node>> {
+            let node = self.look(path)?;
+            assert!(node.kind != Kind::Link, "the link {} was followed", path.display());
+            Ok(node)
+        }
+
+        pub fn symlink_metadata(&self, path: impl AsRef<Path>) -> io::Result<Metadata> {
+            self.look(path.as_ref()).map(|node| Metadata::of(node))
+        }
+
+        pub fn metadata(&self, path: impl AsRef<Path>) -> io::Result<Metadata> {
+            self.follow(path.as_ref()).map(|node| Metadata::of(node))
+        }
+
+        pub fn exists(&self, path: impl AsRef<Path>) -> bool {
+            self.follow(path.as_ref()).is_ok()
+        }
+
+        pub fn open_dir(&self, path: impl AsRef<Path>) -> io::Result<Self> {
+            let node = self.follow(path.as_ref())?;
+            if node.kind == Kind::Directory {
+                Ok(Self { node: Rc::clone(node), manner: self.manner })
+            } else {
+                Err(ErrorKind::NotADirectory.into())
+            }
+        }
+
+        pub fn read_dir(&self, path: impl AsRef<Path>) -> io::Result<ReadDir> {
+            let here = self.open_dir(path)?;
+            Ok(ReadDir { node: here.node, manner: self.manner, last: None })
+        }
+
+        pub fn open_with(&self, _: impl AsRef<Path>, _: &OpenOptions) -> io::Result<File> {
+            Err(ErrorKind::Unsupported.into())
+        }
+
+        pub fn create_dir(&self, _: impl AsRef<Path>) -> io::Result<()> {
+            Err(ErrorKind::Unsupported.into())
+        }
+
+        pub fn create_dir_all(&self, _: impl AsRef<Path>) -> io::Result<()> {
+            Err(ErrorKind::Unsupported.into())
+        }
+
+        pub fn remove_file(&self, _: impl AsRef<Path>) -> io::Result<()> {
+            Err(ErrorKind::Unsupported.into())
+        }
+
+        pub fn remove_dir(&self, _: impl AsRef<Path>) -> io::Result<()> {
+            Err(ErrorKind::Unsupported.into())
+        }
+    }
+
+    /// A directory's entries, one after another.
+    pub struct ReadDir {
+        node: Rc<Node>,
+        manner: Manner,
+        last: Option<String>,
+    }
+
+    impl Iterator for ReadDir {
+        type Item = io::Result<DirEntry>;
+
+        fn next(&mut self) -> Option<Self::Item> {
+            use std::ops::Bound::{Excluded, Unbounded};
+            let children = &self.node.children;
+            let next = match (&self.last, self.manner.descending) {
+                (None, false) => children.iter().next(),
+                (None, true) => children.iter().next_back(),
+                (Some(last), false) => children.range::<str, _>((Excluded(last.as_str()), Unbounded)).next(),
+                (Some(last), true) => children.range::<str, _>((Unbounded, Excluded(last.as_str()))).next_back(),
+            };
+            let (name, node) = next?;
+            let entry = DirEntry { name: name.clone(), kind: node.kind };
+            self.last = Some(name.clone());
+            Some(Ok(entry))
+        }
+    }
+
+    pub struct DirEntry {
+        name: String,
+        kind: Kind,
+    }
+
+    impl DirEntry {
+        pub fn file_name(&self) -> OsString {
+            self.name.clone().into()
+        }
+
+        pub fn file_type(&self) -> io::Result<FileType> {
+            Ok(FileType(self.kind))
+        }
+    }
+
+    pub struct FileType(Kind);
+
+    impl FileType {
+        pub fn is_dir(&self) -> bool {
+            self.0 == Kind::Directory
+        }
+        pub fn is_file(&self) -> bool {
+            self.0 == Kind::File
+        }
+        pub fn is_symlink(&self) -> bool {
+            self.0 == Kind::Link
+        }
+    }
+
+    pub struct Metadata {
+        kind: Kind,
+        mtime: f64,
+        size: i64,
+    }
+
+    impl Metadata {
+        fn of(node: &Node) -> Self {
+            Self { kind: node.kind, mtime: node.mtime, size: node.size }
+        }
+        pub fn is_dir(&self) -> bool {
+            self.kind == Kind::Directory
+        }
+        pub fn is_file(&self) -> bool {
+            self.kind == Kind::File
+        }
+        pub fn is_symlink(&self) -> bool {
+            self.kind == Kind::Link
+        }
+        #[expect(clippy::len_without_is_empty)]
+        pub fn len(&self) -> u64 {
+            self.size.unsigned_abs()
+        }
+
+        /// The time whose seconds as an f64 are the listed bits.
+        pub fn modified(&self) -> io::Result<SystemTime> {
+            let whole = self.mtime.trunc();
+            let nanoseconds = ((self.mtime - whole) * 1e9).round();
+            let since = Duration::new(whole as u64, nanoseconds as u32);
+            assert!(
+                since.as_secs_f64().to_bits() == self.mtime.to_bits(),
+                "the listed mtime {} is no time that a host gives",
+                self.mtime
+            );
+            Ok(SystemTime(UNIX_EPOCH + since))
+        }
+    }
+
+    /// An open file. There is none.
+    pub enum File {}
+
+    impl File {
+        pub fn metadata(&self) -> io::Result<Metadata> {
+            match *self {}
+        }
+    }
+
+    impl Read for File {
+        fn read(&mut self, _: &mut [u8]) -> io::Result<usize> {
+            match *self {}
+        }
+    }
+
+    impl Write for File {
+        fn write(&mut self, _: &[u8]) -> io::Result<usize> {
+            match *self {}
+        }
+        fn flush(&mut self) -> io::Result<()> {
+            match *self {}
+        }
+    }
+
+    impl Seek for File {
+        fn seek(&mut self, _: SeekFrom) -> io::Result<u64> {
+            match *self {}
+        }
+    }
+
+    /// How a file would be opened; kept nowhere.
+    #[derive(Default)]
+    pub struct OpenOptions;
+
+    impl OpenOptions {
+        pub fn new() -> Self {
+            Self
+        }
+        pub fn read(&mut self, _: bool) -> &mut Self {
+            self
+        }
+        pub fn write(&mut self, _: bool) -> &mut Self {
+            self
+        }
+        pub fn create(&mut self, _: bool) -> &mut Self {
+            self
+        }
+        pub fn create_new(&mut self, _: bool) -> &mut Self {
+            self
+        }
+        pub fn truncate(&mut self, _: bool) -> &mut Self {
+            self
+        }
+        pub fn append(&mut self, _: bool) -> &mut Self {
+            self
+        }
+    }
+
+    pub trait OpenOptionsExt {
+        fn mode(&mut self, mode: u32) -> &mut Self;
+        fn custom_flags(&mut self, flags: i32) -> &mut Self;
+    }
+
+    impl OpenOptionsExt for OpenOptions {
+        fn mode(&mut self, _: u32) -> &mut Self {
+            self
+        }
+        fn custom_flags(&mut self, _: i32) -> &mut Self {
+            self
+        }
+    }
+}

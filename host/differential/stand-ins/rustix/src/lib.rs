@@ -1,0 +1,13 @@
+//! Stands for the crate `rustix`: one flag of `open`. No call compared here opens a file, so its value does not matter.
+
+pub mod fs {
+    pub struct OFlags(u32);
+
+    impl OFlags {
+        pub const NONBLOCK: Self = Self(0o4000);
+
+        pub const fn bits(&self) -> u32 {
+            self.0
+        }
+    }
+}

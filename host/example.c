@@ -1,0 +1,83 @@
+/* A table over a listing, from C: directories and a file are made, moved and deleted, and each answer is printed. */
+#include <stdio.h>
+#include <string.h>
+
+#include "overlay.h"
+
+/* A table, its record and its work buffer. */
+struct plan {
+    uint8_t table[1024];
+    uint8_t work[1024];
+    uint64_t record[OVERLAY_RECORD_LENGTH];
+};
+
+/* What a call is lent, in the order of its parameters. */
+#define LISTING listing, sizeof listing
+#define TABLE(plan) (plan)->table, sizeof(plan)->table, (plan)->record, OVERLAY_RECORD_LENGTH
+#define LENT(plan) TABLE(plan), (plan)->work, sizeof(plan)->work
+#define PATH(text) (const uint8_t *)(text), strlen(text)
+
+/* A published tree of one directory `a` with a file `a/f` of 5 bytes. */
+static const uint8_t listing[] = {'R', 'D', 'L', 1, 0, 2, 0, 0, 0,
+                                  1, 0, 1, 0, 0, 0, 0, 0, 0, 0xf0, 0x3f, 0, 0, 0, 0, 0, 0, 0, 0, 'a',
+                                  3, 0, 2, 0, 0, 0, 0, 0, 0, 0, 0x40, 5, 0, 0, 0, 0, 0, 0, 0, 'a', '/', 'f'};
+
+static const uint64_t no_limit = UINT64_MAX;
+static const uint64_t one_second = 0x3ff0000000000000; /* the bits of 1.0 */
+
+static int differences = 0;
+
+/* Prints an answer, and counts it where its number or its value is another one. */
+static void expect(const char *call, uint64_t answer, int number, uint64_t value) {
+    if (overlay_is_accepted(answer))
+        printf("%-28s accepted, value %llu\n", call, (unsigned long long)overlay_answer_value(answer));
+    else
+        printf("%-28s refused with %d, path %d, length %llu\n", call, overlay_answer_number(answer),
+               overlay_answer_path(answer), (unsigned long long)overlay_answer_length(answer));
+    if (overlay_answer_number(answer) != number || overlay_answer_value(answer) != value) {
+        printf("  expected %d with %llu\n", number, (unsigned long long)value);
+        differences++;
+    }
+}
+
+int main(void) {
+    static struct plan plan;
+    expect("open", overlay_open_table(TABLE(&plan), 40), OVERLAY_ACCEPTED, 0);
+    if (!overlay_check_listing(LISTING))
+        differences++;
+
+    expect("is_file a/f", overlay_is_file(LISTING, TABLE(&plan), PATH("a/f")), OVERLAY_ACCEPTED, 1);
+    expect("mkdir b/c, parents",
+           overlay_mkdir(LISTING, LENT(&plan), PATH("b/c"), true, false, one_second, no_limit), OVERLAY_ACCEPTED, 0);
+    expect("write b/c/g",
+           overlay_write_bytes(LISTING, LENT(&plan), PATH("b/c/g"), PATH("hello"), one_second, no_limit),
+           OVERLAY_ACCEPTED, 5);
+    expect("write n/g",
+           overlay_write_bytes(LISTING, LENT(&plan), PATH("n/g"), PATH("hello"), one_second, no_limit),
+           OVERLAY_NOT_FOUND, 3);
+    expect("rename a b/c/a", overlay_rename(LISTING, LENT(&plan), PATH("a"), PATH("b/c/a"), no_limit),
+           OVERLAY_ACCEPTED, 0);
+    expect("is_file b/c/a/f", overlay_is_file(LISTING, TABLE(&plan), PATH("b/c/a/f")), OVERLAY_ACCEPTED, 1);
+    expect("exists a", overlay_exists(LISTING, TABLE(&plan), PATH("a")), OVERLAY_ACCEPTED, 0);
+    expect("rmdir b/c", overlay_rmdir(LISTING, LENT(&plan), PATH("b/c"), no_limit), OVERLAY_NOT_EMPTY, 3);
+    expect("unlink b/c/g", overlay_unlink(LISTING, LENT(&plan), PATH("b/c/g"), no_limit), OVERLAY_ACCEPTED, 0);
+    expect("is_dir ..", overlay_is_dir(LISTING, TABLE(&plan), PATH("..")), OVERLAY_MALFORMED_PATH, 0);
+
+    /* A record that does not agree with the table, or is not four numbers, is refused. */
+    uint64_t wrong[OVERLAY_RECORD_LENGTH];
+    memcpy(wrong, plan.record, sizeof wrong);
+    wrong[OVERLAY_RECORD_CHARGE]++;
+    expect("exists a, another charge",
+           overlay_exists(LISTING, plan.table, sizeof plan.table, wrong, OVERLAY_RECORD_LENGTH, PATH("a")),
+           OVERLAY_MALFORMED_TABLE, 0);
+    expect("exists a, three numbers",
+           overlay_exists(LISTING, plan.table, sizeof plan.table, plan.record, 3, PATH("a")),
+           OVERLAY_MALFORMED_TABLE, 0);
+
+    if (!overlay_check_table(TABLE(&plan)))
+        differences++;
+    printf("%llu entries, %llu bytes, charge %llu\n", (unsigned long long)plan.record[OVERLAY_RECORD_COUNT],
+           (unsigned long long)plan.record[OVERLAY_RECORD_USED], (unsigned long long)plan.record[OVERLAY_RECORD_CHARGE]);
+    printf(differences == 0 ? "all as expected\n" : "%d differences\n", differences);
+    return differences != 0;
+}

@@ -1,0 +1,136 @@
+//! The calls as the library exports them: slices in, the answer packed in one number out.
+//!
+//! A record is four numbers (used, count, charge, entry size); a slice of another length is answered with 1. These
+//! functions are safe: slices that Rust lends cannot overlap where one is written, and the library takes any bytes.
+
+mod exported {
+    unsafe extern "C" {
+        pub fn overlay_open_table(t: *mut u8, tn: usize, r: *mut u64, rn: usize, entry_size: u64) -> u64;
+        pub fn overlay_check_listing(l: *const u8, ln: usize) -> bool;
+        pub fn overlay_check_table(t: *const u8, tn: usize, r: *const u64, rn: usize) -> bool;
+    }
+
+    macro_rules! queries {
+        ($($name:ident)*) => {
+            unsafe extern "C" {
+                $(pub fn $name(
+                    l: *const u8, ln: usize, t: *const u8, tn: usize, r: *const u64, rn: usize, p: *const u8, pn: usize,
+                ) -> u64;)*
+            }
+        };
+    }
+    queries!(overlay_exists overlay_is_file overlay_is_dir);
+
+    macro_rules! changes {
+        ($($name:ident($($arg:ident: $type:ty),*))*) => {
+            unsafe extern "C" {
+                $(pub fn $name(
+                    l: *const u8, ln: usize, t: *mut u8, tn: usize, r: *mut u64, rn: usize, w: *mut u8, wn: usize,
+                    p: *const u8, pn: usize, $($arg: $type),*
+                ) -> u64;)*
+            }
+        };
+    }
+    changes! {
+        overlay_write_bytes(d: *const u8, dn: usize, mtime: u64, limit: u64)
+        overlay_mkdir(parents: bool, exist_ok: bool, mtime: u64, limit: u64)
+        overlay_unlink(limit: u64)
+        overlay_rmdir(limit: u64)
+        overlay_rename(d: *const u8, dn: usize, limit: u64)
+    }
+}
+
+/// Makes `table` an empty table and writes its record.
+pub fn open_table(table: &mut [u8], record: &mut [u64], entry_size: u64) -> u64 {
+    // SAFETY: each pointer comes with the length of the slice that it is of, here and below.
+    unsafe {
+        exported::overlay_open_table(table.as_mut_ptr(), table.len(), record.as_mut_ptr(), record.len(), entry_size)
+    }
+}
+
+/// Whether the bytes are a listing.
+pub fn check_listing(listing: &[u8]) -> bool {
+    unsafe { exported::overlay_check_listing(listing.as_ptr(), listing.len()) }
+}
+
+/// Whether the bytes are a table that agrees with the record.
+pub fn check_table(table: &[u8], record: &[u64]) -> bool {
+    unsafe { exported::overlay_check_table(table.as_ptr(), table.len(), record.as_ptr(), record.len()) }
+}
+
+/// A query: listing, table, record and path.
+pub type Query = fn(&[u8], &[u8], &[u64], &[u8]) -> u64;
+
+macro_rules! queries {
+    ($($(#[$doc:meta])* $name:ident = $export:ident;)*) => {$(
+        $(#[$doc])*
+        pub fn $name(listing: &[u8], table: &[u8], record: &[u64], path: &[u8]) -> u64 {
+            unsafe {
+                exported::$export(
+                    listing.as_ptr(), listing.len(), table.as_ptr(), table.len(), record.as_ptr(), record.len(),
+                    path.as_ptr(), path.len(),
+                )
+            }
+        }
+    )*};
+}
+queries! {
+    /// Whether anything but a link is visible at the path.
+    exists = overlay_exists;
+    /// Whether a file is visible at the path.
+    is_file = overlay_is_file;
+    /// Whether a directory is visible at the path.
+    is_dir = overlay_is_dir;
+}
+
+/// What every changing call is lent: a table with its record, and a work buffer at least as long as the table.
+pub struct Lent<'a> {
+    pub table: &'a mut [u8],
+    pub record: &'a mut [u64],
+    pub work: &'a mut [u8],
+}
+
+macro_rules! change {
+    ($export:ident, $listing:ident, $lent:ident, $path:ident $(, $arg:expr)*) => {
+        unsafe {
+            exported::$export(
+                $listing.as_ptr(), $listing.len(), $lent.table.as_mut_ptr(), $lent.table.len(),
+                $lent.record.as_mut_ptr(), $lent.record.len(), $lent.work.as_mut_ptr(), $lent.work.len(),
+                $path.as_ptr(), $path.len() $(, $arg)*
+            )
+        }
+    };
+}
+
+/// The data becomes the content of the path's own file.
+pub fn write_bytes(listing: &[u8], lent: &mut Lent, path: &[u8], data: &[u8], mtime: u64, limit: u64) -> u64 {
+    change!(overlay_write_bytes, listing, lent, path, data.as_ptr(), data.len(), mtime, limit)
+}
+
+/// A directory at the path; with `parents`, at its missing ancestors too.
+pub fn mkdir(
+    listing: &[u8],
+    lent: &mut Lent,
+    path: &[u8],
+    parents: bool,
+    exist_ok: bool,
+    mtime: u64,
+    limit: u64,
+) -> u64 {
+    change!(overlay_mkdir, listing, lent, path, parents, exist_ok, mtime, limit)
+}
+
+/// The file at the path is deleted.
+pub fn unlink(listing: &[u8], lent: &mut Lent, path: &[u8], limit: u64) -> u64 {
+    change!(overlay_unlink, listing, lent, path, limit)
+}
+
+/// The empty directory at the path is deleted.
+pub fn rmdir(listing: &[u8], lent: &mut Lent, path: &[u8], limit: u64) -> u64 {
+    change!(overlay_rmdir, listing, lent, path, limit)
+}
+
+/// What is at the source, and below it, moves to the destination.
+pub fn rename(listing: &[u8], lent: &mut Lent, source: &[u8], destination: &[u8], limit: u64) -> u64 {
+    change!(overlay_rename, listing, lent, source, destination.as_ptr(), destination.len(), limit)
+}

@@ -1,0 +1,128 @@
+//! Replays the vectors of calls.jsonl against the library: every answer, record, table and work buffer must be as they say.
+//! With an argument it reads that file. It prints what it compared, and ends with status 1 at the first difference.
+mod json;
+mod sha256;
+
+use json::{Json, parse};
+use overlay::{OverlayMut, Record, Refusal, raw, unpack};
+use std::{collections::BTreeMap, env, fs, process::ExitCode};
+
+/// A vector's answer as an answer of the library: number, path, length, value.
+fn four(answer: Result<u64, Refusal>) -> [u64; 4] {
+    match answer {
+        Ok(value) => [0, 0, 0, value],
+        Err(refusal) => [refusal.number().into(), refusal.path().into(), refusal.length(), 0],
+    }
+}
+
+/// A table with its record, as the calls leave them.
+struct State {
+    table: Vec<u8>,
+    record: Record,
+}
+
+impl State {
+    /// The answer of a call, and whether it left the work buffer as it must.
+    fn call(&mut self, listing: &[u8], call: &Json) -> (Result<u64, Refusal>, bool) {
+        let paths: Vec<Vec<u8>> = call.get("paths").list().iter().map(Json::bytes).collect();
+        let record: [u64; 4] = self.record.into();
+        let query: raw::Query = match call.get("op").text() {
+            "exists" => raw::exists,
+            "is_file" => raw::is_file,
+            "is_dir" => raw::is_dir,
+            _ => return self.change(listing, call, &paths),
+        };
+        (unpack(query(listing, &self.table, &record, &paths[0])), true)
+    }
+
+    fn change(&mut self, listing: &[u8], call: &Json, paths: &[Vec<u8>]) -> (Result<u64, Refusal>, bool) {
+        let limit = call.get("limit").number();
+        let mtime = || overlay::Mtime::from_bits(call.get("mtime").number());
+        let mut work = vec![0x77; call.get("work").number() as usize];
+        let mut lent = OverlayMut::new(&mut self.table, &mut self.record, &mut work);
+        let answer = match call.get("op").text() {
+            "write" => lent.write_bytes(listing, &paths[0], &call.get("data").bytes(), mtime(), limit),
+            "mkdir" => {
+                let how = overlay::Mkdir { parents: call.get("parents").flag(), exist_ok: call.get("exist_ok").flag() };
+                lent.mkdir(listing, &paths[0], how, mtime(), limit).map(|()| 0)
+            }
+            "unlink" => lent.unlink(listing, &paths[0], limit).map(|()| 0),
+            "rmdir" => lent.rmdir(listing, &paths[0], limit).map(|()| 0),
+            "rename" => lent.rename(listing, &paths[0], &paths[1], limit).map(|()| 0),
+            op => panic!("no call {op}"),
+        };
+        let left = if answer.is_ok() { 0 } else { 0x77 };
+        (answer, work.iter().all(|byte| *byte == left))
+    }
+
+    /// Makes a call and compares what it answers and leaves.
+    fn compare(&mut self, listing: &[u8], call: &Json) -> Result<(), String> {
+        let (answer, work) = self.call(listing, call);
+        let record: [u64; 4] = self.record.into();
+        let sha = sha256::hex(&self.table);
+        let wanted = (call.get("answer").four(), call.get("record").four(), call.get("sha").text());
+        if (four(answer), record, sha.as_str()) != wanted {
+            return Err(format!("{call:?}\ngives {:?} {record:?} {sha}", four(answer)));
+        }
+        if work { Ok(()) } else { Err(format!("{call:?}\nleaves another work buffer")) }
+    }
+}
+
+/// A table opened in a buffer that is filled with 0xAA, and whether all is as it must be.
+fn open(vector: &Json, number: u64) -> Result<State, String> {
+    let mut state = State { table: vec![0xaa; vector.get("room").number() as usize], record: Record::default() };
+    let mut numbers = [9; 4];
+    let entry_size = vector.get("e").number();
+    let answer = four(unpack(raw::open_table(&mut state.table, &mut numbers, entry_size)));
+    let (byte, record) = if number == 0 { (0, [0, 0, 0, entry_size]) } else { (0xaa, [9; 4]) };
+    state.record = numbers.into();
+    if answer != [number, 0, 0, 0] || numbers != record || state.table.iter().any(|b| *b != byte) {
+        return Err(format!("opening {vector:?} gives {answer:?} {numbers:?}"));
+    }
+    Ok(state)
+}
+
+fn replay(line: &str, counts: &mut BTreeMap<String, u64>) -> Result<(), String> {
+    let vector = parse(line)?;
+    let mut count = |name: &str| *counts.entry(name.to_string()).or_default() += 1;
+    match vector.get("t").text() {
+        "head" => {}
+        "open" => {
+            open(&vector, vector.get("no").number())?;
+            count("open");
+        }
+        "run" => {
+            let listing = vector.get("listing").bytes();
+            let mut state = open(&vector, 0)?;
+            count("open");
+            for call in vector.get("calls").list() {
+                state.compare(&listing, call)?;
+                count(call.get("op").text());
+            }
+        }
+        "raw" => {
+            let call = vector.get("call");
+            let record = Record::from(vector.get("record").four());
+            let mut state = State { table: vector.get("table").bytes(), record };
+            state.compare(&vector.get("listing").bytes(), call)?;
+            count(call.get("op").text());
+        }
+        other => return Err(format!("no vector {other}")),
+    }
+    Ok(())
+}
+
+fn main() -> ExitCode {
+    let file = env::args().nth(1).unwrap_or_else(|| concat!(env!("CARGO_MANIFEST_DIR"), "/calls.jsonl").to_string());
+    let text = fs::read_to_string(&file).unwrap_or_else(|error| panic!("{file}: {error}"));
+    let mut counts = BTreeMap::new();
+    for (number, line) in text.lines().enumerate() {
+        if let Err(difference) = replay(line, &mut counts) {
+            println!("{file}:{}: {difference}", number + 1);
+            return ExitCode::FAILURE;
+        }
+    }
+    let each: Vec<String> = counts.iter().map(|(name, count)| format!("{name} {count}")).collect();
+    println!("vectors: {} calls, all as they say: {}", counts.values().sum::<u64>(), each.join(", "));
+    ExitCode::SUCCESS
+}

@@ -1,0 +1,130 @@
+/* overlay.h: an overlay file table over a published listing, for programs in C.
+ *
+ * Link with liboverlay_exports.a (`rt staticlib overlay_exports` writes it to target/staticlib; x86-64 Linux).
+ * The library has no state and calls nothing but memcpy, memmove and memset of the C library. Threads may call it at once, each
+ * with buffers of its own.
+ *
+ * WHAT IS LENT. Every buffer is a pointer and a length, counted in elements (bytes, or 64-bit numbers for a record).
+ * Any bytes and any numbers may be given: each call checks what it is lent. What C itself asks is left to the caller:
+ *   - the memory is there and can be read, and written where the pointer is not const;
+ *   - a record's pointer is aligned to 8 bytes;
+ *   - a buffer that is not const overlaps no other buffer of the same call;
+ *   - with length 0 the pointer is not looked at, and may be NULL;
+ *   - a bool is 0 or 1.
+ *
+ * A REFUSED CALL CHANGES NOTHING: table, record and work buffer are byte for byte as they were.
+ * An accepted changing call leaves the table with its new record, and the work buffer all 0.
+ *
+ * THE LISTING holds the published tree, at most 16 MiB of it: the mark "RDL", a 16-bit version 1, a 32-bit count,
+ * then the records: path length (16 bits), kind (8 bits: 1 directory, 2 file, 3 link), mtime (the bits of a double),
+ * size (64 bits), path. The paths ascend by their bytes. All numbers are little-endian.
+ *
+ * THE TABLE is a buffer of at most 16 MiB that overlay_open_table makes empty. Its entries ascend by key from the
+ * start, and all bytes behind them are 0. An entry: key length (16 bits), kind (16 bits: 1 own file, 2 reference to a
+ * listed file, 3 directory, 4 deleted), body length (32 bits), mtime bits (64), size (64), key, body.
+ *
+ * A PATH is not ended by a 0 byte. It is empty (the root), or components joined by single '/': UTF-8, at most 512
+ * bytes and 32 components, a component of 1 to 255 bytes, not "." or "..", without byte 0, backslash or colon.
+ */
+#ifndef OVERLAY_H
+#define OVERLAY_H
+
+#include <stdbool.h>
+#include <stddef.h>
+#include <stdint.h>
+
+#ifdef __cplusplus
+extern "C" {
+#endif
+
+/* A record: four numbers that belong to a table and must agree with it. A record of another length is refused
+ * with OVERLAY_MALFORMED_TABLE. */
+#define OVERLAY_RECORD_LENGTH 4
+#define OVERLAY_RECORD_USED 0       /* the bytes of the entries */
+#define OVERLAY_RECORD_COUNT 1      /* the number of entries */
+#define OVERLAY_RECORD_CHARGE 2     /* the sum over the entries of 256 + key length + entry size + body length */
+#define OVERLAY_RECORD_ENTRY_SIZE 3 /* what was given to overlay_open_table */
+
+#define OVERLAY_MAX_BUFFER 16777216 /* the bytes of the longest table, and of the longest listing */
+#define OVERLAY_MAX_ENTRY_SIZE 4096
+#define OVERLAY_MAX_PATH 512
+
+/* The number of an answer: 0, or why the call is refused. */
+enum overlay_number {
+    OVERLAY_ACCEPTED = 0,
+    OVERLAY_MALFORMED_TABLE = 1,   /* table, record, entry size or work buffer malformed or too short */
+    OVERLAY_MALFORMED_LISTING = 2,
+    OVERLAY_MALFORMED_PATH = 3,    /* path */
+    OVERLAY_LINK_OR_ROOT = 4,      /* path, length: a link is met, or the root is given */
+    OVERLAY_NOT_FOUND = 5,         /* path, length */
+    OVERLAY_EXISTS = 6,            /* path, length */
+    OVERLAY_NOT_A_DIRECTORY = 7,   /* path, length */
+    OVERLAY_IS_A_DIRECTORY = 8,    /* path, length */
+    OVERLAY_NOT_EMPTY = 9,         /* path, length */
+    OVERLAY_BELOW_SOURCE = 10,     /* length: the destination lies below the source */
+    OVERLAY_LIMIT = 11,            /* the charge, or what a rename plans, exceeds the limit */
+    OVERLAY_KEY_TOO_LONG = 12,     /* a moved key has more than 512 bytes or 32 components */
+    OVERLAY_NO_ROOM = 13           /* the entries after the call are longer than the table */
+};
+
+/* An answer is packed in one number: the number above in the low 8 bits, the path (0: only or source, 1: destination)
+ * in the next 8, and from bit 16 on the length of that path, or of the ancestor at which mkdir with parents met a file.
+ * Accepted, these 48 bits hold the value: the data's length for a write, 1 or 0 for a query, else 0. */
+static inline int overlay_answer_number(uint64_t answer) { return (int)(answer & 0xff); }
+static inline int overlay_answer_path(uint64_t answer) { return (int)(answer >> 8 & 0xff); }
+static inline uint64_t overlay_answer_length(uint64_t answer) { return answer >> 16; }
+static inline uint64_t overlay_answer_value(uint64_t answer) { return answer >> 16; }
+static inline bool overlay_is_accepted(uint64_t answer) { return (answer & 0xff) == OVERLAY_ACCEPTED; }
+
+/* Makes the buffer an empty table, all 0, for entries of this size (0 to 4,096), and writes its record.
+ * Refused only with OVERLAY_MALFORMED_TABLE: the buffer, the entry size or the record's length is out of bounds. */
+uint64_t overlay_open_table(uint8_t *table, size_t table_length, uint64_t *record, size_t record_length,
+                            uint64_t entry_size);
+
+/* Whether the bytes are a listing; whether they are a table that agrees with the record. */
+bool overlay_check_listing(const uint8_t *listing, size_t listing_length);
+bool overlay_check_table(const uint8_t *table, size_t table_length, const uint64_t *record, size_t record_length);
+
+/* What is visible at a path: anything but a link; a file; a directory. The value is 1 for yes and 0 for no. */
+uint64_t overlay_exists(const uint8_t *listing, size_t listing_length, const uint8_t *table, size_t table_length,
+                        const uint64_t *record, size_t record_length, const uint8_t *path, size_t path_length);
+uint64_t overlay_is_file(const uint8_t *listing, size_t listing_length, const uint8_t *table, size_t table_length,
+                         const uint64_t *record, size_t record_length, const uint8_t *path, size_t path_length);
+uint64_t overlay_is_dir(const uint8_t *listing, size_t listing_length, const uint8_t *table, size_t table_length,
+                        const uint64_t *record, size_t record_length, const uint8_t *path, size_t path_length);
+
+/* The changing calls. Each takes a work buffer that is at least as long as the table, whatever its bytes, and a limit
+ * for the table's charge; a charge that equals it passes. An mtime is the bits of a double, stored as they are. */
+
+/* The data becomes the content of the path's own file. The value is the data's length. */
+uint64_t overlay_write_bytes(const uint8_t *listing, size_t listing_length, uint8_t *table, size_t table_length,
+                             uint64_t *record, size_t record_length, uint8_t *work, size_t work_length,
+                             const uint8_t *path, size_t path_length, const uint8_t *data, size_t data_length,
+                             uint64_t mtime, uint64_t limit);
+
+/* A directory at the path; with parents, at its missing ancestors too. With exist_ok a directory that is there is
+ * accepted, and nothing changes but the work buffer. */
+uint64_t overlay_mkdir(const uint8_t *listing, size_t listing_length, uint8_t *table, size_t table_length,
+                       uint64_t *record, size_t record_length, uint8_t *work, size_t work_length,
+                       const uint8_t *path, size_t path_length, bool parents, bool exist_ok,
+                       uint64_t mtime, uint64_t limit);
+
+/* The file at the path is deleted; the empty directory is. */
+uint64_t overlay_unlink(const uint8_t *listing, size_t listing_length, uint8_t *table, size_t table_length,
+                        uint64_t *record, size_t record_length, uint8_t *work, size_t work_length,
+                        const uint8_t *path, size_t path_length, uint64_t limit);
+uint64_t overlay_rmdir(const uint8_t *listing, size_t listing_length, uint8_t *table, size_t table_length,
+                       uint64_t *record, size_t record_length, uint8_t *work, size_t work_length,
+                       const uint8_t *path, size_t path_length, uint64_t limit);
+
+/* What is visible at the source, and below it, moves to the destination, whose file or empty directory goes. */
+uint64_t overlay_rename(const uint8_t *listing, size_t listing_length, uint8_t *table, size_t table_length,
+                        uint64_t *record, size_t record_length, uint8_t *work, size_t work_length,
+                        const uint8_t *source, size_t source_length, const uint8_t *destination,
+                        size_t destination_length, uint64_t limit);
+
+#ifdef __cplusplus
+}
+#endif
+
+#endif
