@@ -1,41 +1,9 @@
-// Document 01's cases for the calls but rename, and the corners beside them, as texts for `script`.
+// Document 01's cases for the calls but rename, and the corners beside them, as texts for `case_script`.
 // What each must print is worked out by hand and stands in the program's stdout; items of one function share listings and buffers where they can.
-use crate::script;
+use crate::scenes;
 
-// Items run over two listings, in a table buffer of n bytes with a work buffer of m. The buffers stand here and are lent on.
-fn scene(first: &[u8], second: &[u8], n: usize, m: usize, entry_size: u64, list: &[u8]) {
-    let mut table = [255u8; 1024];
-    let mut old = [0u8; 1024];
-    let mut work = [255u8; 1024];
-    if n <= 1024 {
-        if m <= 1024 {
-            script::run(
-                first,
-                second,
-                &mut table[0..n],
-                &mut old,
-                &mut work[0..m],
-                entry_size,
-                list,
-            );
-        }
-    }
-}
-
-// Document 01's listing L, and the empty one.
-fn over_l(n: usize, m: usize, entry_size: u64, list: &[u8]) {
-    scene(
-        b"RDL\x01\x00\x04\x00\x00\x00\x01\x00\x01\x00\x00\x00\x00\x00\x00\xF0?\x00\x00\x00\x00\x00\x00\x00\x00a\x03\x00\x02\x00\x00\x00\x00\x00\x00\x00@\x05\x00\x00\x00\x00\x00\x00\x00a/f\x01\x00\x03\x00\x00\x00\x00\x00\x00\x00\x00\x00\x00\x00\x00\x00\x00\x00\x00l\x01\x00\x02\x00\x00\x00\x00\x00\x00\x00\x00\x00\x00\x00\x00\x00\x00\x00\x00z",
-        b"RDL\x01\x00\x00\x00\x00\x00",
-        n,
-        m,
-        entry_size,
-        list,
-    );
-}
-
-fn part_one() {
-    over_l(
+fn queries() {
+    scenes::over_l(
         1024,
         1024,
         40,
@@ -60,8 +28,16 @@ fn part_one() {
         is_dir  - L - ----- q|\
         exists  - L - ----- z/n|\
         exists  - L - ----- l/n|\
-        exists  - L - ----- a/|\
-        # write|\
+        exists  - L - ----- a/|",
+    );
+}
+
+fn writes() {
+    scenes::over_l(
+        1024,
+        1024,
+        40,
+        b"# write|\
         write   2 L - ----- a/f|\
         exists  - L - ----- a/f|\
         is_file - L - ----- a/f|\
@@ -76,8 +52,16 @@ fn part_one() {
         write   0 L - ----- q|\
         unlink  - L - ----- q|\
         write   3 L - ----- q|\
-        is_file - L - ----- q|\
-        # write refused|\
+        is_file - L - ----- q|",
+    );
+}
+
+fn writes_refused() {
+    scenes::over_l(
+        1024,
+        1024,
+        40,
+        b"# write refused|\
         write   1 L - ----- |\
         write   1 L - ----- a|\
         write   1 L - ----- l|\
@@ -102,8 +86,16 @@ fn part_one() {
         write   5 L - ----- a/f|\
         write   0 L - ----- z|\
         write   4 L - 00599 a/f|\
-        write   4 L - 00600 a/f|\
-        # mkdir|\
+        write   4 L - 00600 a/f|",
+    );
+}
+
+fn mkdirs() {
+    scenes::over_l(
+        1024,
+        1024,
+        40,
+        b"# mkdir|\
         mkdir   - L - ----- z/n|\
         mkdir   p L - ----- z/n|\
         mkdir   - L - ----- a|\
@@ -112,16 +104,8 @@ fn part_one() {
         mkdir   b L - ----- a|\
         write   0 L - ----- q|\
         mkdir   e L - 00296 a|\
-        mkdir   e L - 00000 a|",
-    );
-}
-
-fn part_two() {
-    over_l(
-        1024,
-        1024,
-        40,
-        b"# mkdir of a file, a link, the root, below a link|\
+        mkdir   e L - 00000 a|\
+        # mkdir of a file, a link, the root, below a link|\
         mkdir   - L - ----- z|\
         mkdir   e L - ----- z|\
         mkdir   b L - ----- a/f|\
@@ -133,8 +117,16 @@ fn part_two() {
         mkdir   - L - ----- |\
         mkdir   p L - ----- |\
         mkdir   e L - ----- |\
-        mkdir   b L - 00000 |\
-        # mkdir at the limit and one below; exist_ok of an own directory|\
+        mkdir   b L - 00000 |",
+    );
+}
+
+fn mkdirs_made() {
+    scenes::over_l(
+        1024,
+        1024,
+        40,
+        b"# mkdir at the limit and one below; exist_ok of an own directory|\
         mkdir   - L - 00296 b|\
         mkdir   - L - 00297 b|\
         is_dir  - L - ----- b|\
@@ -150,8 +142,16 @@ fn part_two() {
         is_dir  - L - ----- b|\
         is_dir  - L - ----- b/f|\
         mkdir   p L - ----- b/f|\
-        mkdir   b L - ----- b/f|\
-        # mkdir with parents keeps listed and own ones|\
+        mkdir   b L - ----- b/f|",
+    );
+}
+
+fn mkdirs_with_parents() {
+    scenes::over_l(
+        1024,
+        1024,
+        40,
+        b"# mkdir with parents keeps listed and own ones|\
         mkdir   p L - ----- a/n/m|\
         mkdir   - L - ----- b|\
         mkdir   b L - ----- b/c/d|\
@@ -162,8 +162,16 @@ fn part_two() {
         write   1 L - ----- b|\
         mkdir   p L - ----- b/c|\
         mkdir   e L - ----- b|\
-        mkdir   - L - ----- b/c|\
-        # mkdir over deleted|\
+        mkdir   - L - ----- b/c|",
+    );
+}
+
+fn mkdirs_over_deleted() {
+    scenes::over_l(
+        1024,
+        1024,
+        40,
+        b"# mkdir over deleted|\
         unlink  - L - ----- z|\
         mkdir   - L - ----- z|\
         is_dir  - L - ----- z|\
@@ -174,8 +182,16 @@ fn part_two() {
         mkdir   - L - ----- a/n|\
         mkdir   p L - ----- a/n|\
         exists  - L - ----- a|\
-        exists  - L - ----- a/f|\
-        # unlink|\
+        exists  - L - ----- a/f|",
+    );
+}
+
+fn unlinks() {
+    scenes::over_l(
+        1024,
+        1024,
+        40,
+        b"# unlink|\
         unlink  - L - 00296 z|\
         unlink  - L - 00297 z|\
         exists  - L - ----- z|\
@@ -192,16 +208,8 @@ fn part_two() {
         unlink  - L - ----- q/x|\
         unlink  - L - ----- z/n|\
         mkdir   - L - ----- b|\
-        unlink  - L - ----- b|",
-    );
-}
-
-fn part_three() {
-    over_l(
-        1024,
-        1024,
-        40,
-        b"# unlink of an own file|\
+        unlink  - L - ----- b|\
+        # unlink of an own file|\
         write   4 L - ----- b|\
         unlink  - L - 00296 b|\
         unlink  - L - 00297 b|\
@@ -210,8 +218,16 @@ fn part_three() {
         unlink  - L - ----- b|\
         write   2 L - ----- a/f|\
         unlink  - L - ----- a/f|\
-        unlink  - L - ----- a/f|\
-        # rmdir|\
+        unlink  - L - ----- a/f|",
+    );
+}
+
+fn rmdirs() {
+    scenes::over_l(
+        1024,
+        1024,
+        40,
+        b"# rmdir|\
         rmdir   - L - ----- a|\
         unlink  - L - ----- a/f|\
         rmdir   - L - 00595 a|\
@@ -241,7 +257,10 @@ fn part_three() {
         unlink  - L - ----- b/f|\
         rmdir   - L - ----- b|",
     );
-    scene(
+}
+
+fn children() {
+    case_script::run(
         b"RDL\x01\x00\x02\x00\x00\x00\x01\x00\x01\x00\x00\x00\x00\x00\x00\xF0?\x00\x00\x00\x00\x00\x00\x00\x00a\x03\x00\x03\x00\x00\x00\x00\x00\x00\x00\x00\x00\x00\x00\x00\x00\x00\x00\x00a/l",
         b"RDL\x01\x00\x00\x00\x00\x00",
         1024,
@@ -251,7 +270,7 @@ fn part_three() {
         rmdir   - L - ----- a|\
         unlink  - L - ----- a/l|",
     );
-    scene(
+    case_script::run(
         b"RDL\x01\x00\x03\x00\x00\x00\x01\x00\x01\x00\x00\x00\x00\x00\x00\xF0?\x00\x00\x00\x00\x00\x00\x00\x00a\x03\x00\x02\x00\x00\x00\x00\x00\x00\x00\x00\x00\x00\x00\x00\x00\x00\x00\x00a-b\x02\x00\x02\x00\x00\x00\x00\x00\x00\x00\x00\x00\x00\x00\x00\x00\x00\x00\x00a0",
         b"RDL\x01\x00\x00\x00\x00\x00",
         1024,
@@ -267,7 +286,10 @@ fn part_three() {
         # the same with all of them listed only; L is a/ a-b a0|\
         rmdir   - L - ----- a|",
     );
-    scene(
+}
+
+fn children_not_listed() {
+    case_script::run(
         b"RDL\x01\x00\x00\x00\x00\x00",
         b"RDL\x01\x00\x00\x00\x00\x00",
         1024,
@@ -287,8 +309,8 @@ fn part_three() {
     );
 }
 
-fn part_four() {
-    scene(
+fn deep_directory() {
+    case_script::run(
         b"RDL\x01\x00\x03\x00\x00\x00\x01\x00\x01\x00\x00\x00\x00\x00\x00\xF0?\x00\x00\x00\x00\x00\x00\x00\x00a\x03\x00\x01\x00\x00\x00\x00\x00\x00\xF0?\x00\x00\x00\x00\x00\x00\x00\x00a/b\x05\x00\x02\x00\x00\x00\x00\x00\x00\x00\x00\x00\x00\x00\x00\x00\x00\x00\x00a/b/c",
         b"RDL\x01\x00\x00\x00\x00\x00",
         1024,
@@ -302,7 +324,10 @@ fn part_four() {
         rmdir   - L - ----- a/b|\
         rmdir   - L - ----- a|",
     );
-    scene(
+}
+
+fn other_listings() {
+    case_script::run(
         b"RDL\x01\x00\x01\x00\x00\x00\x01\x00\x01\x00\x00\x00\x00\x00\x00\xF0?\x00\x00\x00\x00\x00\x00\x00\x00a",
         b"RDL\x01\x00\x02\x00\x00\x00\x01\x00\x01\x00\x00\x00\x00\x00\x00\xF0?\x00\x00\x00\x00\x00\x00\x00\x00a\x03\x00\x01\x00\x00\x00\x00\x00\x00\xF0?\x00\x00\x00\x00\x00\x00\x00\x00a/b",
         1024,
@@ -312,7 +337,7 @@ fn part_four() {
         write   0 M - ----- a/b/c|\
         rmdir   - L - ----- a|",
     );
-    over_l(
+    scenes::over_l(
         1024,
         1024,
         40,
@@ -322,8 +347,16 @@ fn part_four() {
         # the same, a directory entry over a link; M is empty|\
         mkdir   - M - ----- l|\
         write   0 L - ----- l/x|\
-        is_dir  - L - ----- l|\
-        # 1 before 2 before 3 before the rest|\
+        is_dir  - L - ----- l|",
+    );
+}
+
+fn order_of_refusals() {
+    scenes::over_l(
+        1024,
+        1024,
+        40,
+        b"# 1 before 2 before 3 before the rest|\
         write   0 X u 00000 a:|\
         write   0 X - 00000 a:|\
         write   0 L - 00000 a:|\
@@ -344,8 +377,16 @@ fn part_four() {
         is_file - X - ----- a//f|\
         is_file - L - ----- a//f|\
         is_dir  - X - ----- a//f|\
-        is_dir  - L - ----- a//f|\
-        # 1 where all else is good|\
+        is_dir  - L - ----- a//f|",
+    );
+}
+
+fn malformed() {
+    scenes::over_l(
+        1024,
+        1024,
+        40,
+        b"# 1 where all else is good|\
         write   1 L u ----- z|\
         write   1 L e ----- z|\
         unlink  - L e ----- z|\
@@ -363,8 +404,8 @@ fn part_four() {
     );
 }
 
-fn part_five() {
-    over_l(
+fn short_work() {
+    scenes::over_l(
         1024,
         1023,
         40,
@@ -378,7 +419,7 @@ fn part_five() {
         unlink  - L - ----- z|\
         rmdir   - L - ----- a|",
     );
-    over_l(
+    scenes::over_l(
         1024,
         1024,
         40,
@@ -391,7 +432,10 @@ fn part_five() {
         !|\
         write   1 L - ----- z|",
     );
-    over_l(
+}
+
+fn rooms() {
+    scenes::over_l(
         29,
         29,
         40,
@@ -403,7 +447,7 @@ fn part_five() {
         unlink  - L - ----- a/f|\
         unlink  - L - ----- z|",
     );
-    over_l(
+    scenes::over_l(
         25,
         25,
         40,
@@ -414,7 +458,7 @@ fn part_five() {
         mkdir   - L - ----- z|\
         mkdir   e L - ----- a|",
     );
-    scene(
+    case_script::run(
         b"RDL\x01\x00\x04\x00\x00\x00\x01\x00\x01\x00\x00\x00\x00\x00\x00\xF0?\x00\x00\x00\x00\x00\x00\x00\x00a\x03\x00\x02\x00\x00\x00\x00\x00\x00\x00@\x05\x00\x00\x00\x00\x00\x00\x00a/f\x01\x00\x03\x00\x00\x00\x00\x00\x00\x00\x00\x00\x00\x00\x00\x00\x00\x00\x00l\x01\x00\x02\x00\x00\x00\x00\x00\x00\x00\x00\x00\x00\x00\x00\x00\x00\x00\x00z",
         b"RDL\x01\x00\x01\x00\x00\x00\x01\x00\x01\x00\x00\x00\x00\x00\x00\xF0?\x00\x00\x00\x00\x00\x00\x00\x00a",
         24,
@@ -429,8 +473,8 @@ fn part_five() {
     );
 }
 
-fn part_six() {
-    over_l(
+fn rooms_for_two() {
+    scenes::over_l(
         52,
         52,
         40,
@@ -438,7 +482,7 @@ fn part_six() {
         mkdir   p L - ----- b/ff|\
         mkdir   p L - ----- b/f|",
     );
-    over_l(
+    scenes::over_l(
         51,
         51,
         40,
@@ -447,7 +491,7 @@ fn part_six() {
         unlink  - L - ----- a/f|\
         rmdir   - L - ----- a|",
     );
-    over_l(
+    scenes::over_l(
         52,
         60,
         40,
@@ -455,7 +499,10 @@ fn part_six() {
         unlink  - L - ----- a/f|\
         rmdir   - L - ----- a|",
     );
-    over_l(
+}
+
+fn room_again() {
+    scenes::over_l(
         60,
         60,
         40,
@@ -468,7 +515,7 @@ fn part_six() {
         write   1 L - ----- b|\
         write   2 L - ----- b|",
     );
-    over_l(
+    scenes::over_l(
         0,
         0,
         40,
@@ -479,22 +526,22 @@ fn part_six() {
     );
 }
 
-fn part_seven() {
-    over_l(
+fn entry_sizes() {
+    scenes::over_l(
         100,
         100,
         0,
         b"# E 0|\
         write   2 L - ----- a/f|",
     );
-    over_l(
+    scenes::over_l(
         100,
         100,
         4097,
         b"# E 4097|\
         write   2 L - ----- a/f|",
     );
-    over_l(
+    scenes::over_l(
         100,
         100,
         4096,
@@ -504,11 +551,24 @@ fn part_seven() {
 }
 
 pub fn run() {
-    part_one();
-    part_two();
-    part_three();
-    part_four();
-    part_five();
-    part_six();
-    part_seven();
+    queries();
+    writes();
+    writes_refused();
+    mkdirs();
+    mkdirs_made();
+    mkdirs_with_parents();
+    mkdirs_over_deleted();
+    unlinks();
+    rmdirs();
+    children();
+    children_not_listed();
+    deep_directory();
+    other_listings();
+    order_of_refusals();
+    malformed();
+    short_work();
+    rooms();
+    rooms_for_two();
+    room_again();
+    entry_sizes();
 }

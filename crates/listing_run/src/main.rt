@@ -143,15 +143,6 @@ fn siblings(s: &mut [u8], n: u64) -> usize
     families(s, at, n)
 }
 
-// The processor time used so far, or 0 where the clock fails.
-fn micros() -> u64 {
-    let t = libc::clock();
-    if t > 0 {
-        return t as u64;
-    }
-    0
-}
-
 fn told(answer: bool) {
     if answer {
         io::write_all(STDOUT_FILENO, b" a listing");
@@ -163,9 +154,9 @@ fn told(answer: bool) {
 // The check of the first n bytes, and how long it took where times are asked for.
 fn timed(s: &[u8], n: usize) {
     if n <= s.len() {
-        let before = micros();
+        let before = run_clock::micros();
         let answer = listing::check(&s[0..n]);
-        let after = micros();
+        let after = run_clock::micros();
         told(answer);
         if os::arg_count() > 1 {
             io::write_all(STDOUT_FILENO, b", ");
