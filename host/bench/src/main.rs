@@ -130,9 +130,18 @@ fn measure(mut call: impl FnMut(&Call) -> u8, calls: &[(&str, Call)], rounds: us
     times.into_iter().map(median).collect()
 }
 
-/// One pass over the bytes: their sum.
+unsafe extern "C" {
+    /// One pass over the bytes in plain C: their sum (pass.c).
+    fn plain_pass(bytes: *const u8, len: usize) -> u64;
+}
+
+/// One plain pass over the bytes of each buffer.
 fn pass(buffers: &[&[u8]], rounds: usize) -> f64 {
-    let sum = |buffer: &&[u8]| black_box(*buffer).iter().map(|byte| u64::from(*byte)).sum::<u64>();
+    let sum = |buffer: &&[u8]| {
+        let bytes = black_box(*buffer);
+        // SAFETY: pointer and length are those of a slice, which is only read.
+        unsafe { plain_pass(bytes.as_ptr(), bytes.len()) }
+    };
     let time = |_| {
         let start = now();
         black_box(buffers.iter().map(sum).sum::<u64>());
