@@ -195,9 +195,9 @@ fn rows(shape: &Shape, sizes: &[usize]) {
     println!("### {}", shape.name);
     println!();
     println!(
-        "| size | call | port, us | growth | original, us | growth | plain pass, us | port / pass | port / original |"
+        "| size | call | port, us | ns per byte | growth | original, us | growth | plain pass, us | port / pass | port / original |"
     );
-    println!("|---|---|---|---|---|---|---|---|---|");
+    println!("|---|---|---|---|---|---|---|---|---|---|");
     let mut last: Option<(Vec<f64>, Vec<f64>)> = None;
     for size in sizes {
         let tree = listing((shape.listing)(*size));
@@ -222,14 +222,17 @@ fn rows(shape: &Shape, sizes: &[usize]) {
         let pass_two = pass(&[&lent, &buffer], rounds.max(20));
         let pass_three = pass(&[&lent, &buffer, &buffer], rounds.max(20));
         for (n, (name, _)) in calls.iter().enumerate().filter(|(_, (name, _))| !name.is_empty()) {
-            let floor = if *name == "exists" { pass_two } else { pass_three };
+            // A query is lent listing and table, a changing call a work buffer as well.
+            let (floor, all) = if *name == "exists" { (pass_two, 1) } else { (pass_three, 2) };
+            let bytes = lent.len() + all * room;
             let growth = |now: &[f64], before: Option<&Vec<f64>>| {
                 before.map_or(String::new(), |before| format!("x {}", short(now[n] / before[n])))
             };
             println!(
-                "| {} | {name} | {} | {} | {} | {} | {} | {} | {} |",
+                "| {} | {name} | {} | {:.2} | {} | {} | {} | {} | {} | {} |",
                 named(*size),
                 short(ours[n]),
+                1000.0 * ours[n] / bytes as f64,
                 growth(&ours, last.as_ref().map(|(ours, _)| ours)),
                 short(theirs[n]),
                 growth(&theirs, last.as_ref().map(|(_, theirs)| theirs)),
