@@ -8,8 +8,8 @@ use crate::tell;
 use model::Answer;
 use model::Finding;
 use model::Record;
-use overlay_calls::Kind;
-use overlay_calls::Order;
+use overlay_values::Kind;
+use overlay_values::Order;
 
 // The mtime of every write and mkdir: the bits of 1.0.
 const MTIME: u64 = 0x3FF0_0000_0000_0000;
@@ -152,12 +152,12 @@ fn change(
 // exists, is_file or is_dir, by the letter in which their names differ.
 fn asked(listing: &[u8], table: &[u8], rec: Record, letter: u8, path: &[u8]) -> Finding {
     if letter == b's' {
-        return overlay::exists(listing, table, rec, path);
+        return overlay_queries::exists(listing, table, rec, path);
     }
     if letter == b'f' {
-        return overlay::is_file(listing, table, rec, path);
+        return overlay_queries::is_file(listing, table, rec, path);
     }
-    overlay::is_dir(listing, table, rec, path)
+    overlay_queries::is_dir(listing, table, rec, path)
 }
 
 fn query(listing: &[u8], table: &[u8], rec: Record, s: &[u8], path: &[u8]) {

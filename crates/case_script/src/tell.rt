@@ -18,7 +18,7 @@ pub fn number(s: &[u8], n: u64) {
 
 // A refusal's number, and in brackets its path and length.
 fn refused(refusal: Refusal) {
-    let row = overlay_calls::told(Answer::Refused(refusal));
+    let row = overlay_values::told(Answer::Refused(refusal));
     number(b": ", row.number);
     number(b" (", row.path);
     number(b", ", row.len);

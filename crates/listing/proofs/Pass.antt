@@ -11,7 +11,7 @@ use Rattle.model.specs.Bytes.{Bytes, every, before}
 use Rattle.model.specs.Path.{Path, isPath, below, ancestors}
 use Rattle.model.specs.Map.{lookup, ascends}
 use Rattle.model.specs.Tree.{Node, Tree, kind, isDirectory}
-use Rattle.model.specs.Listing.{ListingRecord, recordAt, recordEnd, recordCount, filled, recordsFrom, records, headed, ruled, nodeOf}
+use Rattle.model.specs.Listing.{ListingRecord, recordAt, recordEnd, recordCount, filled, recordsFrom, headed, ruled, nodeOf}
 use Rattle.model.specs.Listing.{treeFrom, treeIn, placed, formedRecord, isListing}
 use Rattle.model.proofs.Orders.{Lt, Lt-trans, Lt-≢, same-no, same-refl, Split, split, is-none, is-some, opt}
 use Rattle.model.proofs.Orders.{mem, mem-ancestors, below-rest, rest-is}

@@ -16,14 +16,11 @@ use Rattle.model.specs.Tree.{Tree}
 use Rattle.model.specs.Listing.{ListingRecord, recordAt, recordEnd, recordCount, headed, ruled, placed, isListing}
 use Rattle.model.proofs.Orders.{Lt, and-true}
 use Rattle.model.proofs.Codec.{path-short}
-use Rattle.fields.specs.Read.{common}
+use Rattle.fields.specs.Read.{common, part}
 use Rattle.fields.proofs.Common.{before-Lt, common-short}
 use Rattle.listing.specs.Turn.{fits, formedAlone, Agree, Marked}
 use Rattle.listing.proofs.Pass.{directoryAt, noted, run, whole}
 use Rattle.listing.proofs.Flags.{Flagged, marked}
-
-abbrev pub part : Bytes → ℕ → ℕ → Bytes
-part s a b = take (b - a) (drop a s)
 
 -- before a record is read: the path before it stands from `from` up to `at`
 pub record Kept (s : Bytes) (f : List Bool) (left from at : ℕ) : Type 0 where

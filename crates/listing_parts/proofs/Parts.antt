@@ -19,10 +19,10 @@ use Rattle.model.specs.Tree.{Tree}
 use Rattle.model.specs.Listing.{ListingRecord, ruled, placed, formedRecord, recordAt, recordEnd, recordCount, recordsFrom, records, filled, treeFrom, treeIn, isListing}
 use Rattle.model.proofs.Orders.{Lt, Lt-trans, yea, nay, test, bot, and-true}
 use Rattle.model.proofs.Maps.{Above, Ascending, ascends-is}
-use Rattle.fields.specs.Read.{common}
+use Rattle.fields.specs.Read.{common, part}
 use Rattle.fields.proofs.Common.{alike, apart, heads}
 use Rattle.listing_parts.specs.Place.{treeAt, Standing}
-use Rattle.listing_parts.specs.Parts.{recordsBelow, part, PartOf}
+use Rattle.listing_parts.specs.Parts.{recordsBelow, PartOf}
 use Rattle.listing_parts.proofs.Places.{checked, standing-all, stands, first-record, climbs, path-here}
 
 -- `below` by the bytes in common

@@ -17,6 +17,7 @@ use Rattle.model.specs.Tree.{Node, dir, file, link, Tree, View, Kind, kind, kin
 use Rattle.model.specs.Listing.{ListingRecord, recordAt, recordEnd, recordCount, records, ruled, treeFrom, treeIn, placed, formedRecord, isListing}
 use Rattle.model.proofs.Orders.{Lt, Lt-trans, Lt-≢, same-no, Split, split, mem, mem-ancestors, yea, nay, test, bot, and-true}
 use Rattle.model.proofs.Maps.{ascends-is}
+use Rattle.model.proofs.Formed.{every-mem}
 use Rattle.fields.proofs.Common.{before-Lt}
 use Rattle.path_security.specs.Ancestors.{nextSlash}
 use Rattle.path_security.proofs.Ancestors.{next-slash}
@@ -55,12 +56,6 @@ kind-front f (b ∷ p) zero h l = absurd (omega arith)
 kind-front f (b ∷ p) (suc k) h l = refl
 
 -- in a listing, what lies below what is no directory is not listed
-every-mem : (f : Path → Bool) (ks : List Path) (q : Path) → every f ks ≡ true → mem q ks ≡ true → f q ≡ true
-every-mem f [] q h m = absurd (bot (cc))
-every-mem f (k ∷ ks) q h m =
-    let e = and-true (f k) (every f ks) h in
-    elim (split k q) [ Split.eq a w ↦ cc (e .0) | Split.ne a w ↦ every-mem f ks q (e .1) (cc) ]
-
 none-under : (l : Tree) (rs : List ListingRecord) (q k : Path) → every (formedRecord l) rs ≡ true → below q k ≡ true → isDirectory (kind (lookup l) q) ≡ false
     → lookup (treeFrom rs) k ≡ none
 none-under l [] q k h b n = refl

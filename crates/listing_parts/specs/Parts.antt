@@ -3,19 +3,17 @@
 use mathlib.Core.Path.{_≡_}
 use mathlib.Core.Bool.{true}
 use mathlib.Core.List.{List, [], _∷_}
-use Prim.Native.Nat.{ℕ, _-_, _≤_}
-use lib.ListN.{length, take, drop}
+use Prim.Native.Nat.{ℕ, _≤_}
+use lib.ListN.{length}
 use Rattle.model.specs.Bytes.{Bytes, consIf}
 use Rattle.model.specs.Path.{Path, below}
 use Rattle.model.specs.Listing.{ListingRecord, filled, recordsFrom, records}
+use Rattle.fields.specs.Read.{part}
 
 -- those of the records whose path is below d, in order
 abbrev pub recordsBelow : Path → List ListingRecord → List ListingRecord
 recordsBelow d [] = []
 recordsBelow d (r ∷ rs) = consIf (below d (r .path)) r (recordsBelow d rs)
-
-abbrev pub part : Bytes → ℕ → ℕ → Bytes
-part s from to = take (to - from) (drop from s)
 
 -- n records of the listing s, in the bytes from `from` up to `to`, are those below d; the part decodes to them by itself, and the whole does there
 pub record PartOf (s : Bytes) (d : Path) (from to n : ℕ) : Type 0 where

@@ -90,11 +90,18 @@ number-bytes (suc n) v h =
     let e : number (bytes n (v / 256)) ≡ v / 256 = number-bytes n (v / 256) (omega arith) in
     rw e (omega arith)
 
-pub path-short : (p : Path) → isPath p ≡ true → length p ≤ 512
-path-short p h =
+-- a path has at most 512 bytes and 32 components
+path-limits : (p : Path) → isPath p ≡ true → (leb (length p) 512 ≡ true) × (leb (length (components p)) 32 ≡ true)
+path-limits p h =
     let x = and-true (short p && utf8 p) (isRoot p || every component (components p)) h in
     let y = and-true (short p) (utf8 p) (x .0) in
-    leb-true (length p) 512 (and-true (leb (length p) 512) (leb (length (components p)) 32) (y .0) .0)
+    and-true (leb (length p) 512) (leb (length (components p)) 32) (y .0)
+
+pub path-short : (p : Path) → isPath p ≡ true → length p ≤ 512
+path-short p h = leb-true (length p) 512 (path-limits p h .0)
+
+pub path-shallow : (p : Path) → isPath p ≡ true → length (components p) ≤ 32
+path-shallow p h = leb-true (length (components p)) 32 (path-limits p h .1)
 
 -- the numbers of an entry fit their fields
 pub record Fit (e : Entry) : Type 0 where

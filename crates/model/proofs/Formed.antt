@@ -207,7 +207,7 @@ node-fine r h n u w = elim (node-of r u) [
   | of-link e ↦ rw e (record { key = h; proper = n; body = refl; word = tt })
 ]
 
-every-mem : (f : Path → Bool) (ks : List Path) (q : Path) → every f ks ≡ true → mem q ks ≡ true → f q ≡ true
+pub every-mem : (f : Path → Bool) (ks : List Path) (q : Path) → every f ks ≡ true → mem q ks ≡ true → f q ≡ true
 every-mem f [] q h m = cc
 every-mem f (k ∷ ks) q h m =
     let e = and-true (f k) (every f ks) h in

@@ -20,7 +20,7 @@ use Rattle.model.proofs.Invariant.{Closed, kind-at, node-at, no-node, a
 use Rattle.model.proofs.Rules.{child-below, child-root, way}
 
 -- how deep a path stands
-abbrev level : Path → ℕ
+abbrev pub level : Path → ℕ
 level p = length (components p)
 
 level-same : (b : ℕ) (cs : List Bytes) → length (onFirst b cs) ≡ length cs
@@ -44,7 +44,7 @@ slashless-level (c ∷ u) h = elim (test (eqb c 47)) [
   | nay e ↦ let ih = slashless-level u (cc) in level-cons c u ∙ rw e (omega arith)
 ]
 
-child-level : (d q : Path) → child d q ≡ true → level q ≡ suc (level d)
+pub child-level : (d q : Path) → child d q ≡ true → level q ≡ suc (level d)
 child-level [] [] h = absurd (bot (cc))
 child-level [] (c ∷ q) h =
     let e = and-true (eqb c 47) (slashless q) h in
@@ -56,7 +56,7 @@ child-level (a ∷ d) (c ∷ q) h =
     let ih = child-level d q (e .1) in
     rw (level-cons a d, level-cons c q, eqb-eq a c (e .0)) (omega arith)
 
-below-level : (d q : Path) → below d q ≡ true → level d < level q
+pub below-level : (d q : Path) → below d q ≡ true → level d < level q
 below-level [] [] h = absurd (bot (cc))
 below-level [] (c ∷ q) h = let e = level-some q in rw (level-cons c q, h) (omega arith)
 below-level (a ∷ d) [] h = absurd (bot (cc))
@@ -74,7 +74,7 @@ depth-le (x ∷ xs) q n h = elim (split (x .0) q) [
 ]
 
 -- a walk that has ended, and how a walk stands
-abbrev Ended : Walk → Type 0
+abbrev pub Ended : Walk → Type 0
 Ended (sum s) = ⊥
 Ended overBudget = Unit {0}
 Ended atLink = Unit {0}
@@ -94,10 +94,10 @@ ended-sum overBudget s h e = bot (cc)
 ended-sum atLink s h e = bot (cc)
 
 -- a step that leaves every ended walk as it is
-abbrev Keeps : (Path → Walk → Walk) → Type 0
+abbrev pub Keeps : (Path → Walk → Walk) → Type 0
 Keeps g = (p : Path) (w : Walk) → Ended w → g p w ≡ w
 
-enter-ended : (g : Path → Walk → Walk) → Keeps g → (ds : List Path) (w : Walk) → Ended w → enter g ds w ≡ w
+pub enter-ended : (g : Path → Walk → Walk) → Keeps g → (ds : List Path) (w : Walk) → Ended w → enter g ds w ≡ w
 enter-ended g k [] w h = refl
 enter-ended g k (d ∷ ds) w h = rw (k d w h) (enter-ended g k ds w h)
 
@@ -161,7 +161,7 @@ found-only P (x ∷ xs) ds q h = elim (test (P (x .0))) [
   ]
 ]
 
-free-is : (o : Option Entry) → isNone o ≡ true → o ≡ none
+pub free-is : (o : Option Entry) → isNone o ≡ true → o ≡ none
 free-is none h = refl
 free-is (some e) h = cc
 
@@ -177,7 +177,7 @@ budget-link none s h = bot (cc)
 budget-link (some n) s h = elim (test (leb s n)) [ yea e ↦ bot (cc) | nay e ↦ bot (cc) ]
 
 module _ (b : Option ℕ) where
-  visits-ended : (xs : Tree) (w : Walk) → Ended w → visits b w xs ≡ w
+  pub visits-ended : (xs : Tree) (w : Walk) → Ended w → visits b w xs ≡ w
   visits-ended [] w h = refl
   visits-ended (x ∷ xs) (sum s) h = absurd h
   visits-ended (x ∷ xs) overBudget h = visits-ended xs overBudget h
@@ -230,11 +230,11 @@ module _ (t : Table) (l : Tree) where
   abbrev met : Path → Path → Bool
   met d q = child d q && isNone (lookup t q)
 
-  in-children : (d q : Path) (n : Node) → child d q ≡ true → lookup t q ≡ none → lookup l q ≡ some n → lookup (children t l d) q ≡ some n
+  pub in-children : (d q : Path) (n : Node) → child d q ≡ true → lookup t q ≡ none → lookup l q ≡ some n → lookup (children t l d) q ≡ some n
   in-children d q n c e h = cc (lookup-only (met d) l q)
 
   module _ (b : Option ℕ) where
-    walk-ended : (n : ℕ) → Keeps (walk n t l b)
+    pub walk-ended : (n : ℕ) → Keeps (walk n t l b)
     walk-ended zero d w h = refl
     walk-ended (suc n) d w h =
         cc (visits-ended b (children t l d) w h, enter-ended (walk n t l b) (walk-ended n) (lastFirst (children t l d) []) w h)

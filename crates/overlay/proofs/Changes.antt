@@ -23,17 +23,16 @@ use Rattle.model.specs.declared.Answered.{Answered}
 use Rattle.model.specs.declared.Answer.the-variants.{Refused}
 use Rattle.model.proofs.Orders.{bot}
 use Rattle.model.proofs.Maps.{ascends-is, lookup-low}
-use Rattle.model.proofs.Codec.{decoded}
+use Rattle.model.proofs.Codec.{decoded, path-short}
 use Rattle.overlay_insert.specs.declared.Inserted.{Inserted}
 use Rattle.overlay_insert.specs.Insert.{insertion, ifDone}
 use Rattle.overlay_parents.specs.declared.Judged.{Judged}
 use Rattle.overlay_parents.specs.declared.Judged.the-variants as judge
 use Rattle.overlay_parents.specs.Judged.{checkOf, refuses}
 use Rattle.overlay_parents.proofs.Checked.{refused-not-passed}
-use Rattle.overlay_parents.proofs.Parents.{path-short}
-use Rattle.overlay.specs.Meets.{requested, stored, Meets, answeredOf}
-use Rattle.overlay.proofs.Settles.{last, refused-meets, inserted-meets}
-use Rattle.overlay.proofs.Firsts.{firsts, all-four}
+use Rattle.overlay_answer.specs.Meets.{requested, stored, Meets, answeredOf}
+use Rattle.overlay_answer.proofs.Settles.{last, refused-meets, inserted-meets}
+use Rattle.overlay_answer.proofs.Firsts.{firsts, all-four}
 
 -- a call's checks, with those before 11 as one
 regroup : (a b c d e f : Check) → (a then b then c then (d then e) then f) ≡ (((a then b then c) then d) then (e then f))
@@ -83,7 +82,7 @@ module _ (l s : Bytes) (r : Record) (w : Bytes) (p : Path) (c : Path → Check) 
       let g : pass ≡ judged = sym (ap checkOf h) ∙ e in
       let k = all-four (isTable s r) (leb (length s) (length w)) (isListing l) (isPath p) (first-passed a (c p) g) in
       let b = not-root p c (n (k .0)) (second-passed a (c p) g) in
-      (k .0, b, path-short p (k .3) .0, leb-true (length s) (length w) (k .1))
+      (k .0, b, path-short p (k .3), leb-true (length s) (length w) (k .1))
 
   module _ (limit : ℕ) (call : Call) where
     abbrev q : Request

@@ -1,3 +1,1 @@
-pub mod Settles
-pub mod Firsts
-pub mod Changes
+mod Changes

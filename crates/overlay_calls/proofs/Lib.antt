@@ -1,1 +1,1 @@
-pub mod Cases
+mod Cases

@@ -13,8 +13,9 @@ use Rattle.model.specs.Map.{ascends, only, keys}
 use Rattle.model.specs.Listing.{recordAt, recordEnd, nodeOf, treeFrom, treeIn, isListing}
 use Rattle.model.specs.Table.{keyAt}
 use Rattle.model.proofs.Orders.{and-true}
+use Rattle.fields.specs.Read.{part}
 use Rattle.listing_parts.specs.Place.{treeAt}
-use Rattle.listing_parts.specs.Parts.{part, PartOf}
+use Rattle.listing_parts.specs.Parts.{PartOf}
 use Rattle.listing_parts.proofs.Places.{checked, first-record}
 use Rattle.listing_parts.proofs.Parts.{part-tree}
 use Rattle.overlay_uncovered.specs.Ahead.{fitting}

@@ -17,8 +17,9 @@ use Rattle.model.specs.Table.{entriesAt, tableIn}
 use Rattle.model.specs.declared.Record.{Record}
 use Rattle.model.proofs.Orders.{bot, and-true, yea, nay, test}
 use Rattle.model.proofs.Maps.{above-only, ascends-is, is-ascends, ascending-only}
+use Rattle.fields.specs.Read.{part}
 use Rattle.listing_parts.specs.Place.{treeAt, Standing}
-use Rattle.listing_parts.specs.Parts.{part, PartOf}
+use Rattle.listing_parts.specs.Parts.{PartOf}
 use Rattle.listing_parts.proofs.Places.{checked}
 use Rattle.listing_parts.proofs.Parts.{part-tree}
 use Rattle.overlay_state.specs.declared.Place.{Place}

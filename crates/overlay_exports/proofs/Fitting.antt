@@ -24,7 +24,7 @@ use Rattle.model.proofs.Rules.{below-length}
 use Rattle.model.proofs.Shapes.{Names, written, made, unlinked, removed, source, destination, Shaped, table, listing, malformed, at-path, at-ancestor, below-source, limit, key-too-long, no-room, shaped}
 use Rattle.model.proofs.Shapes.{bad-table-refused, bad-listing-refused, bad-path-refused}
 use Rattle.overlay_insert.proofs.Inserts as inserts
-use Rattle.overlay_exports.specs.Packed.{packed, Fits}
+use Rattle.overlay_packed.specs.Packed.{packed, Fits}
 
 -- the parts of a packed answer
 pub unpacked : (n p l : ℕ) → Fits (refused n p l)

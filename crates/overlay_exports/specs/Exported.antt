@@ -10,8 +10,8 @@ use Rattle.model.specs.Path.{Path}
 use Rattle.model.specs.Calls.{Query}
 use Rattle.model.specs.Answer.{Reply, refused}
 use Rattle.model.specs.Outcome.{Request, Outcome, outcome, ask, opened}
-use Rattle.overlay.specs.Meets.{stored}
-use Rattle.overlay_exports.specs.Packed.{packed, numbers, recordIn}
+use Rattle.overlay_answer.specs.Meets.{stored}
+use Rattle.overlay_packed.specs.Packed.{packed, numbers, recordIn}
 
 abbrev pub isFour : List ℕ → Bool
 isFour s = eqb (length s) 4

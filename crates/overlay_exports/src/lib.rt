@@ -2,104 +2,20 @@
 // Nothing is assumed of what is lent, but that no two of the buffers overlap: any bytes and any numbers can be given. A record that is not
 // four numbers is answered with 1. A refused call leaves every lent buffer, the record too, as it was. The cost is that of the call itself.
 ghost use mathlib.Core.Path.{_≡_};
-ghost use mathlib.Core.Bool.{true, false, _&&_};
-ghost use lib.ListN.{length};
+ghost use mathlib.Core.Bool.{false, _&&_};
 ghost use Rattle.model.specs.Listing.{isListing};
 ghost use Rattle.model.specs.Table.{isTable};
 ghost use Rattle.model.specs.Calls as calls;
-ghost use Rattle.model.specs.Answer.{refused, told, toldFinding};
 ghost use Rattle.model.specs.Outcome.{opened};
-ghost use Rattle.overlay.specs.Meets.{requested};
-ghost use Rattle.overlay_exports.specs.Packed.{packed, Fits, ifAccepted, numbers, recordIn};
+ghost use Rattle.overlay_answer.specs.Meets.{requested};
+ghost use Rattle.overlay_packed.specs.Packed.{packed, ifAccepted, numbers, recordIn};
 ghost use Rattle.overlay_exports.specs.Exported.{isFour, left, called, asked, opening};
-use model::Answer;
-use model::Answered;
-use model::Finding;
-use model::Record;
-use overlay_calls::Row;
 
 // The numbers of a record: used, count, charge and entry size.
 const NUMBERS: usize = 4;
 
 // The answer where the record is not four numbers: that of a malformed table.
 const MALFORMED: u64 = 1;
-
-// The record that four numbers are.
-fn record_in(rec: &[u64]) -> Record
-    requires { ⌜ length (now rec) ≡ 4 ⌝ }
-    ensures { λ r. ⌜ r ≡ recordIn (now (rec .entry)) ⌝ }
-{
-    Record {
-        used: rec[0],
-        count: rec[1],
-        charge: rec[2],
-        entry_size: rec[3],
-    }
-}
-
-// The four numbers become those of `after`.
-fn store(rec: &mut [u64], after: Record)
-    requires { ⌜ length (now rec) ≡ 4 ⌝ }
-    ensures { λ _. ⌜ now (rec .exit) ≡ numbers after ⌝ }
-{
-    rec[0] = after.used;
-    rec[1] = after.count;
-    rec[2] = after.charge;
-    rec[3] = after.entry_size;
-}
-
-// A row in one number.
-fn pack(row: Row) -> u64
-    requires { ⌜ Fits (refused (row .number) (row .path) (row .len)) ⌝ }
-    ensures { λ r. ⌜ r ≡ packed (refused (row .number) (row .path) (row .len)) ⌝ }
-{
-    row.number + 256 * row.path + 65_536 * row.len
-}
-
-// A query's answer in one number.
-fn pack_finding(finding: Finding) -> u64
-    requires { ⌜ Fits (toldFinding finding) ⌝ }
-    ensures { λ r. ⌜ r ≡ packed (toldFinding finding) ⌝ }
-{
-    match finding {
-        Finding::Yes => return 65_536,
-        Finding::No => return 0,
-        Finding::Unanswered(refusal) => return pack(overlay_calls::told_refusal(refusal)),
-    }
-}
-
-// A changing call's answer in one number.
-fn pack_answer(answer: Answer) -> u64
-    requires { ⌜ Fits (told answer) ⌝ }
-    ensures { λ r. ⌜ r ≡ packed (told answer) ⌝ }
-{
-    pack(overlay_calls::told(answer))
-}
-
-fn is_accepted(answer: Answer) -> bool
-    ensures { λ r. ⌜ r ≡ ifAccepted (told answer) true false ⌝ }
-{
-    match answer {
-        Answer::Accepted(_) => return true,
-        Answer::Refused(_) => return false,
-    }
-}
-
-// The answer in one number. The record is stored where the call is accepted, and nowhere else.
-fn settle(rec: &mut [u64], answered: Answered) -> u64
-    requires { ⌜ length (now rec) ≡ 4 ⌝ }
-    requires { ⌜ Fits (told (answered .answer)) ⌝ }
-    ensures { λ r. ⌜ r ≡ packed (told (answered .answer)) ⌝ }
-    ensures { λ _. ⌜ now (rec .exit) ≡ ifAccepted (told (answered .answer)) (numbers (answered .«record»)) (now (rec .entry)) ⌝ }
-{
-    let answer = answered.answer;
-    let after = answered.record;
-    if is_accepted(answer) {
-        store(rec, after);
-        return pack_answer(answer);
-    }
-    pack_answer(answer)
-}
 
 // Makes the buffer an empty table for entries of this size.
 #[no_mangle]
@@ -114,7 +30,7 @@ pub extern "C" fn overlay_open_table(table: &mut [u8], rec: &mut [u64], entry_si
         return MALFORMED;
     }
     let answered = overlay_open::open(table, entry_size);
-    settle(rec, answered)
+    overlay_packed::settle(rec, answered)
 }
 
 // Whether bytes are a listing; whether bytes and a record are a table.
@@ -132,7 +48,7 @@ pub extern "C" fn overlay_check_table(table: &[u8], rec: &[u64]) -> bool
     if rec.len() != NUMBERS {
         return false;
     }
-    overlay_open::check(table, record_in(rec))
+    overlay_open::check(table, overlay_packed::record_in(rec))
 }
 
 // Whether anything but a link is visible at the path; a file; a directory.
@@ -143,8 +59,8 @@ pub extern "C" fn overlay_exists(listing: &[u8], table: &[u8], rec: &[u64], path
     if rec.len() != NUMBERS {
         return MALFORMED;
     }
-    let finding = overlay::exists(listing, table, record_in(rec), path);
-    pack_finding(finding)
+    let finding = overlay_queries::exists(listing, table, overlay_packed::record_in(rec), path);
+    overlay_packed::pack_finding(finding)
 }
 
 #[no_mangle]
@@ -154,8 +70,8 @@ pub extern "C" fn overlay_is_file(listing: &[u8], table: &[u8], rec: &[u64], pat
     if rec.len() != NUMBERS {
         return MALFORMED;
     }
-    let finding = overlay::is_file(listing, table, record_in(rec), path);
-    pack_finding(finding)
+    let finding = overlay_queries::is_file(listing, table, overlay_packed::record_in(rec), path);
+    overlay_packed::pack_finding(finding)
 }
 
 #[no_mangle]
@@ -165,8 +81,8 @@ pub extern "C" fn overlay_is_dir(listing: &[u8], table: &[u8], rec: &[u64], path
     if rec.len() != NUMBERS {
         return MALFORMED;
     }
-    let finding = overlay::is_dir(listing, table, record_in(rec), path);
-    pack_finding(finding)
+    let finding = overlay_queries::is_dir(listing, table, overlay_packed::record_in(rec), path);
+    overlay_packed::pack_finding(finding)
 }
 
 // The data becomes the content of the path's own file, with these mtime bits.
@@ -188,9 +104,9 @@ pub extern "C" fn overlay_write_bytes(
     if rec.len() != NUMBERS {
         return MALFORMED;
     }
-    let before = record_in(&*rec);
+    let before = overlay_packed::record_in(&*rec);
     let answered = overlay::write_bytes(listing, table, before, work, path, mtime, data, limit);
-    settle(rec, answered)
+    overlay_packed::settle(rec, answered)
 }
 
 // A directory with these mtime bits at the path; with the flag parents, at its missing ancestors too.
@@ -212,7 +128,7 @@ pub extern "C" fn overlay_mkdir(
     if rec.len() != NUMBERS {
         return MALFORMED;
     }
-    let before = record_in(&*rec);
+    let before = overlay_packed::record_in(&*rec);
     let answered = overlay_mkdir::mkdir(
         listing,
         table,
@@ -224,7 +140,7 @@ pub extern "C" fn overlay_mkdir(
         mtime,
         limit,
     );
-    settle(rec, answered)
+    overlay_packed::settle(rec, answered)
 }
 
 // The path shows nothing from now on.
@@ -243,9 +159,9 @@ pub extern "C" fn overlay_unlink(
     if rec.len() != NUMBERS {
         return MALFORMED;
     }
-    let before = record_in(&*rec);
+    let before = overlay_packed::record_in(&*rec);
     let answered = overlay::unlink(listing, table, before, work, path, limit);
-    settle(rec, answered)
+    overlay_packed::settle(rec, answered)
 }
 
 // The same for an empty directory.
@@ -264,9 +180,9 @@ pub extern "C" fn overlay_rmdir(
     if rec.len() != NUMBERS {
         return MALFORMED;
     }
-    let before = record_in(&*rec);
+    let before = overlay_packed::record_in(&*rec);
     let answered = overlay::rmdir(listing, table, before, work, path, limit);
-    settle(rec, answered)
+    overlay_packed::settle(rec, answered)
 }
 
 // What is visible at the source, and below it, moves to the destination.
@@ -287,7 +203,7 @@ pub extern "C" fn overlay_rename(
     if rec.len() != NUMBERS {
         return MALFORMED;
     }
-    let before = record_in(&*rec);
+    let before = overlay_packed::record_in(&*rec);
     let answered = overlay_rename::rename(listing, table, before, work, source, destination, limit);
-    settle(rec, answered)
+    overlay_packed::settle(rec, answered)
 }

@@ -13,7 +13,7 @@ use Rattle.model.specs.Map.{Map, lookup, ascends, put, puts}
 use Rattle.model.specs.Tree.{Entry, Table}
 use Rattle.model.specs.Table.{bodyOf, encode, entriesAt}
 use Rattle.model.proofs.Orders.{Split, split, and-true}
-use Rattle.model.proofs.Maps.{Above, Ascending, upd, orElse, lookup-put, lookup-puts, lookup-low, ascending-put, ascending-puts, above-trans, map-ext}
+use Rattle.model.proofs.Maps.{Ascending, orElse, lookup-put, lookup-puts, lookup-low, ascending-put, ascending-puts, map-ext}
 use Rattle.overlay_state.specs.Cut.{upTo, behind}
 use Rattle.overlay_measure.specs.Measure.{Passed}
 use Rattle.overlay_measure.specs.Into.{into}

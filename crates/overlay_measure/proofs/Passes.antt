@@ -1,9 +1,9 @@
 -- Entries put one behind the other, with ascending keys: what is passed stays as it is, and the record changes by the entry put.
 -- Assumes nothing.
-use mathlib.Core.Path.{_≡_, refl, ap, ap₂, sym, _∙_}
+use mathlib.Core.Path.{_≡_, refl, ap, sym, _∙_}
 use mathlib.Core.List.{[], _∷_, _++_, append-assoc}
-use mathlib.Core.Bool.{Bool, true, false, cond, _&&_}
-use Prim.Native.Nat.{ℕ, zero, suc, _+_, _-_, _<_, _≤_}
+use mathlib.Core.Bool.{Bool, true}
+use Prim.Native.Nat.{ℕ, _+_, _-_, _≤_}
 use native.Mathlib.Omega.{arith}
 use lib.ListN.{length, length-append}
 use Rattle.model.specs.Bytes.{Bytes, every, same, before}
@@ -12,14 +12,14 @@ use Rattle.model.specs.Map.{put}
 use Rattle.model.specs.Tree.{Entry, Table}
 use Rattle.model.specs.Table.{bodyOf, entryBytes, encode, bodyCharge, charge, recordOf, entriesAt, tableIn, isTable}
 use Rattle.model.specs.declared.Record.{Record}
-use Rattle.model.proofs.Orders.{Lt-irrefl, Lt-trans, Lt-≢, Cmp, cmp, Split, split, test, yea, nay, bot, and-true}
+use Rattle.model.proofs.Orders.{Lt-irrefl, Lt-trans, Lt-≢, Cmp, cmp, test, yea, nay, and-true}
 use Rattle.model.proofs.Codec.{decoded, entry-length, same-is}
 use Rattle.fields.proofs.Common.{before-Lt, Lt-before}
 use Rattle.overlay_state.specs.Place.{Standing}
-use Rattle.overlay_state.specs.Cut.{upTo, since, unlessFirst, behind}
+use Rattle.overlay_state.specs.Cut.{upTo, since, behind}
 use Rattle.overlay_state.proofs.Entries.{table-stands}
 use Rattle.overlay_state.proofs.Cuts.{up-since, put-cut, encode-append, charge-append}
-use Rattle.overlay_measure.specs.Measure.{startsAt, added, replaced, Passed, Measured}
+use Rattle.overlay_measure.specs.Measure.{added, replaced, Passed, Measured}
 
 abbrev pub allBefore : Path → Table → Bool
 allBefore q t = every (λ x. before (x .0) q) t

@@ -1,7 +1,7 @@
 -- The steps of a pass: whether the entry at a place has a key, where the pass goes on, and the record then.
 -- Assumes nothing.
 use mathlib.Core.Path.{_≡_, refl, ap, ap₂, sym, subst, _∙_}
-use mathlib.Core.List.{[], _∷_, _++_}
+use mathlib.Core.List.{[], _∷_}
 use mathlib.Core.Bool.{Bool, true, false}
 use Prim.Native.Nat.{ℕ, zero, suc, _+_, _-_, _<_, _≤_}
 use native.Mathlib.Omega.{arith}
@@ -10,11 +10,11 @@ use Rattle.model.specs.Bytes.{Bytes, numberAt, same, before}
 use Rattle.model.specs.Path.{Path}
 use Rattle.model.specs.Map.{put}
 use Rattle.model.specs.Tree.{Entry, Table}
-use Rattle.model.specs.Table.{bodyOf, entryBytes, encode, charge, recordOf, keyAt, entryAt, entryEnd, entriesAt}
+use Rattle.model.specs.Table.{bodyOf, entryBytes, encode, charge, keyAt, entryAt, entryEnd, entriesAt}
 use Rattle.model.specs.declared.Record.{Record}
 use Rattle.model.proofs.Orders.{bot}
 use Rattle.model.proofs.Codec.{entry-length}
-use Rattle.overlay_state.specs.Place.{Standing, Sought, endOf}
+use Rattle.overlay_state.specs.Place.{Sought, endOf}
 use Rattle.overlay_state.specs.declared.Place.{Place}
 use Rattle.overlay_state.specs.Cut.{upTo, since, unlessFirst, behind}
 use Rattle.overlay_state.proofs.Entries.{Stands, stands-here, first-entry}

@@ -3,7 +3,7 @@
 // A pass over ascending keys goes forward only: all its steps together read each entry's head once.
 ghost use mathlib.Core.Path.{_≡_};
 ghost use mathlib.Core.Bool.{true};
-ghost use Prim.Native.Nat.{ℕ, _≤_};
+ghost use Prim.Native.Nat.{_≤_};
 ghost use lib.ListN.{length};
 ghost use Rattle.model.specs.Bytes.{before};
 ghost use Rattle.model.specs.Path.{Path};

@@ -27,9 +27,9 @@ use Rattle.overlay_insert.specs.declared.Inserted.{Inserted}
 use Rattle.overlay_insert.specs.Insert.{insertion, ifDone}
 use Rattle.overlay_parents.specs.Judged.{asCheck}
 use Rattle.overlay_parents.proofs.Checked.{refusal-refuses, refused-stops}
-use Rattle.overlay.specs.Meets.{requested, stored, Meets, answeredOf}
-use Rattle.overlay.proofs.Settles.{last, refused-meets, inserted-meets}
-use Rattle.overlay.proofs.Firsts.{firsts}
+use Rattle.overlay_answer.specs.Meets.{requested, stored, Meets, answeredOf}
+use Rattle.overlay_answer.proofs.Settles.{last, refused-meets, inserted-meets}
+use Rattle.overlay_answer.proofs.Firsts.{firsts}
 use Rattle.overlay_mkdir.specs.Step.{afterStep}
 use Rattle.overlay_mkdir.specs.declared.Step.{Step}
 use Rattle.overlay_mkdir.specs.declared.Step.the-variants as step

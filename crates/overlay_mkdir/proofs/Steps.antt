@@ -24,7 +24,7 @@ use Rattle.overlay_parents.specs.declared.Judged.{Judged}
 use Rattle.overlay_parents.specs.declared.Judged.the-variants as judge
 use Rattle.overlay_parents.specs.Judged.{asCheck, checkOf, refuses}
 use Rattle.overlay_parents.proofs.Checked.{refusal-refuses, refused-stops}
-use Rattle.overlay.proofs.Firsts.{firsts, known}
+use Rattle.overlay_answer.proofs.Firsts.{firsts, known}
 use Rattle.overlay_mkdir.specs.Step.{afterStep}
 use Rattle.overlay_mkdir.specs.declared.Step.{Step}
 use Rattle.overlay_mkdir.specs.declared.Step.the-variants as step

@@ -18,7 +18,7 @@ ghost use Rattle.model.specs.Outcome.{outcome};
 ghost use Rattle.overlay_view.specs.Sight.{visibleKind};
 ghost use Rattle.overlay_parents.specs.Judged.{checkOf};
 ghost use Rattle.overlay_parents.specs.Dirs.{endsOf, climbs, prefixes};
-ghost use Rattle.overlay.specs.Meets.{requested, stored, Meets};
+ghost use Rattle.overlay_answer.specs.Meets.{requested, stored, Meets};
 ghost use Rattle.overlay_mkdir.specs.Step.{afterStep, Makes};
 ghost use Rattle.overlay_mkdir.specs.declared.Step.the-variants as step;
 use model::Answer;
@@ -203,7 +203,7 @@ fn judge_mkdir(
         → (isTable (now (table .entry)) rec ≡ true) × (makes (shown (tableIn (now (table .entry)) rec)
         (treeIn (now (listing .entry)))) (now (path .entry)) ≡ [])) ⌝ }
 {
-    let ready = overlay::ready(listing, table, rec, room, path);
+    let ready = overlay_answer::ready(listing, table, rec, room, path);
     match ready {
         Judged::Refused(refusal) => {
             return Plan {
@@ -252,7 +252,7 @@ pub fn mkdir(
         }
         Step::Make => {
             let inserted = overlay_dirs::insert_all(table, work, rec, path, dirs, mtime, limit);
-            return overlay::answered(inserted, rec, 0);
+            return overlay_answer::answered(inserted, rec, 0);
         }
     }
 }

@@ -18,12 +18,13 @@ use Rattle.model.proofs.Maps.{Ascending, ascends-is, is-ascends}
 use Rattle.overlay_measure.specs.Into.{into}
 use Rattle.overlay_measure.proofs.Intos.{into-puts}
 use Rattle.overlay_rename_checks.specs.Both.{earlyChecks}
+use Rattle.overlay_rename_checks.proofs.Passed.{no-roots, apart-paths}
 use Rattle.overlay_moved.proofs.Records.{Apart}
 use Rattle.overlay_moved.proofs.Moves.{rekey-same, ascending-rekey, ascending-each, topEntry, ascending-carried, inside-carried}
-use Rattle.overlay_moved.proofs.Moves.{moved-same, Parted, apart-moved, apart-paths}
+use Rattle.overlay_moved.proofs.Moves.{moved-same, Parted, apart-moved}
 use Rattle.overlay_rename_write.specs.Stretch.{deletion, move, movable, turned}
 use Rattle.overlay_rename_write.specs.Sequence.{lower, top, departures, arrivals, ordered}
-use Rattle.overlay_move.proofs.Tops.{no-roots, top-found}
+use Rattle.overlay_move.proofs.Tops.{top-found}
 use Rattle.overlay_move.proofs.Lists.{departures-are, inside-departures, arrivals-are, inside-arrivals, lower-movable}
 use Rattle.overlay_move.proofs.Ascents.{arranged, arranged-ascends}
 use Rattle.overlay_move.proofs.Makes.{arranged-makes}

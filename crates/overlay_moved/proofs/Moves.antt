@@ -1,9 +1,9 @@
--- What rename moves: its keys and their order, and that its checks keep source and destination apart.
+-- What rename moves: its keys and their order, and when nothing that moves meets what is deleted.
 -- Assumes nothing but what each law names: lists whose keys ascend, and keys at or below the source.
 use mathlib.Core.Path.{_≡_, refl, ap, ap₂, sym, _∙_}
 use mathlib.Core.Logic.{inl, inr}
 use mathlib.Core.List.{List, [], _∷_, _++_}
-use mathlib.Core.Bool.{Bool, true, false, cond, not, _||_}
+use mathlib.Core.Bool.{Bool, true, false, not, _||_}
 use mathlib.Core.Option.{Option, none, some}
 use Prim.Native.Nat.{_+_}
 use native.Mathlib.Omega.{arith}
@@ -11,18 +11,13 @@ use lib.ListN.{length, drop, length-append}
 use Rattle.model.specs.Bytes.{every}
 use Rattle.model.specs.Path.{Path, ancestors, below, rest}
 use Rattle.model.specs.Map.{Map, isNone, lookup, puts, only, each, keys, rekey, mapped}
-use Rattle.model.specs.Tree.{Node, Entry, deleted, Table, Tree, shown, aDirectory, aFile, kind, isNothing, isDirectory}
-use Rattle.model.specs.Checks.{pass, refuse, _then_, parents, notRoot, empty}
-use Rattle.model.specs.Rename.{notLink, notDeleted, noClash, present, ifDirectory, newKey, asEntry, uncovered, along, carried, moved}
+use Rattle.model.specs.Tree.{Node, Entry, deleted, Table, Tree, shown, aDirectory, aFile, kind, isDirectory}
+use Rattle.model.specs.Rename.{newKey, asEntry, uncovered, along, carried, moved}
 use Rattle.model.proofs.Orders.{Lt, Split, split, yea, nay, test, is-none, is-some, opt}
-use Rattle.model.proofs.Orders.{bot, and-true, same-refl, mem, mem-ancestors, below-irrefl, below-trans, below-rest, rest-is, rest-self, inside-both}
+use Rattle.model.proofs.Orders.{bot, and-true, same-refl, mem, mem-ancestors, below-irrefl, below-trans, below-rest, rest-is, rest-self}
 use Rattle.model.proofs.Maps.{Above, Ascending, above-trans, orElse, mapO, map-ext, ascending-mapped}
 use Rattle.model.proofs.Maps.{lookup-puts, lookup-rekey, lookup-keys, lookup-mapped, lookup-only, ascending-puts, ascending-only}
-use Rattle.model.proofs.Invariant.{kind-is, is-nothing, is-directory, is-file, is-link′, kind-at, then-pass, parents-dirs}
-use Rattle.model.proofs.Rules.{child-root, way}
-use Rattle.model.proofs.Small.{childless}
 use Rattle.fields.proofs.Common.{Lt-append}
-use Rattle.overlay_rename_checks.specs.Both.{bothChecks, earlyChecks}
 use Rattle.overlay_moved.proofs.Records.{Apart}
 
 -- the new key of a path at or below a: b, and what follows a in the path
@@ -255,64 +250,3 @@ apart-moved a b c p h q e f =
       | is-none n ↦ absurd (bot (cc (inside-none a c h q n)))
       | is-some r n ↦ cc (p q r n)
     ]
-
-module _ (t : Table) (l : Tree) where
-  -- something is shown where anything is, but for the root
-  pub some-shown : (q : Path) → (q ≡ [] → ⊥) → isNothing (kind (shown t l) q) ≡ false → (n : Node) × (shown t l q ≡ some n)
-  some-shown q r k = elim (opt (shown t l q)) [
-    | is-some n e ↦ (n, e)
-    | is-none e ↦ absurd (bot (cc (kind-at (shown t l) q none e r)))
-  ]
-
-  -- a directory that is empty is not on the way to a directory whose parents are all there
-  not-above : (a b : Path) → kind (shown t l) a ≡ aDirectory → parents 0 (shown t l) a ≡ pass → empty 1 t l b ≡ pass → below b a ≡ true → ⊥
-  not-above a b k p e h = elim (way b a h) [
-    | inl c ↦ let n = some-shown a (child-root b a c) (ap isNothing k) in childless t l b 1 e a (n .0) c (n .1)
-    | inr z ↦
-        let q = z .0 in
-        let n = some-shown q (child-root b q (z .1)) (ap isNothing (parents-dirs 0 (length a) (kind (shown t l)) a q p (z .2))) in
-        childless t l b 1 e q (n .0) (z .1) (n .1)
-  ]
-
-  -- so no destination is, where the checks on both kinds and on its children passed
-  not-under : (a b : Path) → noClash (length b) (kind (shown t l) a) (kind (shown t l) b) ≡ pass
-      → ifDirectory (kind (shown t l) a) (ifDirectory (kind (shown t l) b) (empty 1 t l b)) ≡ pass → parents 0 (shown t l) a ≡ pass
-      → below b a ≡ true → ⊥
-  not-under a b c e p h =
-      let kb = parents-dirs 0 (length a) (kind (shown t l)) a b p h in
-      elim (kind-is (kind (shown t l) a)) [
-        | is-directory ka ↦ not-above a b ka p (cc) h
-        | is-nothing ka ↦ bot (cc)
-        | is-file ka ↦ bot (cc)
-        | is-link′ ka ↦ bot (cc)
-      ]
-
-  -- and by 10 the source is not on the way to the destination
-  not-over : (a b : Path) → cond (below a b) (refuse 10 0 (length a)) pass ≡ pass → below a b ≡ true → ⊥
-  not-over a b h e = bot (cc)
-
-  -- the checks before the plan leave nothing at or below both paths, if these are not one
-  pub apart-paths : (a b : Path) → earlyChecks t l a b ≡ pass → (a ≡ b → ⊥) → Parted a b
-  apart-paths a b h ne q r f =
-      let v = shown t l in
-      let roots = notRoot 0 a then notRoot 1 b in
-      let target = parents 1 v b then notLink 1 (length b) (kind v b) in
-      let apart = cond (below a b) (refuse 10 0 (length a)) pass in
-      let vacant = ifDirectory (kind v a) (ifDirectory (kind v b) (empty 1 t l b)) in
-      let last = present (length a) (kind v a) in
-      let away = notDeleted (length a) (lookup t a) then notLink 0 (length a) (kind v a) in
-      let h1 = then-pass roots (target then (parents 0 v a then away) then bothChecks t l a b) h .1 in
-      let h2 = then-pass target ((parents 0 v a then away) then bothChecks t l a b) h1 .1 in
-      let h3 = then-pass (parents 0 v a then away) (bothChecks t l a b) h2 in
-      let p = then-pass (parents 0 v a) away (h3 .0) .0 in
-      let h4 = then-pass (noClash (length b) (kind v a) (kind v b)) (vacant then apart then last) (h3 .1) in
-      let h5 = then-pass vacant (apart then last) (h4 .1) in
-      let h6 = then-pass apart last (h5 .1) in
-      elim (opt (rest b q)) [
-        | is-none n ↦ n
-        | is-some s n ↦ absurd (elim (inside-both a b q r s f n) [
-          | inl e ↦ ne e
-          | inr (inl e) ↦ not-over a b (h6 .0) e
-          | inr (inr e) ↦ not-under a b (h4 .0) (h5 .0) p e
-        ])
-      ]

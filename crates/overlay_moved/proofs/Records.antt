@@ -88,7 +88,7 @@ count-total [] = refl
 count-total (x ∷ xs) = let i = count-total xs in omega arith
 
 -- and its charge
-charge-total : (E : ℕ) (t : Table) → charge E t ≡ total (entryCharge E) t
+pub charge-total : (E : ℕ) (t : Table) → charge E t ≡ total (entryCharge E) t
 charge-total E [] = refl
 charge-total E (x ∷ xs) = let i = charge-total E xs in omega arith
 

@@ -3,13 +3,12 @@
 -- Assumes nothing else.
 use mathlib.Core.Path.{_≡_, refl, sym, ap, _∙_}
 use mathlib.Core.Bool.{true, cond, _&&_}
-use mathlib.Core.List.{[], _∷_, _++_, append-assoc}
-use Prim.Native.Nat.{ℕ, zero, suc, _+_, _*_, _/_, _%_, _<_, _≤_}
+use mathlib.Core.List.{_++_, append-assoc}
+use Prim.Native.Nat.{ℕ, zero, suc, _+_, _≤_}
 use native.Mathlib.Omega.{arith}
 use lib.Dec.{ltb, eqb}
-use lib.ListN.{length, take, drop, getD, take-append-drop, length-append, length-drop}
-use lib.Seq.{drop-drop, length-take-le}
-use Rattle.model.specs.Bytes.{Bytes, every, number, numberAt, bytes}
+use lib.ListN.{length, drop, length-append}
+use Rattle.model.specs.Bytes.{Bytes, every, numberAt, bytes}
 use Rattle.model.specs.Path.{Path, isPath}
 use Rattle.model.specs.Map.{ascends}
 use Rattle.model.specs.Tree.{Entry}
@@ -18,44 +17,11 @@ use Rattle.model.specs.declared.Record.{Record}
 use Rattle.model.proofs.Words.{IsBytes}
 use Rattle.model.proofs.Orders.{eqb-eq, and-true}
 use Rattle.model.proofs.Codec.{entry-length}
-use Rattle.model.proofs.Formed.{bytes-drop}
 use Rattle.fields.specs.Read.{zeros}
+use Rattle.fields.proofs.Pieces.{cut, part-length, piece, grouped}
 use Rattle.overlay_open.specs.Pass.{headed, referring, inOrder, chargeOf, run}
 use Rattle.overlay_open.proofs.Steps.{Ordered, ordered}
 use Rattle.overlay_open.proofs.Rules.{Types, types, Says, says, bodyRule, in-form}
-
--- bytes, by an index and as a list
-pub bytes-of : (s : Bytes) → ((i : ℕ) → getD s i 0 < 256) → IsBytes s
-bytes-of [] h = tt
-bytes-of (b ∷ s) h = (h 0, bytes-of s (λ i. h (suc i)))
-
-bytes-take : (i : ℕ) (s : Bytes) → IsBytes s → IsBytes (take i s)
-bytes-take zero s h = tt
-bytes-take (suc i) [] h = tt
-bytes-take (suc i) (b ∷ s) h = (h .0, bytes-take i s (h .1))
-
-bytes-number : (n : ℕ) (u : Bytes) → length u ≡ n → IsBytes u → bytes n (number u) ≡ u
-bytes-number zero [] e h = refl
-bytes-number zero (b ∷ u) e h = absurd (omega arith)
-bytes-number (suc n) [] e h = absurd (omega arith)
-bytes-number (suc n) (b ∷ u) e h =
-    let l : length u ≡ n = omega arith in
-    let p : (b + 256 * number u) % 256 ≡ b = omega arith in
-    let q : (b + 256 * number u) / 256 ≡ number u = omega arith in
-    rw (p, q, bytes-number n u l (h .1))
-
--- the bytes of s from i on, cut at k
-module _ (s : Bytes) where
-  cut : (i j k : ℕ) → k ≡ i + j → drop i s ≡ take j (drop i s) ++ drop k s
-  cut i j k e = rw e (sym (take-append-drop j (drop i s)) ∙ ap (λ (l : Bytes). take j (drop i s) ++ l) (drop-drop j i s))
-
-  part-length : (i j : ℕ) → i + j ≤ length s → length (take j (drop i s)) ≡ j
-  part-length i j h = length-take-le j (drop i s) (rw length-drop (omega arith))
-
-  piece : IsBytes s → (i j k : ℕ) → k ≡ i + j → i + j ≤ length s → drop i s ≡ bytes j (numberAt s i j) ++ drop k s
-  piece bs i j k e h =
-      let b = bytes-number j (take j (drop i s)) (part-length i j h) (bytes-take j (drop i s) (bytes-drop i s bs)) in
-      cut i j k e ∙ ap (λ (l : Bytes). l ++ drop k s) (sym b)
 
 -- an entry's bytes by its numbers, its key and its body
 unfoldable laid : (n k b m z : ℕ) → Bytes → Bytes → Bytes
@@ -64,9 +30,6 @@ laid n k b m z key body = bytes 2 n ++ (bytes 2 k ++ (bytes 4 b ++ (bytes 8 m ++
 laid-entry : (key : Path) (e : Entry) → laid (length key) (typeOf e) (length (bodyOf e)) (mtimeOf e) (sizeOf e) key (bodyOf e) ≡ entryBytes key e
 unfolding laid
 laid-entry key e = refl
-
-grouped : (a b c d e k w r : Bytes) → a ++ (b ++ (c ++ (d ++ (e ++ (k ++ (w ++ r)))))) ≡ (a ++ (b ++ (c ++ (d ++ (e ++ (k ++ w)))))) ++ r
-grouped a b c d e k w r = simp append-assoc
 
 module _ (s : Bytes) (at : ℕ) where
   abbrev type : ℕ

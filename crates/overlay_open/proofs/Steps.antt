@@ -5,18 +5,16 @@ use mathlib.Core.Bool.{Bool, true, false, not, _&&_}
 use Prim.Native.Nat.{ℕ, _+_, _-_, _<_, _≤_}
 use native.Mathlib.Nat.{add-sub-cancel-left}
 use lib.Dec.{leb, ltb}
-use lib.ListN.{length, take, drop}
+use lib.ListN.{length}
 use borrow.Author.Tests.{le-leb, lt-leb, leb-true, eq-eqb, ne-eqb, not-true, not-false}
 use Rattle.model.specs.Bytes.{Bytes, numberAt, before}
 use Rattle.model.specs.Path.{Path, isPath}
 use Rattle.model.specs.Table.{keyAt, bodyAt, entryEnd}
 use Rattle.model.proofs.Orders.{and-true}
+use Rattle.fields.specs.Read.{part}
 use Rattle.overlay_open.specs.Pass.{typeRule, fits, headed, referring, inOrder}
 
 -- the bytes from a up to b
-abbrev pub part : Bytes → ℕ → ℕ → Bytes
-part s a b = take (b - a) (drop a s)
-
 module _ (s : Bytes) (at : ℕ) where
   pub fits-is : fits s at ≡ true → (at + 24 ≤ length s) × (entryEnd s at ≤ length s)
   unfolding fits

@@ -13,9 +13,9 @@ use Rattle.model.specs.Path.{Path}
 use Rattle.model.specs.Table.{keyAt, entryEnd, sized}
 use Rattle.model.specs.declared.Record.{Record}
 use Rattle.model.proofs.Orders.{and-true}
-use Rattle.fields.specs.Read.{zeros}
+use Rattle.fields.specs.Read.{zeros, part}
 use Rattle.overlay_open.specs.Pass.{inOrder, chargeOf, run, passes}
-use Rattle.overlay_open.proofs.Steps.{part, key-is, ordered}
+use Rattle.overlay_open.proofs.Steps.{key-is, ordered}
 
 -- before an entry is read: the key before it stands from `from` up to `to`, and c is charged so far
 pub record Kept (s : Bytes) (r : Record) (left at from to c : ℕ) : Type 0 where

@@ -19,13 +19,14 @@ use Rattle.model.proofs.Words.{IsBytes}
 use Rattle.model.proofs.Orders.{and-true, same-refl}
 use Rattle.model.proofs.Codec.{decoded, same-record}
 use Rattle.fields.specs.Read.{zeros}
+use Rattle.fields.proofs.Pieces.{bytes-of}
 use Rattle.fields.proofs.Zeros.{zeros-of, zeros-behind}
 use Rattle.overlay_state.specs.Place.{Standing}
 use Rattle.overlay_state.proofs.Entries.{Stands, stands, table-stands, count-is}
 use Rattle.overlay_open.specs.Pass.{headed, referring, chargeOf, run, passes}
 use Rattle.overlay_open.proofs.Steps.{Ordered, in-order}
 use Rattle.overlay_open.proofs.Rules.{form-ruled, form-body}
-use Rattle.overlay_open.proofs.Back.{bytes-of, passed}
+use Rattle.overlay_open.proofs.Back.{passed}
 
 all-five : (a b c d e : Bool) → a ≡ true → b ≡ true → c ≡ true → d ≡ true → e ≡ true → (a && b && c && d && e) ≡ true
 all-five a b c d e f g h i j = rw (f, g, h, i, j)

@@ -14,13 +14,14 @@ use Rattle.model.specs.Path.{Path, onFirst, components, isPath, ancestors}
 use Rattle.model.specs.Tree.{Kind, isNothing, isDirectory}
 use Rattle.model.specs.Checks.{Check, pass, _then_, ancestor, ancestorsIn, missing}
 use Rattle.model.proofs.Orders.{yea, nay, test}
+use Rattle.model.proofs.Codec.{path-shallow}
 use Rattle.path_security.specs.Ancestors.{nextSlash, ancestorsFrom}
 use Rattle.path_security.proofs.Ancestors.{begin, turn, done}
 use Rattle.overlay_parents.specs.Judged.{refuses}
 use Rattle.overlay_parents.specs.Dirs.{missingEnds, climbs}
 use Rattle.overlay_parents.proofs.Checked.{refused-stops, passed-on, passed-nothing}
 use Rattle.overlay_parents.proofs.Ends.{climbs-front, climbs-step}
-use Rattle.overlay_parents.proofs.Parents.{path-short, proper}
+use Rattle.overlay_parents.proofs.Parents.{proper}
 
 -- a path has one ancestor less than components
 first-length : (b : ℕ) (cs : List Bytes) → length (onFirst b cs) ≡ length cs
@@ -56,7 +57,7 @@ module _ (g : Path → Kind) (p : Path) where
   going-first k h o e b =
       let f = begin p k e in
       let z = ancestor-count p in
-      let s = path-short p h .1 in
+      let s = path-shallow p h in
       let y = ap length (f .1) in
       let d : 0 < k = elim (test (ltb k (length p))) [
         | yea w ↦ proper p k h (f .0) (ltb-true k (length p) w)

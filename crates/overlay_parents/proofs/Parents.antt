@@ -1,19 +1,15 @@
 -- The loop over a path's ancestors, from the top: at each turn the next is looked at, and what is to come decides as the whole did.
 -- Assumes nothing.
 use mathlib.Core.Path.{_≡_, refl, sym, ap, _∙_}
-use mathlib.Core.Bool.{true, false, _&&_, _||_}
+use mathlib.Core.Bool.{true, false}
 use Prim.Native.Nat.{ℕ, zero, suc, _+_, _<_, _≤_}
 use native.Mathlib.Omega.{arith}
-use lib.Dec.{leb}
 use lib.ListN.{length, take, drop}
-use borrow.Author.Tests.{leb-true}
-use Rattle.model.specs.Bytes.{Bytes, every}
-use Rattle.model.specs.Utf8.{utf8}
-use Rattle.model.specs.Path.{Path, component, components, short, isRoot, isPath, endsHere}
+use Rattle.model.specs.Bytes.{Bytes}
+use Rattle.model.specs.Path.{Path, isPath, endsHere}
 use Rattle.model.specs.Tree.{View, Kind, kind, isDirectory}
 use Rattle.model.specs.Checks.{Check, pass, _then_, parent, parentsIn, parents}
 use Rattle.model.specs.declared.Record.{Record}
-use Rattle.model.proofs.Orders.{and-true}
 use Rattle.model.proofs.Texts.{proper-ancestor}
 use Rattle.path_security.specs.Ancestors.{nextSlash, ancestorsFrom}
 use Rattle.path_security.proofs.Ancestors.{begin, turn, done, next-slash, before-slash}
@@ -23,14 +19,7 @@ use Rattle.overlay_view.specs.declared.Sight.{Sight}
 use Rattle.overlay_view.proofs.Sights.{sees-on}
 use Rattle.overlay_parents.proofs.Checked.{parent-passes, parent-stops}
 
--- a path has at most 512 bytes and 32 components; an ancestor of it is not the root
-pub path-short : (p : Path) → isPath p ≡ true → (length p ≤ 512) × (length (components p) ≤ 32)
-path-short p h =
-    let e = and-true (short p && utf8 p) (isRoot p || every component (components p)) h in
-    let f = and-true (short p) (utf8 p) (e .0) in
-    let g = and-true (leb (length p) 512) (leb (length (components p)) 32) (f .0) in
-    (leb-true (length p) 512 (g .0), leb-true (length (components p)) 32 (g .1))
-
+-- an ancestor of a path is not the root
 pub proper : (p : Path) (k : ℕ) → isPath p ≡ true → k ≡ nextSlash p k → k < length p → 0 < k
 proper p zero h e l = absurd (proper-ancestor p (take 0 p) h (before-slash p 0 l (next-slash p 0 0 e l .0)) refl)
 proper p (suc k) h e l = omega arith

@@ -17,13 +17,14 @@ use Rattle.model.proofs.Orders.{Lt, Lt-trans, yea, nay, test, bot, and-true, be
 use Rattle.model.proofs.Maps.{Ascending, ascends-is}
 use Rattle.model.proofs.Words.{Word, Worded, Words}
 use Rattle.model.proofs.Codec.{read-table}
+use Rattle.fields.specs.Read.{part}
 use Rattle.fields.proofs.Common.{before-Lt, Lt-before}
 use Rattle.overlay_state.specs.Place.{Standing, Sought}
 use Rattle.overlay_state.specs.Cut.{upTo, since}
 use Rattle.overlay_state.specs.declared.Place.{Place}
 use Rattle.overlay_state.proofs.Entries.{stands, count-is, standing-length}
 use Rattle.overlay_state.proofs.Cuts.{up-since, encode-append}
-use Rattle.overlay_parts.specs.Parts.{part, PartOf}
+use Rattle.overlay_parts.specs.Parts.{PartOf}
 
 -- what is above a path that is not before k is not before k
 still : (p q k : Path) → before p k ≡ false → Lt p q → before q k ≡ false

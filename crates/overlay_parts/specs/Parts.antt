@@ -2,17 +2,15 @@
 -- Assumes nothing.
 use mathlib.Core.Path.{_≡_}
 use mathlib.Core.Bool.{Bool, true, false, not, _&&_}
-use Prim.Native.Nat.{ℕ, _-_, _≤_}
-use lib.ListN.{length, take, drop}
+use Prim.Native.Nat.{ℕ, _≤_}
+use lib.ListN.{length}
 use Rattle.model.specs.Bytes.{Bytes, some?}
 use Rattle.model.specs.Path.{Path, below, child}
 use Rattle.model.specs.Map.{only}
 use Rattle.model.specs.Tree.{Entry, own, reference, directory, deleted, Table}
 use Rattle.model.specs.Table.{entriesAt}
+use Rattle.fields.specs.Read.{part}
 use Rattle.overlay_state.specs.Place.{Standing}
-
-abbrev pub part : Bytes → ℕ → ℕ → Bytes
-part s from to = take (to - from) (drop from s)
 
 -- n entries in the bytes s from `from` up to `to` are those of the table t below d; the part has them by itself, and the whole has them there
 pub record PartOf (s : Bytes) (t : Table) (d : Path) (from to n : ℕ) : Type 0 where

@@ -1,6 +1,6 @@
 // rename's plan and walk as one check, for a source that is a directory: both ask whether the limit allows what moving it may take.
 // Assumes a listing, a table and two paths that were checked: only this repository's crates call.
-// The plan reads heads and keys of the table up to the last below the source, and those below it twice; overlay_walk says what the walk costs.
+// The plan reads heads and keys of the table up to the last below the source, and those below it twice; overlay_descendants says what the walk costs.
 ghost use mathlib.Core.Path.{_≡_};
 ghost use mathlib.Core.Bool.{true};
 ghost use mathlib.Core.Option.{some};
@@ -72,7 +72,13 @@ fn walk_checks(listing: &[u8], table: &[u8], rec: Record, source: &[u8], budget:
         (some budget) (now (source .entry)))) ⌝ }
 {
     if is_listed_directory(listing, source) {
-        let walk = overlay_walk::collect_real_descendants(listing, table, rec, source, budget);
+        let walk = overlay_descendants::collect_real_descendants(
+            listing,
+            table,
+            rec,
+            source,
+            budget,
+        );
         return check_walked(walk, source.len() as u64);
     }
     Judged::Pass

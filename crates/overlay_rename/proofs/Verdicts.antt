@@ -26,13 +26,14 @@ use Rattle.overlay_parents.specs.declared.Judged.{Judged}
 use Rattle.overlay_parents.specs.declared.Judged.the-variants as judge
 use Rattle.overlay_parents.specs.Judged.{asCheck, checkOf, refuses}
 use Rattle.overlay_parents.proofs.Checked.{refusal-refuses, refused-stops}
-use Rattle.overlay.specs.Meets.{requested, stored, Meets}
-use Rattle.overlay.proofs.Settles.{told-so}
+use Rattle.overlay_answer.specs.Meets.{requested, stored, Meets}
+use Rattle.overlay_answer.proofs.Settles.{told-so}
 use Rattle.overlay_rename_checks.specs.Both.{earlyChecks}
 use Rattle.overlay_rename_checks.proofs.Early.{early-first}
-use Rattle.overlay_rename.specs.declared.Settled.{Settled}
-use Rattle.overlay_rename.specs.declared.Settled.the-variants as settled
-use Rattle.overlay_rename.specs.Settled.{firstChecks, directoryChecks, lastChecks, settledCheck}
+use Rattle.overlay_rename_settle.specs.declared.Settled.{Settled}
+use Rattle.overlay_rename_settle.specs.declared.Settled.the-variants as settled
+use Rattle.overlay_rename_settle.specs.Settled.{lastChecks, settledCheck}
+use Rattle.overlay_rename.specs.First.{firstChecks, directoryChecks}
 
 -- a check of directories, by whether k is one
 pub is-planned : (k m : Kind) (b : Bool) (c j : Check) → k ≡ m → b ≡ isDirectory k → b ≡ true → j ≡ c → j ≡ ifDirectory m c

@@ -17,12 +17,13 @@ use Rattle.overlay_state.specs.Place.{Standing}
 use Rattle.overlay_state.specs.declared.Place.{Place}
 use Rattle.overlay_measure.specs.Measure.{Counts}
 use Rattle.overlay_uncovered.specs.Ahead.{PartBelow}
+use Rattle.overlay_uncovered.proofs.Belows.{few-records}
 use Rattle.overlay_carried.specs.Streams.{ahead, remaining, Streaming, Carrying, Next, itemAt}
 use Rattle.overlay_carried.specs.declared.Stream.{Stream}
 use Rattle.overlay_carried.specs.declared.Head.{Head}
 use Rattle.overlay_rename_measure.proofs.Counting.{Projects}
 use Rattle.overlay_rename_measure.proofs.Putting.{Putting, size-small, putting-begun, putting-counts, putting-over, putting-on}
-use Rattle.overlay_rename_measure.proofs.Streamed.{few-entries, few-records, each-ascends}
+use Rattle.overlay_rename_measure.proofs.Streamed.{few-entries, each-ascends}
 use Rattle.overlay_rename_measure.proofs.Streamed.{ahead-ascends, item-short, nothing-ahead, first-behind}
 
 -- with the streams at u, whose places were at `from` in the beginning, `after` is the record with all deleted that is passed

@@ -24,7 +24,7 @@ use Rattle.model.proofs.Codec.{decoded, same-is, path-short}
 use Rattle.listing_parts.proofs.Places.{checked}
 use Rattle.overlay_insert.proofs.Inserts.{bounds}
 use Rattle.overlay_carried.specs.Streams.{carriedBelow}
-use Rattle.overlay_moved.proofs.Records.{Apart, total, weight, total-put, apart-used, apart-count, apart-charge}
+use Rattle.overlay_moved.proofs.Records.{Apart, weight, total-put, apart-used, apart-count, apart-charge, charge-total}
 use Rattle.overlay_moved.proofs.Moves.{rekey-same, inside-carried, ascending-carried, ascending-rekey, carried-directory}
 use Rattle.overlay_moved.proofs.Moves.{carried-file, loose-top, moved-same, apart-moved, Parted}
 use Rattle.overlay_rename_measure.specs.Tallies.{near, far, Moved, Small, Source, combined, Foretold}
@@ -67,10 +67,6 @@ far-carried t l a k h g =
 
 far-deleted : (t c : Table) (k : Path) → lookup t k ≡ none → lookup c k ≡ none → lookup (puts (each deleted (keys c)) t) k ≡ none
 far-deleted t c k h g = let p = lookup-puts (each deleted (keys c)) t k in let e = lookup-keys deleted c k in cc
-
-charge-total : (E : ℕ) (t : Table) → charge E t ≡ total (entryCharge E) t
-charge-total E [] = refl
-charge-total E (x ∷ xs) = let i = charge-total E xs in omega arith
 
 -- an entry put adds its charge, and takes that of what stood there
 charge-put : (E : ℕ) (k : Path) (v : Entry) (t : Table) → Ascending t

@@ -2,7 +2,7 @@
 -- Assumes nothing.
 use mathlib.Core.Path.{_≡_, refl, ap, sym, subst, _∙_}
 use mathlib.Core.List.{List, [], _∷_, append-nil}
-use mathlib.Core.Bool.{Bool, true, false, not, _&&_, _||_}
+use mathlib.Core.Bool.{Bool, true, false, not, _&&_, _||_, or-false}
 use Prim.Native.Nat.{ℕ, _+_, _*_, _<_, _≤_}
 use native.Mathlib.Omega.{arith}
 use lib.ListN.{length}
@@ -21,6 +21,7 @@ use Rattle.overlay_state.specs.Place.{Standing}
 use Rattle.overlay_state.specs.declared.Place.{Place}
 use Rattle.overlay_measure.specs.Measure.{Counts}
 use Rattle.overlay_uncovered.specs.Ahead.{PartBelow}
+use Rattle.overlay_uncovered.proofs.Belows.{few-records}
 use Rattle.overlay_carried.specs.Streams.{ahead, remaining, Streaming, Carrying, Next, itemAt}
 use Rattle.overlay_carried.specs.declared.Stream.{Stream}
 use Rattle.overlay_carried.specs.declared.Head.{Head}
@@ -29,7 +30,7 @@ use Rattle.overlay_rename_measure.specs.Tallies.{near, far, Counted, Mov
 use Rattle.overlay_rename_measure.specs.declared.Tally.{Tally}
 use Rattle.overlay_rename_measure.proofs.Counting.{Projects}
 use Rattle.overlay_rename_measure.proofs.Putting.{Putting, size-small, putting-begun, putting-counts, putting-over, putting-on}
-use Rattle.overlay_rename_measure.proofs.Streamed.{few-entries, few-records, ahead-ascends, item-short, item-below, nothing-ahead}
+use Rattle.overlay_rename_measure.proofs.Streamed.{few-entries, ahead-ascends, item-short, item-below, nothing-ahead}
 
 module _ {A : Type 0} where
   -- what stands at a, and what is below it, with b in the place of a
@@ -52,10 +53,6 @@ or-and : (x y z : Bool) → ((x || not y) || not z) ≡ (x || not (y && z))
 or-and true y z = refl
 or-and false true z = refl
 or-and false false z = refl
-
-or-false : (x : Bool) → (x || false) ≡ x
-or-false true = refl
-or-false false = refl
 
 lt-first : (b : Path) → 0 < length b → Lt [] b
 lt-first [] h = absurd (omega arith)

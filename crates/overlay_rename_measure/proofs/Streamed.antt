@@ -2,17 +2,17 @@
 -- Assumes nothing.
 use mathlib.Core.Path.{_≡_, refl, ap}
 use mathlib.Core.List.{List, [], _∷_}
-use mathlib.Core.Bool.{Bool, true, _&&_}
-use Prim.Native.Nat.{ℕ, zero, suc, _+_, _-_, _<_, _≤_}
+use mathlib.Core.Bool.{Bool, true}
+use Prim.Native.Nat.{ℕ, _-_, _<_, _≤_}
 use native.Mathlib.Omega.{arith}
 use lib.Dec.{leb, eqb}
 use lib.ListN.{length}
-use borrow.Author.Tests.{leb-true, eqb-true}
+use borrow.Author.Tests.{leb-true}
 use Rattle.model.specs.Bytes.{Bytes, every, before}
 use Rattle.model.specs.Path.{Path, below}
 use Rattle.model.specs.Map.{Map, ascends, only, each, keys, mapped}
 use Rattle.model.specs.Tree.{Entry, Table}
-use Rattle.model.specs.Listing.{ListingRecord, recordAt, recordEnd, filled, nodeOf, treeFrom}
+use Rattle.model.specs.Listing.{ListingRecord, recordAt, recordEnd, nodeOf, treeFrom}
 use Rattle.model.specs.Table.{bodyOf, entriesAt, keyAt, entryAt}
 use Rattle.model.specs.Rename.{asEntry, uncovered}
 use Rattle.model.proofs.Orders.{Lt, and-true, yea, nay, test, below-rest, rest-is}
@@ -20,7 +20,6 @@ use Rattle.model.proofs.Maps.{Above, above-puts, above-mapped, ascends-is, is-a
 use Rattle.model.proofs.Codec.{entry-length}
 use Rattle.fields.proofs.Common.{Lt-append}
 use Rattle.listing_parts.specs.Place.{treeAt}
-use Rattle.listing_parts.specs.Place as listing
 use Rattle.listing_parts.proofs.Places.{first-record}
 use Rattle.overlay_state.specs.Place.{Standing}
 use Rattle.overlay_state.proofs.Entries.{stands-here, count-is, standing-length}
@@ -42,16 +41,6 @@ few-entries s n w =
     let l = standing-length s n 0 w in
     let m = w .small in
     omega arith
-
-filled-long : (s : Bytes) (n at : ℕ) → filled s n at ≡ true → at + n ≤ length s
-filled-long s zero at h = let e = eqb-true at (length s) h in omega arith
-filled-long s (suc n) at h =
-    let x = and-true (leb (at + 19) (length s) && leb (recordEnd s at) (length s)) (filled s n (recordEnd s at)) h in
-    let i = filled-long s n (recordEnd s at) (x .1) in
-    omega arith
-
-pub few-records : (s : Bytes) (n : ℕ) → listing.Standing s n 0 → n ≤ 16777216
-few-records s n w = let l = filled-long s n 0 (w .full) in let m = w .small in omega arith
 
 -- what is below a stands behind a
 pub below-behind : (a k : Path) → below a k ≡ true → Lt a k

@@ -18,10 +18,11 @@ use Rattle.model.specs.Table.{keyAt, entryAt, entriesAt, encode, padded, tableI
 use Rattle.model.specs.declared.Record.{Record}
 use Rattle.model.proofs.Orders.{Split, split, bot, and-true, yea, nay, test, is-none, is-some, opt}
 use Rattle.model.proofs.Maps.{ascends-is}
+use Rattle.fields.specs.Read.{part}
 use Rattle.listing_parts.specs.Found.{foundOf}
 use Rattle.listing_parts.specs.declared.Found.{Found}
 use Rattle.listing_parts.specs.declared.Found.the-variants as found
-use Rattle.listing_parts.specs.Parts.{part, PartOf}
+use Rattle.listing_parts.specs.Parts.{PartOf}
 use Rattle.overlay_state.specs.Place.{Standing, Sought, endOf}
 use Rattle.overlay_state.specs.Cut.{firstAt}
 use Rattle.overlay_state.specs.declared.Place.{Place}

@@ -6,9 +6,9 @@ use lib.Dec.{eqb}
 use lib.ListN.{getD}
 use borrow.Author.Tests.{eq-eqb, ne-eqb}
 use Rattle.model.specs.Bytes.{Bytes, numberAt}
-use Rattle.overlay_calls.specs.declared.Kind.{Kind}
-use Rattle.overlay_calls.specs.declared.Kind.the-variants.{Write, Mkdir, Unlink, Rmdir, Rename}
-use Rattle.overlay_calls.specs.declared.Order.{Order}
+use Rattle.overlay_values.specs.declared.Kind.{Kind}
+use Rattle.overlay_values.specs.declared.Kind.the-variants.{Write, Mkdir, Unlink, Rmdir, Rename}
+use Rattle.overlay_values.specs.declared.Order.{Order}
 use Rattle.overlay_script.specs.Script.{kindOf, orderAt}
 
 module _ (k : ℕ) where

@@ -1,7 +1,8 @@
 pub mod Steps
 pub mod Turns
 pub mod Heads
-pub mod Rows
-pub mod Loops
-pub mod Results
-pub mod Demands
+pub mod Parts
+pub mod Forth
+pub mod Back
+pub mod Scripts
+pub mod Bytewise

@@ -7,10 +7,10 @@ use lib.Dec.{ltb, leb, eqb}
 use lib.ListN.{length, take, drop, getD}
 use Rattle.model.specs.Bytes.{Bytes, numberAt, same}
 use Rattle.model.specs.Calls.{Call}
-use Rattle.overlay_calls.specs.declared.Kind.{Kind}
-use Rattle.overlay_calls.specs.declared.Kind.the-variants.{Write, Mkdir, Unlink, Rmdir, Rename}
-use Rattle.overlay_calls.specs.declared.Order.{Order}
-use Rattle.overlay_calls.specs.Calls.{callOf}
+use Rattle.overlay_values.specs.declared.Kind.{Kind}
+use Rattle.overlay_values.specs.declared.Kind.the-variants.{Write, Mkdir, Unlink, Rmdir, Rename}
+use Rattle.overlay_values.specs.declared.Order.{Order}
+use Rattle.overlay_values.specs.Values.{callOf}
 
 -- a call with its limit
 pub record Step : Type 0 where

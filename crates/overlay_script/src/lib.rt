@@ -1,46 +1,19 @@
-// Scripts: lists of changing calls as bytes, which of them are well-formed, and running one.
-// Nothing is assumed: all bytes are taken as script, listing, table, work buffer and report, and any record.
-// A check is one pass over the script's steps; a run is that, and what its calls cost.
+// Scripts: lists of changing calls as bytes, which of them are well-formed, and what stands in a step.
+// The check takes any bytes; what reads a step asks that its head stands there, or the whole step: only this repository's crates call it.
+// A check is one pass over the script's steps.
 ghost use mathlib.Core.Path.{_≡_};
-ghost use mathlib.Core.Bool.{true, _&&_};
-ghost use mathlib.Core.List.{_++_};
+ghost use mathlib.Core.Bool.{_&&_};
 ghost use Prim.Native.Nat.{_+_, _*_, _≤_, _<_};
 ghost use lib.Dec.{leb};
 ghost use lib.ListN.{length};
-ghost use Rattle.model.specs.Bytes.{bytes};
-ghost use Rattle.model.specs.Runs.{begin};
-ghost use Rattle.model.specs.declared.Record as model;
-ghost use Rattle.fields.specs.Write.{overwritten};
-ghost use Rattle.overlay.specs.Meets.{stored};
-ghost use Rattle.overlay_script.specs.Script.{ruled, fits, headed, marked, stepEnd, stepAt, orderAt, stepCount, stepsIn, isScript, kindOf};
-ghost use Rattle.overlay_script.specs.Runs.{requests, rowBytes, ranOn, ranNew, leftAfter, asNew, Gives, Holds, Stepped, Finished};
-use model::Answer;
-use model::Record;
-use overlay_calls::Kind;
-use overlay_calls::Order;
-use overlay_calls::Row;
+ghost use Rattle.overlay_script.specs.Script.{ruled, fits, headed, marked, firstAt, secondAt, stepEnd, orderAt, stepCount, isScript, kindOf};
+use overlay_values::Kind;
+use overlay_values::Order;
 
-// The bytes of a script before its steps, of a step before its parts, and of a row of the report.
-const SCRIPT_HEAD: usize = 8;
+// The bytes of a script before its steps, and of a step before its parts.
+pub const SCRIPT_HEAD: usize = 8;
 
 const STEP_HEAD: usize = 24;
-
-const ROW_SIZE: usize = 32;
-
-// What running a script gives: the record after its last call, or why it is not run.
-pub enum Ran {
-    Done(Record),
-    MalformedScript,
-    ShortReport,
-}
-
-// The same, where the table is opened first.
-pub enum RanNew {
-    Done(Record),
-    MalformedTable,
-    MalformedScript,
-    ShortReport,
-}
 
 fn wide(b: u8) -> u64
     ensures { λ r. ⌜ (r ≡ b) × (r < 256) ⌝ }
@@ -70,7 +43,7 @@ fn is_marked(script: &[u8]) -> bool
 }
 
 // Where the step at `at` ends.
-fn end_of(script: &[u8], at: usize) -> usize
+pub fn end_of(script: &[u8], at: usize) -> usize
     requires { ⌜ at + 24 ≤ length (now script) ⌝ }
     ensures { λ r. ⌜ r ≡ stepEnd (now (script .entry)) at ⌝ }
 {
@@ -151,7 +124,7 @@ fn kind_of(kind: u64) -> Kind
 }
 
 // The call of the step at `at`, without its paths and data.
-fn order_at(script: &[u8], at: usize) -> Order
+pub fn order_at(script: &[u8], at: usize) -> Order
     requires { ⌜ at + 24 ≤ length (now script) ⌝ }
     ensures { λ r. ⌜ r ≡ orderAt (now (script .entry)) at ⌝ }
 {
@@ -168,156 +141,30 @@ fn order_at(script: &[u8], at: usize) -> Order
     }
 }
 
-fn put_pair(report: &mut [u8], at: usize, a: u64, b: u64)
-    requires { ⌜ at + 16 ≤ length (now report) ⌝ }
-    ensures { λ _. ⌜ now (report .exit) ≡ overwritten (now (report .entry)) at (bytes 8 a ++ bytes 8 b) ⌝ }
-{
-    fields::put64(report, at, a);
-    fields::put64(report, at + 8, b);
-}
-
-// A call's row, from `at` on.
-fn put_row(report: &mut [u8], at: usize, told: Row, charge: u64)
-    requires { ⌜ at + 32 ≤ length (now report) ⌝ }
-    ensures { λ _. ⌜ now (report .exit) ≡ overwritten (now (report .entry)) at (rowBytes told charge) ⌝ }
-{
-    put_pair(report, at, told.number, told.path);
-    put_pair(report, at + 16, told.len, charge);
-}
-
-// Makes the call of the step at `at`, and writes its row from `row` on.
-fn run_step(
-    listing: &[u8],
-    table: &mut [u8],
-    rec: Record,
-    work: &mut [u8],
-    script: &[u8],
-    at: usize,
-    report: &mut [u8],
-    row: usize,
-) -> Record
+// The step's first part; then its second.
+pub fn first_at(script: &[u8], at: usize) -> &[u8]
     requires { ⌜ (at + 24 ≤ length (now script)) × (stepEnd (now script) at ≤ length (now script)) ⌝ }
-    requires { ⌜ row + 32 ≤ length (now report) ⌝ }
-    ensures { λ r. ⌜ Stepped (now (listing .entry)) (stepAt (now (script .entry)) at) (stored (now (table .entry)) rec) (now (work .entry))
-        (now (report .entry)) row r (now (table .exit)) (now (work .exit)) (now (report .exit)) ⌝ }
+    ensures { λ r. ⌜ now r ≡ firstAt (now (script .entry)) at ⌝ }
 {
-    let n = fields::le16(script, at + 2) as usize;
-    let m = fields::le32(script, at + 4) as usize;
     let from = at + STEP_HEAD;
-    let between = from + n;
-    let to = between + m;
-    let first = &script[from..between];
-    let second = &script[between..to];
-    let order = order_at(script, at);
-    let answered = overlay_calls::make(listing, table, rec, work, first, second, order);
-    let answer = answered.answer;
-    let after = answered.record;
-    put_row(report, row, overlay_calls::told(answer), after.charge);
-    after
+    let to = from + fields::le16(script, at + 2) as usize;
+    &script[from..to]
 }
 
-// Makes the calls of a script, one after another, each with the table, the record and the work buffer that the one before it left.
-fn run_steps(
-    listing: &[u8],
-    table: &mut [u8],
-    rec: Record,
-    work: &mut [u8],
-    script: &[u8],
-    report: &mut [u8],
-) -> Record
-    requires { ⌜ isScript (now script) ≡ true ⌝ }
-    requires { ⌜ 32 * stepCount (now script) ≤ length (now report) ⌝ }
-    ensures { λ r. ⌜ Finished (leftAfter (now (listing .entry)) (stepsIn (now (script .entry))) (stored (now (table .entry)) rec) (now (work .entry)))
-        (now (report .entry)) r (now (table .exit)) (now (work .exit)) (now (report .exit)) ⌝ }
+pub fn second_at(script: &[u8], at: usize) -> &[u8]
+    requires { ⌜ (at + 24 ≤ length (now script)) × (stepEnd (now script) at ≤ length (now script)) ⌝ }
+    ensures { λ r. ⌜ now r ≡ secondAt (now (script .entry)) at ⌝ }
 {
-    let mut last = rec;
-    let mut more = fields::le32(script, 4);
-    let mut place: usize = SCRIPT_HEAD;
-    let mut row: usize = 0;
-    while 0 < more {
-        last = run_step(listing, table, last, work, script, place, report, row);
-        place = end_of(script, place);
-        row += ROW_SIZE;
-        more -= 1;
-    }
-    last
+    let from = at + STEP_HEAD + fields::le16(script, at + 2) as usize;
+    let to = end_of(script, at);
+    &script[from..to]
 }
 
 // Whether the report has a row for each step of a script that has its head.
-fn has_rows(script: &[u8], len: usize) -> bool
+pub fn has_rows(script: &[u8], len: usize) -> bool
     requires { ⌜ 8 ≤ length (now script) ⌝ }
     ensures { λ r. ⌜ r ≡ leb (32 * stepCount (now (script .entry))) len ⌝ }
 {
     let count = fields::le32(script, 4);
     32 * count <= len as u64
-}
-
-// Runs the script on a table with its record: the calls in their order, and for each a row in the report. A malformed script, or a report without a
-// row for each call, changes nothing.
-pub fn run(
-    listing: &[u8],
-    table: &mut [u8],
-    rec: Record,
-    work: &mut [u8],
-    script: &[u8],
-    report: &mut [u8],
-) -> Ran
-    ensures { λ r. ⌜ Gives (ranOn (now (listing .entry)) (stored (now (table .entry)) rec) (now (work .entry)) (now (script .entry))
-        (now (report .entry))) r (now (table .exit)) (now (work .exit)) (now (report .exit)) ⌝ }
-{
-    if !check(script) {
-        return Ran::MalformedScript;
-    }
-    if !has_rows(script, report.len()) {
-        return Ran::ShortReport;
-    }
-    let last = run_steps(listing, table, rec, work, script, report);
-    Ran::Done(last)
-}
-
-fn as_new(ran: Ran) -> RanNew
-    ensures { λ r. ⌜ r ≡ asNew ran ⌝ }
-{
-    match ran {
-        Ran::Done(last) => {
-            return RanNew::Done(last);
-        }
-        Ran::MalformedScript => {
-            return RanNew::MalformedScript;
-        }
-        Ran::ShortReport => {
-            return RanNew::ShortReport;
-        }
-    }
-}
-
-// Opens the buffer as an empty table for entries of this size, and runs the script on it. Where it is done, demand 3 of document 01 holds of its calls.
-// A refused opening changes nothing; a malformed script or a short report leaves the table opened, and empty.
-pub fn run_new(
-    listing: &[u8],
-    entry_size: u64,
-    table: &mut [u8],
-    work: &mut [u8],
-    script: &[u8],
-    report: &mut [u8],
-) -> RanNew
-    ensures { λ r. ⌜ Gives (ranNew (now (listing .entry)) «entry_size» (now (table .entry)) (now (work .entry)) (now (script .entry))
-        (now (report .entry))) r (now (table .exit)) (now (work .exit)) (now (report .exit)) ⌝ }
-    ensures { λ r. ⌜ ((last : model.Record) → r ≡ RanNew.Done last
-        → Holds (now (listing .entry)) (begin (now (listing .entry)) «entry_size» (now (table .entry)))
-        (requests (now (listing .entry)) (stepsIn (now (script .entry))) (begin (now (listing .entry)) «entry_size» (now (table .entry)) .store)
-        (now (work .entry))) (stored (now (table .exit)) last)) ⌝ }
-{
-    let opened = overlay_open::open(table, entry_size);
-    let answer = opened.answer;
-    let rec = opened.record;
-    match answer {
-        Answer::Refused(_) => {
-            return RanNew::MalformedTable;
-        }
-        Answer::Accepted(_) => {
-            let ran = run(listing, table, rec, work, script, report);
-            return as_new(ran);
-        }
-    }
 }

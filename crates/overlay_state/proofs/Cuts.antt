@@ -2,19 +2,17 @@
 -- Assumes nothing, but for `lookup-first`: paths that ascend.
 use mathlib.Core.Path.{_≡_, refl, ap, sym, _∙_}
 use mathlib.Core.List.{[], _∷_, _++_, append-assoc}
-use mathlib.Core.Bool.{Bool, true, false, cond, not}
-use mathlib.Core.Option.{Option, none, some}
+use mathlib.Core.Bool.{true, false}
 use Prim.Native.Nat.{ℕ, _+_, Ordering·lt, Ordering·eq, Ordering·gt}
 use native.Mathlib.Omega.{arith}
-use lib.ListN.{length, length-append}
 use Rattle.model.specs.Bytes.{Bytes, order, same, before}
 use Rattle.model.specs.Path.{Path}
 use Rattle.model.specs.Map.{Map, lookup, put}
 use Rattle.model.specs.Tree.{Table}
-use Rattle.model.specs.Table.{entryBytes, encode, entryCharge, charge}
-use Rattle.model.proofs.Orders.{Lt, Lt-irrefl, Lt-trans, Lt-≢, Cmp, cmp, Split, split, Tested, test, yea, nay, bot, same-refl}
-use Rattle.model.proofs.Maps.{Above, Ascending, above-trans, lookup-low}
-use Rattle.overlay_state.specs.Cut.{upTo, since, unlessFirst, behind, firstAt}
+use Rattle.model.specs.Table.{entryBytes, encode, charge}
+use Rattle.model.proofs.Orders.{Lt, Lt-irrefl, Lt-trans, Lt-≢, Cmp, cmp, Split, split, test, yea, nay, bot}
+use Rattle.model.proofs.Maps.{Ascending, above-trans, lookup-low}
+use Rattle.overlay_state.specs.Cut.{upTo, since, behind, firstAt}
 
 -- how x stands to k, both ways round
 data Sides (x k : Path) : Type 0 where

@@ -2,22 +2,22 @@
 -- Assumes nothing.
 use mathlib.Core.Path.{_≡_, refl, ap, ap₂, sym, _∙_}
 use mathlib.Core.List.{[], _∷_, _++_, append-assoc}
-use mathlib.Core.Bool.{Bool, true, false, cond, _&&_}
-use Prim.Native.Nat.{ℕ, zero, suc, _+_, _-_, _*_, _^_, _/_, _%_, _<_, _≤_}
+use mathlib.Core.Bool.{true}
+use Prim.Native.Nat.{ℕ, zero, suc, _+_, _-_, _^_, _/_, _<_, _≤_}
 use native.Mathlib.Omega.{arith}
 use native.Mathlib.Nat.{pow-succ'}
-use lib.Dec.{leb, ltb, eqb}
+use lib.Dec.{leb, eqb}
 use lib.ListN.{length, take, drop, replicate, length-append, length-drop}
 use lib.Seq.{drop-drop, drop-append-seam}
 use borrow.Author.Tests.{leb-true}
 use Rattle.model.specs.Bytes.{Bytes, every, number, numberAt, bytes, before}
 use Rattle.model.specs.Path.{Path, isPath}
 use Rattle.model.specs.Map.{ascends}
-use Rattle.model.specs.Tree.{Entry, own, reference, directory, deleted, Table}
-use Rattle.model.specs.Table.{typeOf, mtimeOf, sizeOf, bodyOf, entryBytes, encode, padded, recordOf, keyAt, bodyAt, entryOf, entryAt, entryEnd}
-use Rattle.model.specs.Table.{entriesAt, tableIn, formedBody, formedEntry, sized, isTable}
+use Rattle.model.specs.Tree.{Entry, Table}
+use Rattle.model.specs.Table.{typeOf, mtimeOf, sizeOf, bodyOf, entryBytes, encode, keyAt, bodyAt, entryOf, entryAt, entryEnd}
+use Rattle.model.specs.Table.{entriesAt, tableIn, formedBody, formedEntry, isTable}
 use Rattle.model.specs.declared.Record.{Record}
-use Rattle.model.proofs.Orders.{Tested, test, yea, nay, and-true}
+use Rattle.model.proofs.Orders.{test, yea, nay, and-true}
 use Rattle.model.proofs.Maps.{ascends-is, is-ascends, above-trans}
 use Rattle.model.proofs.Codec.{decoded, number-bytes, path-short, entry-length}
 use Rattle.overlay_state.specs.Place.{Standing, endOf}

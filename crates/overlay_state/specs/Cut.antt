@@ -1,6 +1,6 @@
 -- A map whose paths ascend, cut at a path.
 -- Assumes nothing: each function is defined on every list.
-use mathlib.Core.Bool.{Bool, cond}
+use mathlib.Core.Bool.{cond}
 use mathlib.Core.List.{[], _∷_}
 use mathlib.Core.Option.{Option, none, some}
 use Rattle.model.specs.Bytes.{same, before}

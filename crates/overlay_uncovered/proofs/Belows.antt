@@ -4,35 +4,48 @@ use mathlib.Core.Path.{_≡_, refl, ap, _∙_}
 use mathlib.Core.List.{List, [], _∷_}
 use mathlib.Core.Bool.{Bool, true, false, cond, _&&_}
 use mathlib.Core.Option.{none}
-use Prim.Native.Nat.{ℕ, _-_, _≤_}
+use Prim.Native.Nat.{ℕ, zero, suc, _+_, _-_, _≤_}
 use native.Mathlib.Omega.{arith}
+use lib.Dec.{leb}
 use lib.ListN.{length, drop, length-drop}
 use lib.Seq.{length-take-le}
-use borrow.Author.Tests.{le-leb}
+use borrow.Author.Tests.{le-leb, eqb-true}
 use Rattle.model.specs.Bytes.{Bytes, every}
 use Rattle.model.specs.Path.{Path, isPath, below}
 use Rattle.model.specs.Map.{Map, lookup, isNone, ascends, only, keys}
 use Rattle.model.specs.Tree.{Table, Tree, kind, isDirectory}
-use Rattle.model.specs.Listing.{ListingRecord, records, ruled, placed, formedRecord, treeFrom, treeIn, isListing}
+use Rattle.model.specs.Listing.{ListingRecord, recordEnd, records, filled, ruled, placed, formedRecord, treeFrom, treeIn, isListing}
 use Rattle.model.specs.Rename.{uncovered}
 use Rattle.model.proofs.Orders.{bot, and-true, is-none, is-some, opt, yea, nay, test}
 use Rattle.model.proofs.Maps.{above-only, ascends-is, is-ascends, ascending-only, lookup-only}
 use Rattle.model.proofs.Codec.{path-short}
-use Rattle.listing_parts.specs.Place.{treeAt}
-use Rattle.listing_parts.specs.Parts.{part, PartOf}
+use Rattle.fields.specs.Read.{part}
+use Rattle.listing_parts.specs.Place.{treeAt, Standing}
+use Rattle.listing_parts.specs.Parts.{PartOf}
 use Rattle.listing_parts.proofs.Places.{checked}
 use Rattle.listing_parts.proofs.Parts.{part-tree}
 use Rattle.listing_parts.proofs.Steps.{not-listed-below}
 use Rattle.overlay_uncovered.specs.Ahead.{fitting, Placed, PartBelow, toCome}
 
-only-both : {A : Type 0} (f g : Path → Bool) (xs : Map A) → only f (only g xs) ≡ only (λ q. f q && g q) xs
+only-both : {A : Type 0} (f g : Path → Bool) (xs : Map A) → only f (only g xs) ≡ only (λ q. g q && f q) xs
 only-both f g [] = refl
 only-both f g (x ∷ xs) =
     let ih = only-both f g xs in
     elim (test (g (x .0))) [
       | yea e ↦ elim (test (f (x .0))) [ yea d ↦ rw (e, d, ih) | nay d ↦ rw (e, d, ih) ]
-      | nay e ↦ elim (test (f (x .0))) [ yea d ↦ rw (e, d, ih) | nay d ↦ rw (e, d, ih) ]
+      | nay e ↦ rw (e, ih)
     ]
+
+-- a listing's bytes have no more records than they are
+filled-long : (s : Bytes) (n at : ℕ) → filled s n at ≡ true → at + n ≤ length s
+filled-long s zero at h = let e = eqb-true at (length s) h in omega arith
+filled-long s (suc n) at h =
+    let x = and-true (leb (at + 19) (length s) && leb (recordEnd s at) (length s)) (filled s n (recordEnd s at)) h in
+    let i = filled-long s n (recordEnd s at) (x .1) in
+    omega arith
+
+pub few-records : (s : Bytes) (n : ℕ) → Standing s n 0 → n ≤ 16777216
+few-records s n w = let l = filled-long s n 0 (w .full) in let m = w .small in omega arith
 
 -- every listed path is short
 short-below : (l : Tree) (d : Path) (rs : List ListingRecord) → every (formedRecord l) rs ≡ true → every (fitting d) (keys (only (below d) (treeFrom rs))) ≡ true
@@ -99,5 +112,5 @@ module _ (s : Bytes) (d : Path) (h : isListing s ≡ true) where
     }
 
     -- and what is uncovered in it is what is uncovered below d in the whole listing
-    pub part-uncovered : (t : Table) → toCome t d (part s from to) n 0 ≡ only (λ q. uncovered t d q && below d q) (treeIn s)
+    pub part-uncovered : (t : Table) → toCome t d (part s from to) n 0 ≡ only (λ q. below d q && uncovered t d q) (treeIn s)
     part-uncovered t = ap (only (uncovered t d)) tree ∙ only-both (uncovered t d) (below d) (treeIn s)

@@ -70,7 +70,7 @@ every-append : (f : Path → Bool) (ps qs : List Path) → every f (ps ++ qs) �
 every-append f [] qs = refl
 every-append f (p ∷ ps) qs = let ih = every-append f ps qs in elim (test (f p)) [ yea z ↦ rw z ih | nay z ↦ rw z ]
 
-every-all : (f : Path → Bool) (ps : List Path) → ((q : Path) → mem q ps ≡ true → f q ≡ true) → every f ps ≡ true
+pub every-all : (f : Path → Bool) (ps : List Path) → ((q : Path) → mem q ps ≡ true → f q ≡ true) → every f ps ≡ true
 every-all f [] h = refl
 every-all f (p ∷ ps) h =
     rw (h p (rw (same-refl p))) (every-all f ps (λ q m. h q (elim (split p q) [ Split.eq e w ↦ rw w | Split.ne e w ↦ rw w m ])))

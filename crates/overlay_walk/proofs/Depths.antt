@@ -1,57 +1,25 @@
 -- How deep a walk goes: as deep as the tree or deeper is the same, and a listing is at most 32 deep.
 -- Assumes nothing.
-use mathlib.Core.Path.{_≡_, refl, _∙_}
+use mathlib.Core.Path.{_≡_, refl}
 use mathlib.Core.List.{List, [], _∷_}
-use mathlib.Core.Bool.{true, cond, _&&_, _||_}
+use mathlib.Core.Bool.{true, _&&_, _||_}
 use mathlib.Core.Option.{Option}
 use Prim.Native.Nat.{ℕ, zero, suc, _+_, _≤_}
 use native.Mathlib.Omega.{arith}
-use lib.Dec.{eqb, leb}
+use lib.Dec.{leb}
 use lib.ListN.{length}
 use borrow.Author.Tests.{leb-true}
-use Rattle.model.specs.Bytes.{Bytes, every}
+use Rattle.model.specs.Bytes.{every}
 use Rattle.model.specs.Utf8.{utf8}
-use Rattle.model.specs.Path.{Path, components, onFirst, component, short, isRoot, isPath, slashless, child}
+use Rattle.model.specs.Path.{Path, components, component, short, isRoot, isPath, child}
 use Rattle.model.specs.Map.{lookup, isNone}
 use Rattle.model.specs.Tree.{Table, Tree}
 use Rattle.model.specs.Listing.{ListingRecord, ruled, placed, formedRecord, treeFrom}
 use Rattle.model.specs.Rename.{Walk, visits, children, lastFirst, walk, depth}
-use Rattle.model.proofs.Orders.{bot, yea, nay, test, and-true, eqb-eq}
+use Rattle.model.proofs.Orders.{yea, nay, test, and-true}
+use Rattle.model.proofs.Walks.{level, child-level}
 use Rattle.overlay_walk.proofs.Cuts.{each-of, each-only}
 use Rattle.overlay_walk.proofs.Enters.{met, all-found, enter-same}
-
--- how deep a path stands
-abbrev level : Path → ℕ
-level p = length (components p)
-
-level-same : (b : ℕ) (cs : List Bytes) → length (onFirst b cs) ≡ length cs
-level-same b [] = refl
-level-same b (c ∷ cs) = refl
-
-level-cons : (b : ℕ) (s : Path) → level (b ∷ s) ≡ cond (eqb b 47) 1 0 + level s
-level-cons b s = elim (test (eqb b 47)) [
-  | yea e ↦ rw e (omega arith)
-  | nay e ↦ let f = level-same b (components s) in rw e (omega arith)
-]
-
-slashless-level : (u : Path) → slashless u ≡ true → level u ≡ 1
-slashless-level [] h = refl
-slashless-level (c ∷ u) h = elim (test (eqb c 47)) [
-  | yea e ↦ absurd (bot (cc))
-  | nay e ↦ let ih = slashless-level u (cc) in level-cons c u ∙ rw e (omega arith)
-]
-
-child-level : (d q : Path) → child d q ≡ true → level q ≡ suc (level d)
-child-level [] [] h = absurd (bot (cc))
-child-level [] (c ∷ q) h =
-    let e = and-true (eqb c 47) (slashless q) h in
-    let f = slashless-level q (e .1) in
-    level-cons c q ∙ rw (e .0) (omega arith)
-child-level (a ∷ d) [] h = absurd (bot (cc))
-child-level (a ∷ d) (c ∷ q) h =
-    let e = and-true (eqb a c) (child d q) h in
-    let ih = child-level d q (e .1) in
-    rw (level-cons a d, level-cons c q, eqb-eq a c (e .0)) (omega arith)
 
 -- at the tree's depth a directory has no children
 no-children : (t : Table) (d : Path) (l : Tree) → depth l ≤ level d → children t l d ≡ []

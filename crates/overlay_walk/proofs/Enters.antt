@@ -39,7 +39,7 @@ enter-same g h P k [] a w = refl
 enter-same g h P k (d ∷ ds) a w = ap (enter g ds) (k d (a .0) w) ∙ enter-same g h P k ds (a .1) (h d w)
 
 -- those found before wait until those found later were entered
-found-first : (g : Path → Walk → Walk) (xs : Tree) (ds : List Path) (w : Walk) → enter g (lastFirst xs ds) w ≡ enter g ds (enter g (lastFirst xs []) w)
+pub found-first : (g : Path → Walk → Walk) (xs : Tree) (ds : List Path) (w : Walk) → enter g (lastFirst xs ds) w ≡ enter g ds (enter g (lastFirst xs []) w)
 found-first g [] ds w = refl
 found-first g (x ∷ xs) ds w = elim (test (isDirectory (kindOf (some (x .1))))) [
   | yea e ↦ rw e (found-first g xs (x .0 ∷ ds) w ∙ sym (ap (enter g ds) (found-first g xs (x .0 ∷ []) w)))

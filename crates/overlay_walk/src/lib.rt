@@ -1,4 +1,4 @@
-// `collect_real_descendants` of overlay.rs: rename's walk over the listed paths below its source, with its budget.
+// rename's walk in its order: asked only where a link is reached and the budget is exceeded too, since there the one that comes first is the answer.
 // Assumes a listing and a table that were checked, and a path: only this repository's crates call.
 // A record or an entry is passed a few times at each of 32 levels, once for each of 20 halvings there, and for each directory whose path it begins with.
 ghost use mathlib.Core.Path.{_≡_};
@@ -6,7 +6,6 @@ ghost use mathlib.Core.Bool.{true, _&&_};
 ghost use mathlib.Core.Option.{some};
 ghost use Prim.Native.Nat.{_+_, _-_, _*_, _≤_, _<_};
 ghost use lib.ListN.{length};
-ghost use Rattle.model.specs.Bytes.{before};
 ghost use Rattle.model.specs.Path.{Path, isPath, child};
 ghost use Rattle.model.specs.Map.{lookup, isNone};
 ghost use Rattle.model.specs.Tree.{Node, kindOf, isDirectory};
@@ -427,7 +426,7 @@ fn enter_stretch(
 
 // The walk below a source, from 2 × its length + 1 on: its children are visited, then the directories among them entered. A path has at most 32
 // components, so 32 levels, of which the source's children are the first, reach all that is listed.
-pub fn collect_real_descendants(
+pub fn walk_in_order(
     listing: &[u8],
     table: &[u8],
     rec: model::Record,

@@ -6,8 +6,8 @@ use model::Answer;
 use model::Answered;
 use model::Finding;
 use model::Record;
-use overlay_calls::Kind;
-use overlay_calls::Order;
+use overlay_values::Kind;
+use overlay_values::Order;
 
 const LARGE: u64 = 1_000_000;
 
@@ -457,9 +457,12 @@ fn is(finding: Finding, yes: bool) -> bool {
 
 // Whether is_file and is_dir say of a path what the plain tree has there.
 fn is_seen(listing: &[u8], table: &[u8], rec: Record, path: &[u8], kind: u8) -> bool {
-    let a = is(overlay::is_file(listing, table, rec, path), kind == FILE);
+    let a = is(
+        overlay_queries::is_file(listing, table, rec, path),
+        kind == FILE,
+    );
     let b = is(
-        overlay::is_dir(listing, table, rec, path),
+        overlay_queries::is_dir(listing, table, rec, path),
         kind == DIRECTORY,
     );
     a & b
@@ -562,7 +565,7 @@ fn step(
     let must = judged(kinds, call);
     let done = made(listing, names, table, old, work, given, call);
     let answer = done.answer;
-    let number = overlay_calls::told(answer).number;
+    let number = overlay_values::told(answer).number;
     effect(kinds, call, number == 0);
     let left = is_left_well(listing, names, table, old, work, kinds, given, done, call);
     counted(

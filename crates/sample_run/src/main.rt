@@ -6,7 +6,7 @@ ghost use mathlib.Core.Path.{_≡_};
 ghost use Prim.Native.Nat.{_+_, _≤_, _<_};
 ghost use lib.ListN.{length};
 use libc::STDOUT_FILENO;
-use overlay_script::RanNew;
+use overlay_run::RanNew;
 
 // What each entry is charged beside its bytes, as the Rust has it.
 const ENTRY_SIZE: u64 = 40;
@@ -99,7 +99,7 @@ fn run_list(
     work: &mut [u8],
     report: &mut [u8],
 ) -> RanNew {
-    overlay_script::run_new(listing, ENTRY_SIZE, table, work, script, report)
+    overlay_run::run_new(listing, ENTRY_SIZE, table, work, script, report)
 }
 
 // What a run came to. The line of one that was not done says why.

@@ -4,7 +4,6 @@ ghost use Prim.Native.Nat.{_≤_};
 
 mod tell;
 
-use model::Answered;
 use model::Record;
 
 const ENTRY_SIZE: u64 = 40;

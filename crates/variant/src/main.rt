@@ -1,9 +1,9 @@
 // Runs a script of calls on an empty table over a published plan, and prints what each call answered and the charge after it.
 // Usage: variant LISTING SCRIPT. Both are files of less than 1 MiB; the table has 1 MiB, and the report room for 32,768 calls.
-// The run is `overlay_script::run_new`, whose contract has demand 3 in it. What is printed is read from its report.
+// The run is `overlay_run::run_new`, whose contract has demand 3 in it. What is printed is read from its report.
 mod show;
 
-use overlay_script::RanNew;
+use overlay_run::RanNew;
 
 // What each entry is charged beside its bytes, as the Rust has it.
 const ENTRY_SIZE: u64 = 40;
@@ -32,7 +32,7 @@ fn run_files(listing: &[u8], script: &[u8], table: &mut [u8], work: &mut [u8], r
         say(b"variant: the first file is not a listing\n");
         return;
     }
-    let ran = overlay_script::run_new(listing, ENTRY_SIZE, table, work, script, report);
+    let ran = overlay_run::run_new(listing, ENTRY_SIZE, table, work, script, report);
     match ran {
         RanNew::Done(rec) => {
             show::calls(script, report);

@@ -2,7 +2,6 @@
 -- Assumes nothing.
 use mathlib.Core.Path.{ap}
 use Prim.Native.Nat.{ℕ}
-use Rattle.listing_parts.specs.declared.Place.{Place}
 use Rattle.listing_parts.proofs.Places.{checked, standing-all}
 use Rattle.listing_parts.proofs.first_record.Statement.{statement}
 use Rattle.listing_parts.proofs.first_record.Tie as tie

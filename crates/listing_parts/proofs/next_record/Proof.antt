@@ -5,7 +5,6 @@ use Prim.Native.Nat.{ℕ, _+_, _-_}
 use native.Mathlib.Omega.{arith}
 use borrow.Author.Needs.{needs}
 use Rattle.listing_parts.specs.Place.{Standing}
-use Rattle.listing_parts.specs.declared.Place.{Place}
 use Rattle.listing_parts.proofs.Places.{stands}
 use Rattle.listing_parts.proofs.next_record.Statement.{statement}
 use Rattle.listing_parts.proofs.next_record.Tie as tie

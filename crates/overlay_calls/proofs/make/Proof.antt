@@ -1,7 +1,7 @@
 -- `make` meets its contract: each kind is made by its own call.
 -- Assumes nothing.
 use borrow.Author.Needs.{needs}
-use Rattle.overlay.specs.Meets.{stored}
+use Rattle.overlay_answer.specs.Meets.{stored}
 use Rattle.overlay_calls.proofs.Cases.{by-kind}
 use Rattle.overlay_calls.proofs.make.Statement.{statement}
 use Rattle.overlay_calls.proofs.make.Tie as tie

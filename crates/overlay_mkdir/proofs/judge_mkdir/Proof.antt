@@ -8,7 +8,7 @@ use Rattle.model.specs.Tree.{shown, kind}
 use Rattle.model.specs.Listing.{isListing, treeIn}
 use Rattle.model.specs.Table.{isTable, tableIn}
 use Rattle.model.specs.Checks.{_then_, mkdirAt, mkdirParents}
-use Rattle.overlay.proofs.Firsts.{firsts}
+use Rattle.overlay_answer.proofs.Firsts.{firsts}
 use Rattle.overlay_mkdir.proofs.Steps.{on-refused, ready-known, ready-on, refused-not-make, refused-not-there}
 use Rattle.overlay_mkdir.proofs.judge_mkdir.Statement.{statement}
 use Rattle.overlay_mkdir.proofs.judge_mkdir.Tie as tie

@@ -3,7 +3,8 @@
 use mathlib.Core.Path.{ap, _∙_}
 use borrow.Author.Needs.{needs}
 use Rattle.model.specs.Bytes.{before}
-use Rattle.overlay_open.proofs.Steps.{part, key-is}
+use Rattle.fields.specs.Read.{part}
+use Rattle.overlay_open.proofs.Steps.{key-is}
 use Rattle.overlay_open.proofs.is_behind.Statement.{statement}
 use Rattle.overlay_open.proofs.is_behind.Tie as tie
 

@@ -1,7 +1,8 @@
 -- `overlay_open::is_in_order` meets its contract: one law for each exit.
 -- Assumes nothing.
 use borrow.Author.Needs.{needs}
-use Rattle.overlay_open.proofs.Steps.{part, fits-is, fitting, not-fitting, not-headed, not-keyed, not-referring, by-order}
+use Rattle.fields.specs.Read.{part}
+use Rattle.overlay_open.proofs.Steps.{fits-is, fitting, not-fitting, not-headed, not-keyed, not-referring, by-order}
 use Rattle.overlay_open.proofs.is_in_order.Statement.{statement}
 use Rattle.overlay_open.proofs.is_in_order.Tie as tie
 

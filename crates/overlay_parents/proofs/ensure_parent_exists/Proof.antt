@@ -11,10 +11,11 @@ use Rattle.model.specs.Tree.{shown, kind}
 use Rattle.model.specs.Listing.{treeIn}
 use Rattle.model.specs.Table.{tableIn}
 use Rattle.model.specs.Checks.{parents, parentsIn}
+use Rattle.model.proofs.Codec.{path-short}
 use Rattle.path_security.specs.Ancestors.{ancestorsFrom}
 use Rattle.overlay_view.specs.Sight.{visibleKind}
 use Rattle.overlay_parents.specs.Judged.{checkOf}
-use Rattle.overlay_parents.proofs.Parents.{path-short, Along, along-first, along-look, along-next, parents-first, parents-last, parents-next, parents-stop}
+use Rattle.overlay_parents.proofs.Parents.{Along, along-first, along-look, along-next, parents-first, parents-last, parents-next, parents-stop}
 use Rattle.overlay_parents.proofs.ensure_parent_exists.Statement.{statement}
 use Rattle.overlay_parents.proofs.ensure_parent_exists.Tie as tie
 
@@ -74,7 +75,7 @@ returns c =
 add-next-ancestor : tie.Need-add-next-ancestor Inv-loop μ-loop
 add-next-ancestor c =
     let i = c .before .before .before .before .before .before .before .before .before .before .before in
-    record { fits = omega (arith, path-short (i .args .path .now) (i .pre .1 .1) .0) }
+    record { fits = omega (arith, path-short (i .args .path .now) (i .pre .1 .1)) }
 
 next-ancestor-requires-2 : tie.Need-next-ancestor-requires-2 Inv-loop μ-loop
 next-ancestor-requires-2 c κs = search needs

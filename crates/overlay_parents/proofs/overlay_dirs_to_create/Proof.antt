@@ -9,11 +9,12 @@ use borrow.Author.Needs.{needs}
 use Rattle.model.specs.Tree.{shown, kind}
 use Rattle.model.specs.Listing.{treeIn}
 use Rattle.model.specs.Table.{tableIn}
+use Rattle.model.proofs.Codec.{path-short}
 use Rattle.overlay_view.specs.Sight.{visibleKind}
 use Rattle.overlay_parents.specs.Judged.{checkOf}
 use Rattle.overlay_parents.specs.Dirs.{endsOf, climbs}
 use Rattle.overlay_parents.proofs.Checked.{refused-not-passed}
-use Rattle.overlay_parents.proofs.Parents.{path-short, Along, along-first, along-look, along-next}
+use Rattle.overlay_parents.proofs.Parents.{Along, along-first, along-look, along-next}
 use Rattle.overlay_parents.proofs.Missing.{Going, going-first, going-last, going-climbed, going-room, going-stop, going-next}
 use Rattle.overlay_parents.proofs.overlay_dirs_to_create.Statement.{statement}
 use Rattle.overlay_parents.proofs.overlay_dirs_to_create.Tie as tie
@@ -91,7 +92,7 @@ with-ancestor-requires c κs =
 add-next-ancestor : tie.Need-add-next-ancestor Inv-loop μ-loop
 add-next-ancestor c =
     let i = c .before .before .before .before .before .before .before .before .before .before .before .before .before in
-    record { fits = omega (arith, path-short (i .args .path .now) (i .pre .1 .1 .0) .0) }
+    record { fits = omega (arith, path-short (i .args .path .now) (i .pre .1 .1 .0)) }
 
 next-ancestor-requires-2 : tie.Need-next-ancestor-requires-2 Inv-loop μ-loop
 next-ancestor-requires-2 c κs = search needs

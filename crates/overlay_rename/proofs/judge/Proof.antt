@@ -7,7 +7,7 @@ use Rattle.model.specs.Checks.{_then_, limited}
 use Rattle.overlay_parents.specs.Judged.{checkOf}
 use Rattle.overlay_checks.proofs.Thens.{ends, goes-on}
 use Rattle.overlay_rename_checks.specs.Both.{earlyChecks}
-use Rattle.overlay_rename.specs.Settled.{firstChecks, directoryChecks}
+use Rattle.overlay_rename.specs.First.{firstChecks, directoryChecks}
 use Rattle.overlay_rename.proofs.Verdicts.{ready-known}
 use Rattle.overlay_rename.proofs.judge.Statement.{statement}
 use Rattle.overlay_rename.proofs.judge.Tie as tie

@@ -6,7 +6,7 @@ use lib.ListN.{length}
 use Rattle.model.specs.Listing.{treeIn}
 use Rattle.model.specs.Table.{tableIn}
 use Rattle.overlay_view.specs.Sight.{visibleKind}
-use Rattle.overlay_rename.proofs.Settling.{kind-whole}
+use Rattle.overlay_rename_checks.proofs.Passed.{kind-whole}
 use Rattle.overlay_rename.proofs.Verdicts.{judged-refused, known, early, settled-refused, settled-fits, settled-done}
 use Rattle.overlay_rename.proofs.rename.Statement.{statement}
 use Rattle.overlay_rename.proofs.rename.Tie as tie

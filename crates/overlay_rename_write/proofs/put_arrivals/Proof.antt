@@ -1,12 +1,11 @@
 -- `put_arrivals` meets its contract: the destination comes first, and what is below it behind.
 -- Assumes nothing.
-use mathlib.Core.List.{[], _∷_, _++_}
+use mathlib.Core.List.{[], _∷_}
 use borrow.Author.Needs.{needs}
 use Rattle.model.specs.Listing.{treeIn}
-use Rattle.model.specs.Tree.{deleted}
 use Rattle.model.specs.Table.{tableIn}
-use Rattle.overlay_rename_write.specs.Stretch.{deletion, move, turned}
-use Rattle.overlay_rename_write.specs.Sequence.{lower, top, departures, arrivals}
+use Rattle.overlay_rename_write.specs.Stretch.{move, turned}
+use Rattle.overlay_rename_write.specs.Sequence.{lower, top}
 use Rattle.overlay_rename_write.proofs.Sequences.{fits-first, fits-second, both-put}
 use Rattle.overlay_rename_write.proofs.put_arrivals.Statement.{statement}
 use Rattle.overlay_rename_write.proofs.put_arrivals.Tie as tie

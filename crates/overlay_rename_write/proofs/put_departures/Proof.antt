@@ -1,12 +1,12 @@
 -- `put_departures` meets its contract: the source comes first, and what is below it behind.
 -- Assumes nothing.
-use mathlib.Core.List.{[], _∷_, _++_}
+use mathlib.Core.List.{[], _∷_}
 use borrow.Author.Needs.{needs}
 use Rattle.model.specs.Listing.{treeIn}
 use Rattle.model.specs.Tree.{deleted}
 use Rattle.model.specs.Table.{tableIn}
-use Rattle.overlay_rename_write.specs.Stretch.{deletion, move, turned}
-use Rattle.overlay_rename_write.specs.Sequence.{lower, top, departures, arrivals}
+use Rattle.overlay_rename_write.specs.Stretch.{deletion, turned}
+use Rattle.overlay_rename_write.specs.Sequence.{lower}
 use Rattle.overlay_rename_write.proofs.Sequences.{fits-first, fits-second, both-put}
 use Rattle.overlay_rename_write.proofs.put_departures.Statement.{statement}
 use Rattle.overlay_rename_write.proofs.put_departures.Tie as tie

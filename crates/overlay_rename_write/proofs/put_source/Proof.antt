@@ -4,7 +4,7 @@ use mathlib.Core.Path.{refl}
 use mathlib.Core.List.{[]}
 use borrow.Author.Needs.{needs}
 use Rattle.model.specs.Tree.{deleted}
-use Rattle.overlay_rename_write.proofs.Items.{room-of, put-of, deleted-written}
+use Rattle.overlay_rename_write.proofs.Items.{room-of, deleted-written}
 use Rattle.overlay_rename_write.proofs.Sequences.{one-room, one-put}
 use Rattle.overlay_rename_write.proofs.put_source.Statement.{statement}
 use Rattle.overlay_rename_write.proofs.put_source.Tie as tie

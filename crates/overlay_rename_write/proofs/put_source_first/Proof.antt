@@ -1,12 +1,9 @@
 -- `put_source_first` meets its contract: one stretch comes behind the other.
 -- Assumes nothing.
-use mathlib.Core.List.{[], _∷_, _++_}
 use borrow.Author.Needs.{needs}
 use Rattle.model.specs.Listing.{treeIn}
-use Rattle.model.specs.Tree.{deleted}
 use Rattle.model.specs.Table.{tableIn}
-use Rattle.overlay_rename_write.specs.Stretch.{deletion, move, turned}
-use Rattle.overlay_rename_write.specs.Sequence.{lower, top, departures, arrivals}
+use Rattle.overlay_rename_write.specs.Sequence.{departures, arrivals}
 use Rattle.overlay_rename_write.proofs.Sequences.{fits-first, fits-second, both-put}
 use Rattle.overlay_rename_write.proofs.put_source_first.Statement.{statement}
 use Rattle.overlay_rename_write.proofs.put_source_first.Tie as tie

@@ -3,10 +3,10 @@
 use mathlib.Core.List.{[], _∷_, _++_}
 use borrow.Author.Needs.{needs}
 use Rattle.model.specs.Listing.{treeIn}
-use Rattle.model.specs.Tree.{deleted, Table}
+use Rattle.model.specs.Tree.{Table}
 use Rattle.model.specs.Table.{tableIn}
-use Rattle.overlay_rename_write.specs.Stretch.{deletion, move, turned}
-use Rattle.overlay_rename_write.specs.Sequence.{lower, top, departures, arrivals}
+use Rattle.overlay_rename_write.specs.Stretch.{move, turned}
+use Rattle.overlay_rename_write.specs.Sequence.{lower, top, departures}
 use Rattle.overlay_rename_write.proofs.Sequences.{fits-first, fits-second, both-put}
 use Rattle.overlay_rename_write.proofs.put_source_within.Statement.{statement}
 use Rattle.overlay_rename_write.proofs.put_source_within.Tie as tie

@@ -4,7 +4,6 @@ use mathlib.Core.Path.{ap₂}
 use Prim.Native.Nat.{ℕ, _+_, _-_}
 use native.Mathlib.Omega.{arith}
 use borrow.Author.Needs.{needs}
-use Rattle.overlay_state.specs.declared.Place.{Place}
 use Rattle.overlay_state.proofs.Entries.{stands-here}
 use Rattle.overlay_state.proofs.Seeks.{stands-next}
 use Rattle.overlay_state.proofs.next_entry.Statement.{statement}

@@ -2,7 +2,7 @@
 -- Assumes nothing.
 use mathlib.Core.Path.{_∙_}
 use native.Mathlib.Omega.{arith}
-use lib.ListN.{length, length-set}
+use lib.ListN.{length-set}
 use borrow.Author.Needs.{needs}
 use Rattle.overlay_uncovered.proofs.Covers.{stepped}
 use Rattle.overlay_uncovered.proofs.cover.Statement.{statement}

@@ -1,7 +1,6 @@
 -- `parent_end` meets its contract: no slash stands behind the place that the search back has come to.
 -- Assumes nothing.
 use mathlib.Core.Path.{refl}
-use native.Mathlib.Omega.{arith}
 use borrow.Author.Needs.{needs}
 use Rattle.overlay_uncovered.proofs.Parents.{Back, back-start, back-found, back-on, back-end}
 use Rattle.overlay_uncovered.proofs.parent_end.Statement.{statement}

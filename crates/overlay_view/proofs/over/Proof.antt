@@ -1,9 +1,7 @@
 -- `over` meets its contract: each case of an entry says what is visible, and without an entry it is the listing's.
 -- Assumes nothing.
-use mathlib.Core.Path.{_≡_, ap, sym, _∙_}
+use mathlib.Core.Path.{ap, sym, _∙_}
 use borrow.Author.Needs.{needs}
-use Rattle.model.specs.Bytes.{Bytes}
-use Rattle.overlay_state.specs.declared.OverlayEntry.{OverlayEntry}
 use Rattle.overlay_state.specs.Said.{saidOf}
 use Rattle.overlay_view.proofs.Sights.{over-file, over-reference, over-directory, over-deleted, over-absent}
 use Rattle.overlay_view.proofs.over.Statement.{statement}

@@ -1,5 +1,5 @@
 -- `random_run::is_too_deep` is safe and ends: the measure is how many paths are to come. Assumes nothing.
-use Prim.Native.Nat.{_-_, _≤_}
+use Prim.Native.Nat.{_-_}
 use borrow.Author.Needs.{needs}
 use Rattle.random_run.proofs.is_too_deep.Statement.{statement}
 use Rattle.random_run.proofs.is_too_deep.Tie as tie

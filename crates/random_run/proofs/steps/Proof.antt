@@ -1,7 +1,7 @@
 -- `random_run::steps` is safe and ends: each lent buffer keeps its length, and the measure is how many calls are to come. Assumes nothing.
 use mathlib.Core.Path.{_≡_, refl, _∙_}
 use lib.ListN.{length}
-use Prim.Native.Nat.{_-_, _≤_}
+use Prim.Native.Nat.{_-_}
 use borrow.Author.Needs.{needs}
 use Rattle.random_run.proofs.steps.Statement.{statement}
 use Rattle.random_run.proofs.steps.Tie as tie

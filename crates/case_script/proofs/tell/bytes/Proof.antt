@@ -1,7 +1,7 @@
 -- `tell::bytes` is safe and ends: the measure is how many bytes are to come. Assumes nothing.
 use mathlib.Core.Path.{_≡_, refl}
 use lib.ListN.{length}
-use Prim.Native.Nat.{_-_, _≤_}
+use Prim.Native.Nat.{_-_}
 use borrow.Author.Needs.{needs}
 use Rattle.case_script.proofs.tell.bytes.Statement.{statement}
 use Rattle.case_script.proofs.tell.bytes.Tie as tie

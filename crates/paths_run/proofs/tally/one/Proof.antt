@@ -1,7 +1,7 @@
 -- `paths_run::tally::one` meets its contract: each answer is put for what the definition says.
 -- Assumes nothing.
 use borrow.Author.Needs.{needs}
-use mathlib.Core.Path.{_≡_, ap, _∙_}
+use mathlib.Core.Path.{ap, _∙_}
 use mathlib.Core.Bool.{Bool, not, _&&_, _||_}
 use Rattle.paths_run.specs.Tallied.{tallied, agrees}
 use Rattle.paths_run.proofs.tally.one.Statement.{statement}

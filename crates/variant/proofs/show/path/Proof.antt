@@ -1,7 +1,7 @@
 -- `show::path` is safe and ends: the measure is how many bytes are to come. Assumes nothing.
 use mathlib.Core.Path.{_≡_, refl}
 use lib.ListN.{length}
-use Prim.Native.Nat.{_-_, _≤_}
+use Prim.Native.Nat.{_-_}
 use borrow.Author.Needs.{needs}
 use Rattle.variant.proofs.show.path.Statement.{statement}
 use Rattle.variant.proofs.show.path.Tie as tie

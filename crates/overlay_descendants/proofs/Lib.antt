@@ -1,0 +1,4 @@
+pub mod Parts
+pub mod Totals
+pub mod Summing
+pub mod Answers

@@ -1,0 +1,89 @@
+// An answer packed in one number, and a record in four lent numbers, for the exported calls.
+// Assumes four numbers, and an answer whose parts fit: only this repository's crates call.
+ghost use mathlib.Core.Path.{_≡_};
+ghost use mathlib.Core.Bool.{true, false};
+ghost use lib.ListN.{length};
+ghost use Rattle.model.specs.Answer.{refused, told, toldFinding};
+ghost use Rattle.overlay_packed.specs.Packed.{packed, Fits, ifAccepted, numbers, recordIn};
+use model::Answer;
+use model::Answered;
+use model::Finding;
+use model::Record;
+use overlay_values::Row;
+
+// The record that four numbers are.
+pub fn record_in(rec: &[u64]) -> Record
+    requires { ⌜ length (now rec) ≡ 4 ⌝ }
+    ensures { λ r. ⌜ r ≡ recordIn (now (rec .entry)) ⌝ }
+{
+    Record {
+        used: rec[0],
+        count: rec[1],
+        charge: rec[2],
+        entry_size: rec[3],
+    }
+}
+
+// The four numbers become those of `after`.
+fn store(rec: &mut [u64], after: Record)
+    requires { ⌜ length (now rec) ≡ 4 ⌝ }
+    ensures { λ _. ⌜ now (rec .exit) ≡ numbers after ⌝ }
+{
+    rec[0] = after.used;
+    rec[1] = after.count;
+    rec[2] = after.charge;
+    rec[3] = after.entry_size;
+}
+
+// A row in one number.
+fn pack(row: Row) -> u64
+    requires { ⌜ Fits (refused (row .number) (row .path) (row .len)) ⌝ }
+    ensures { λ r. ⌜ r ≡ packed (refused (row .number) (row .path) (row .len)) ⌝ }
+{
+    row.number + 256 * row.path + 65_536 * row.len
+}
+
+// A query's answer in one number.
+pub fn pack_finding(finding: Finding) -> u64
+    requires { ⌜ Fits (toldFinding finding) ⌝ }
+    ensures { λ r. ⌜ r ≡ packed (toldFinding finding) ⌝ }
+{
+    match finding {
+        Finding::Yes => return 65_536,
+        Finding::No => return 0,
+        Finding::Unanswered(refusal) => return pack(overlay_values::told_refusal(refusal)),
+    }
+}
+
+// A changing call's answer in one number.
+fn pack_answer(answer: Answer) -> u64
+    requires { ⌜ Fits (told answer) ⌝ }
+    ensures { λ r. ⌜ r ≡ packed (told answer) ⌝ }
+{
+    pack(overlay_values::told(answer))
+}
+
+fn is_accepted(answer: Answer) -> bool
+    ensures { λ r. ⌜ r ≡ ifAccepted (told answer) true false ⌝ }
+{
+    match answer {
+        Answer::Accepted(_) => return true,
+        Answer::Refused(_) => return false,
+    }
+}
+
+// The answer in one number. The record is stored where the call is accepted, and nowhere else.
+pub fn settle(rec: &mut [u64], answered: Answered) -> u64
+    requires { ⌜ length (now rec) ≡ 4 ⌝ }
+    requires { ⌜ Fits (told (answered .answer)) ⌝ }
+    ensures { λ r. ⌜ r ≡ packed (told (answered .answer)) ⌝ }
+    ensures { λ _. ⌜ now (rec .exit) ≡ ifAccepted (told (answered .answer)) (numbers (answered .«record»)) (now (rec .entry)) ⌝ }
+{
+    let answer = answered.answer;
+    let after = answered.record;
+    if is_accepted(answer) {
+        store(rec, after);
+        return pack_answer(answer);
+    }
+    pack_answer(answer)
+}

@@ -1,0 +1,4 @@
+pub mod Rows
+pub mod Loops
+pub mod Results
+pub mod Demands
