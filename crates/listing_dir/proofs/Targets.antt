@@ -6,10 +6,10 @@ use native.Mathlib.Omega.{arith}
 use lib.ListN.{length}
 use Rattle.model.specs.Path.{Path}
 use Rattle.model.specs.Tree.{View, Kind, kindOf, kind}
-use Rattle.listing_parts.specs.declared.Found.{Found}
-use Rattle.listing_parts.specs.declared.RealTarget.{RealTarget}
-use Rattle.listing_parts.specs.Found.{foundOf, foundKind, targetKind}
-use Rattle.listing_parts.proofs.Steps.{found-kind}
+use Rattle.listing_records.specs.declared.Found.{Found}
+use Rattle.listing_records.specs.declared.RealTarget.{RealTarget}
+use Rattle.listing_records.specs.Found.{foundOf, foundKind, targetKind}
+use Rattle.listing_records.proofs.Steps.{found-kind}
 
 pub root-kind : (f : View) (p : Path) → length p ≡ 0 → Kind.aDirectory ≡ kind f p
 root-kind f [] h = refl

@@ -1,5 +1,5 @@
 // Dir of overlay.rs: a reader that holds the lent listing and its count, with thin functions that give kind and record at a path.
-// The work is done by `kind_in` and listing_parts' `find_in`, on the slice and the number. A function with a Dir is proved over its MIR by hand;
+// The work is done by `kind_in` and listing_records' `find_in`, on the slice and the number. A function with a Dir is proved over its MIR by hand;
 // `kind_of` and `find`, whose parameters are plain, serve every other caller.
 // Assumes bytes that are a listing: only this repository's crates call, after a check.
 ghost use mathlib.Core.Path.{_≡_};
@@ -7,9 +7,9 @@ ghost use mathlib.Core.Bool.{true};
 ghost use Rattle.model.specs.Map.{lookup};
 ghost use Rattle.model.specs.Tree.{kind};
 ghost use Rattle.model.specs.Listing.{recordCount, treeIn, isListing};
-ghost use Rattle.listing_parts.specs.Found.{foundOf, targetKind};
-use listing_parts::Found;
-use listing_parts::RealTarget;
+ghost use Rattle.listing_records.specs.Found.{foundOf, targetKind};
+use listing_records::Found;
+use listing_records::RealTarget;
 
 pub struct Dir<'a> {
     pub listing: &'a [u8],
@@ -21,7 +21,7 @@ fn count_in(listing: &[u8]) -> u64
     requires { ⌜ isListing (now listing) ≡ true ⌝ }
     ensures { λ r. ⌜ r ≡ recordCount (now (listing .entry)) ⌝ }
 {
-    let first = listing_parts::first_record(listing);
+    let first = listing_records::first_record(listing);
     first.left
 }
 
@@ -33,8 +33,8 @@ fn kind_in(listing: &[u8], count: u64, path: &[u8]) -> RealTarget
     if path.len() == 0 {
         return RealTarget::Dir;
     }
-    let found = listing_parts::find_in(listing, count, path);
-    listing_parts::classify_target(found)
+    let found = listing_records::find_in(listing, count, path);
+    listing_records::classify_target(found)
 }
 
 impl<'a> Dir<'a> {
@@ -58,7 +58,7 @@ impl<'a> Dir<'a> {
         requires { ⌜ (isListing (now (self .listing)) ≡ true) × (self .count ≡ recordCount (now (self .listing))) ⌝ }
         ensures { λ r. ⌜ r ≡ foundOf (lookup (treeIn (now (self .entry .listing))) (now (path .entry))) ⌝ }
     {
-        listing_parts::find_in(self.listing, self.count, path)
+        listing_records::find_in(self.listing, self.count, path)
     }
 }
 

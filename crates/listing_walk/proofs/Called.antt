@@ -28,9 +28,9 @@ use denote.Triple.Statement.{Contract}
 use denote.Triple.Spec.{tripleOf}
 use denote.Triple.Walked.{says}
 use denote.Triple.Clauses.{ensured, lasts}
-use Rattle.listing_parts.specs.declared.ComponentWalk.{ComponentWalk}
-use Rattle.listing_parts.specs.declared.RealTarget.{RealTarget}
-use Rattle.listing_parts.proofs.ComponentWalk as T
+use Rattle.listing_records.specs.declared.ComponentWalk.{ComponentWalk}
+use Rattle.listing_records.specs.declared.RealTarget.{RealTarget}
+use Rattle.listing_records.proofs.ComponentWalk as T
 use Rattle.listing_walk.specs.Steps.{Steps}
 use Rattle.listing_walk.proofs.Facts.{Asked}
 use Rattle.listing_walk.proofs.Lent.{lent-at}

@@ -10,8 +10,8 @@ use contract.Monad.{fact, factI, fact-use, fact-mono}
 use Rattle.model.specs.Bytes.{Bytes}
 use Rattle.model.specs.Path.{Path, endsHere}
 use Rattle.model.specs.Listing.{isListing}
-use Rattle.listing_parts.specs.Walk.{Walks}
-use Rattle.listing_parts.specs.declared.ComponentWalk.{ComponentWalk}
+use Rattle.listing_records.specs.Walk.{Walks}
+use Rattle.listing_records.specs.declared.ComponentWalk.{ComponentWalk}
 
 -- what `step` and `step_once` require
 abbrev pub Asked : Bytes → Path → ComponentWalk → ℕ → Type 0

@@ -22,9 +22,9 @@ use denote.Lend.{lends-ref, ref-back}
 use denote.Steps.{owned}
 use denote.Struct.Steps.{spelt}
 use denote.Struct.Laws as LL
-use Rattle.listing_parts.specs.declared.ComponentWalk.{ComponentWalk}
-use Rattle.listing_parts.proofs.ComponentWalk as T
-use Rattle.listing_parts.proofs.ComponentWalk.Laws as T′
+use Rattle.listing_records.specs.declared.ComponentWalk.{ComponentWalk}
+use Rattle.listing_records.proofs.ComponentWalk as T
+use Rattle.listing_records.proofs.ComponentWalk.Laws as T′
 
 abbrev R : RattleType
 R = T.the-row

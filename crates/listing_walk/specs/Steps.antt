@@ -9,10 +9,10 @@ use Rattle.model.specs.Path.{Path}
 use Rattle.model.specs.Map.{lookup}
 use Rattle.model.specs.Tree.{kind, isDirectory}
 use Rattle.model.specs.Listing.{treeIn}
-use Rattle.listing_parts.specs.Found.{targetKind}
-use Rattle.listing_parts.specs.Walk.{Walks}
-use Rattle.listing_parts.specs.declared.ComponentWalk.{ComponentWalk}
-use Rattle.listing_parts.specs.declared.RealTarget.{RealTarget}
+use Rattle.listing_records.specs.Found.{targetKind}
+use Rattle.listing_records.specs.Walk.{Walks}
+use Rattle.listing_records.specs.declared.ComponentWalk.{ComponentWalk}
+use Rattle.listing_records.specs.declared.RealTarget.{RealTarget}
 
 -- over the listing s, at the first k bytes of p, the walk w finds r and goes on as v
 pub record Steps (s : Bytes) (p : Path) (k : ℕ) (w : ComponentWalk) (r : RealTarget) (v : ComponentWalk) : Type 0 where

@@ -1,1 +1,2 @@
-mod Changes
+pub mod Fitting
+pub mod Leaving

@@ -1,143 +1,218 @@
-// The calls of document 01 that change one entry: write_bytes, unlink and rmdir of overlay.rs.
-// Nothing is assumed: any bytes can be given as listing, table, work buffer, path and data, and any numbers as record, mtime and limit.
-// A refused call leaves all as it was; an accepted one leaves the work buffer all 0. Each is a constant number of passes over what it is lent.
+// The calls of document 01 for programs in C or Rust to link: numbers and byte slices in, the answer packed in one number out.
+// Nothing is assumed of what is lent, but that no two of the buffers overlap: any bytes and any numbers can be given. A record that is not
+// four numbers is answered with 1. A refused call leaves every lent buffer, the record too, as it was. The cost is that of the call itself.
 ghost use mathlib.Core.Path.{_≡_};
-ghost use mathlib.Core.Bool.{_&&_};
-ghost use lib.Dec.{leb};
-ghost use lib.ListN.{length};
-ghost use Rattle.model.specs.Tree.{shown};
-ghost use Rattle.model.specs.Listing.{treeIn, isListing};
-ghost use Rattle.model.specs.Table.{tableIn, isTable};
-ghost use Rattle.model.specs.Checks.{_then_, unless, form, writeChecks, unlinkChecks, rmdirChecks};
+ghost use mathlib.Core.Bool.{false, _&&_};
+ghost use Rattle.model.specs.Listing.{isListing};
+ghost use Rattle.model.specs.Table.{isTable};
 ghost use Rattle.model.specs.Calls as calls;
-ghost use Rattle.model.specs.Outcome.{outcome};
-ghost use Rattle.overlay_parents.specs.Judged.{checkOf};
-ghost use Rattle.overlay_answer.specs.Meets.{requested, stored, Meets};
-use model::Answer;
-use model::Answered;
-use model::Record;
-use overlay_parents::Judged;
+ghost use Rattle.model.specs.Outcome.{opened};
+ghost use Rattle.call_answer.specs.Meets.{requested};
+ghost use Rattle.overlay_packed.specs.Packed.{packed, ifAccepted, numbers, recordIn};
+ghost use Rattle.overlay.specs.Exported.{isFour, left, called, asked, opening};
 
-// 1 to 8 for write.
-fn judge_write(listing: &[u8], table: &[u8], rec: Record, room: usize, path: &[u8]) -> Judged
-    ensures { λ r. ⌜ checkOf r ≡ ((unless 1 (isTable (now (table .entry)) rec && leb (length (now (table .entry))) room)
-        then unless 2 (isListing (now (listing .entry))) then form 0 (now (path .entry)))
-        then writeChecks (shown (tableIn (now (table .entry)) rec) (treeIn (now (listing .entry)))) (now (path .entry))) ⌝ }
+// The numbers of a record: used, count, charge and entry size.
+const NUMBERS: usize = 4;
+
+// The answer where the record is not four numbers: that of a malformed table.
+const MALFORMED: u64 = 1;
+
+// Makes the buffer an empty table for entries of this size.
+#[no_mangle]
+pub extern "C" fn overlay_open_table(table: &mut [u8], rec: &mut [u64], entry_size: u64) -> u64
+    ensures { λ r. ⌜ r ≡ packed (opening «entry_size» (now (table .entry)) (now (rec .entry))) ⌝ }
+    ensures { λ _. ⌜ now (rec .exit) ≡ ifAccepted (opening «entry_size» (now (table .entry)) (now (rec .entry)))
+        (numbers (opened «entry_size» (now (table .entry)) .store .rec)) (now (rec .entry)) ⌝ }
+    ensures { λ _. ⌜ now (table .exit) ≡ ifAccepted (opening «entry_size» (now (table .entry)) (now (rec .entry)))
+        (opened «entry_size» (now (table .entry)) .store .table) (now (table .entry)) ⌝ }
 {
-    let ready = overlay_answer::ready(listing, table, rec, room, path);
-    if overlay_parents::is_refused(ready) {
-        return ready;
+    if rec.len() != NUMBERS {
+        return MALFORMED;
     }
-    overlay_checks::write_checks(listing, table, rec, path)
+    let answered = table_open::open(table, entry_size);
+    overlay_packed::settle(rec, answered)
 }
 
-// The data becomes the content of the path's own file, with this mtime; accepted, it answers the data's length.
-pub fn write_bytes(
+// Whether bytes are a listing; whether bytes and a record are a table.
+#[no_mangle]
+pub extern "C" fn overlay_check_listing(listing: &[u8]) -> bool
+    ensures { λ r. ⌜ r ≡ isListing (now (listing .entry)) ⌝ }
+{
+    listing_check::check(listing)
+}
+
+#[no_mangle]
+pub extern "C" fn overlay_check_table(table: &[u8], rec: &[u64]) -> bool
+    ensures { λ r. ⌜ r ≡ (isFour (now (rec .entry)) && isTable (now (table .entry)) (recordIn (now (rec .entry)))) ⌝ }
+{
+    if rec.len() != NUMBERS {
+        return false;
+    }
+    table_open::check(table, overlay_packed::record_in(rec))
+}
+
+// Whether anything but a link is visible at the path; a file; a directory.
+#[no_mangle]
+pub extern "C" fn overlay_exists(listing: &[u8], table: &[u8], rec: &[u64], path: &[u8]) -> u64
+    ensures { λ r. ⌜ r ≡ packed (asked calls.exists (now (listing .entry)) (now (path .entry)) (now (table .entry)) (now (rec .entry))) ⌝ }
+{
+    if rec.len() != NUMBERS {
+        return MALFORMED;
+    }
+    let finding = call_queries::exists(listing, table, overlay_packed::record_in(rec), path);
+    overlay_packed::pack_finding(finding)
+}
+
+#[no_mangle]
+pub extern "C" fn overlay_is_file(listing: &[u8], table: &[u8], rec: &[u64], path: &[u8]) -> u64
+    ensures { λ r. ⌜ r ≡ packed (asked calls.isFile (now (listing .entry)) (now (path .entry)) (now (table .entry)) (now (rec .entry))) ⌝ }
+{
+    if rec.len() != NUMBERS {
+        return MALFORMED;
+    }
+    let finding = call_queries::is_file(listing, table, overlay_packed::record_in(rec), path);
+    overlay_packed::pack_finding(finding)
+}
+
+#[no_mangle]
+pub extern "C" fn overlay_is_dir(listing: &[u8], table: &[u8], rec: &[u64], path: &[u8]) -> u64
+    ensures { λ r. ⌜ r ≡ packed (asked calls.isDir (now (listing .entry)) (now (path .entry)) (now (table .entry)) (now (rec .entry))) ⌝ }
+{
+    if rec.len() != NUMBERS {
+        return MALFORMED;
+    }
+    let finding = call_queries::is_dir(listing, table, overlay_packed::record_in(rec), path);
+    overlay_packed::pack_finding(finding)
+}
+
+// The data becomes the content of the path's own file, with these mtime bits.
+#[no_mangle]
+pub extern "C" fn overlay_write_bytes(
     listing: &[u8],
     table: &mut [u8],
-    rec: Record,
+    rec: &mut [u64],
     work: &mut [u8],
     path: &[u8],
-    mtime: u64,
     data: &[u8],
+    mtime: u64,
     limit: u64,
-) -> Answered
-    ensures { λ r. ⌜ Meets (outcome (now (listing .entry)) (requested (calls.write (now (path .entry)) mtime (now («data» .entry))) limit
-        (now (work .entry))) (stored (now (table .entry)) rec)) r (now (table .exit)) (now (work .exit)) ⌝ }
+) -> u64
+    ensures { λ r. ⌜ left r (now (rec .exit)) (now (table .exit)) (now (work .exit)) ≡ called (now (listing .entry))
+        (requested (calls.write (now (path .entry)) mtime (now («data» .entry))) limit (now (work .entry)))
+        (now (table .entry)) (now (rec .entry)) ⌝ }
 {
-    let judged = judge_write(listing, table, rec, work.len(), path);
-    match judged {
-        Judged::Refused(refusal) => {
-            return Answered {
-                answer: Answer::Refused(refusal),
-                record: rec,
-            };
-        }
-        Judged::Pass => {
-            let inserted = overlay_insert::insert(table, work, rec, path, 1, mtime, 0, data, limit);
-            return overlay_answer::answered(inserted, rec, data.len() as u64);
-        }
+    if rec.len() != NUMBERS {
+        return MALFORMED;
     }
+    let before = overlay_packed::record_in(&*rec);
+    let answered = call_one_path::write_bytes(
+        listing,
+        table,
+        before,
+        work,
+        path,
+        mtime,
+        data,
+        limit,
+    );
+    overlay_packed::settle(rec, answered)
 }
 
-// 1 to 8 for unlink.
-fn judge_unlink(listing: &[u8], table: &[u8], rec: Record, room: usize, path: &[u8]) -> Judged
-    ensures { λ r. ⌜ checkOf r ≡ ((unless 1 (isTable (now (table .entry)) rec && leb (length (now (table .entry))) room)
-        then unless 2 (isListing (now (listing .entry))) then form 0 (now (path .entry)))
-        then unlinkChecks (tableIn (now (table .entry)) rec) (treeIn (now (listing .entry))) (now (path .entry))) ⌝ }
-{
-    let ready = overlay_answer::ready(listing, table, rec, room, path);
-    if overlay_parents::is_refused(ready) {
-        return ready;
-    }
-    overlay_checks::unlink_checks(listing, table, rec, path)
-}
-
-// The path shows nothing from now on: its entry is a deleted one.
-pub fn unlink(
+// A directory with these mtime bits at the path; with the flag parents, at its missing ancestors too.
+#[no_mangle]
+pub extern "C" fn overlay_mkdir(
     listing: &[u8],
     table: &mut [u8],
-    rec: Record,
+    rec: &mut [u64],
+    work: &mut [u8],
+    path: &[u8],
+    parents: bool,
+    exist_ok: bool,
+    mtime: u64,
+    limit: u64,
+) -> u64
+    ensures { λ r. ⌜ left r (now (rec .exit)) (now (table .exit)) (now (work .exit)) ≡ called (now (listing .entry))
+        (requested (calls.mkdir (now (path .entry)) parents «exist_ok» mtime) limit (now (work .entry))) (now (table .entry)) (now (rec .entry)) ⌝ }
+{
+    if rec.len() != NUMBERS {
+        return MALFORMED;
+    }
+    let before = overlay_packed::record_in(&*rec);
+    let answered = call_mkdir::mkdir(
+        listing,
+        table,
+        before,
+        work,
+        path,
+        parents,
+        exist_ok,
+        mtime,
+        limit,
+    );
+    overlay_packed::settle(rec, answered)
+}
+
+// The path shows nothing from now on.
+#[no_mangle]
+pub extern "C" fn overlay_unlink(
+    listing: &[u8],
+    table: &mut [u8],
+    rec: &mut [u64],
     work: &mut [u8],
     path: &[u8],
     limit: u64,
-) -> Answered
-    ensures { λ r. ⌜ Meets (outcome (now (listing .entry)) (requested (calls.unlink (now (path .entry))) limit (now (work .entry)))
-        (stored (now (table .entry)) rec)) r (now (table .exit)) (now (work .exit)) ⌝ }
+) -> u64
+    ensures { λ r. ⌜ left r (now (rec .exit)) (now (table .exit)) (now (work .exit)) ≡ called (now (listing .entry))
+        (requested (calls.unlink (now (path .entry))) limit (now (work .entry))) (now (table .entry)) (now (rec .entry)) ⌝ }
 {
-    let judged = judge_unlink(listing, table, rec, work.len(), path);
-    match judged {
-        Judged::Refused(refusal) => {
-            return Answered {
-                answer: Answer::Refused(refusal),
-                record: rec,
-            };
-        }
-        Judged::Pass => {
-            let none = &path[..0];
-            let inserted = overlay_insert::insert(table, work, rec, path, 4, 0, 0, none, limit);
-            return overlay_answer::answered(inserted, rec, 0);
-        }
+    if rec.len() != NUMBERS {
+        return MALFORMED;
     }
-}
-
-// 1 to 9 for rmdir.
-fn judge_rmdir(listing: &[u8], table: &[u8], rec: Record, room: usize, path: &[u8]) -> Judged
-    ensures { λ r. ⌜ checkOf r ≡ ((unless 1 (isTable (now (table .entry)) rec && leb (length (now (table .entry))) room)
-        then unless 2 (isListing (now (listing .entry))) then form 0 (now (path .entry)))
-        then rmdirChecks (tableIn (now (table .entry)) rec) (treeIn (now (listing .entry))) (now (path .entry))) ⌝ }
-{
-    let ready = overlay_answer::ready(listing, table, rec, room, path);
-    if overlay_parents::is_refused(ready) {
-        return ready;
-    }
-    overlay_checks::rmdir_checks(listing, table, rec, path)
+    let before = overlay_packed::record_in(&*rec);
+    let answered = call_one_path::unlink(listing, table, before, work, path, limit);
+    overlay_packed::settle(rec, answered)
 }
 
 // The same for an empty directory.
-pub fn rmdir(
+#[no_mangle]
+pub extern "C" fn overlay_rmdir(
     listing: &[u8],
     table: &mut [u8],
-    rec: Record,
+    rec: &mut [u64],
     work: &mut [u8],
     path: &[u8],
     limit: u64,
-) -> Answered
-    ensures { λ r. ⌜ Meets (outcome (now (listing .entry)) (requested (calls.rmdir (now (path .entry))) limit (now (work .entry)))
-        (stored (now (table .entry)) rec)) r (now (table .exit)) (now (work .exit)) ⌝ }
+) -> u64
+    ensures { λ r. ⌜ left r (now (rec .exit)) (now (table .exit)) (now (work .exit)) ≡ called (now (listing .entry))
+        (requested (calls.rmdir (now (path .entry))) limit (now (work .entry))) (now (table .entry)) (now (rec .entry)) ⌝ }
 {
-    let judged = judge_rmdir(listing, table, rec, work.len(), path);
-    match judged {
-        Judged::Refused(refusal) => {
-            return Answered {
-                answer: Answer::Refused(refusal),
-                record: rec,
-            };
-        }
-        Judged::Pass => {
-            let empty = &path[..0];
-            let inserted = overlay_insert::insert(table, work, rec, path, 4, 0, 0, empty, limit);
-            return overlay_answer::answered(inserted, rec, 0);
-        }
+    if rec.len() != NUMBERS {
+        return MALFORMED;
     }
+    let before = overlay_packed::record_in(&*rec);
+    let answered = call_one_path::rmdir(listing, table, before, work, path, limit);
+    overlay_packed::settle(rec, answered)
+}
+
+// What is visible at the source, and below it, moves to the destination.
+#[no_mangle]
+pub extern "C" fn overlay_rename(
+    listing: &[u8],
+    table: &mut [u8],
+    rec: &mut [u64],
+    work: &mut [u8],
+    source: &[u8],
+    destination: &[u8],
+    limit: u64,
+) -> u64
+    ensures { λ r. ⌜ left r (now (rec .exit)) (now (table .exit)) (now (work .exit)) ≡ called (now (listing .entry))
+        (requested (calls.rename (now (source .entry)) (now (destination .entry))) limit (now (work .entry)))
+        (now (table .entry)) (now (rec .entry)) ⌝ }
+{
+    if rec.len() != NUMBERS {
+        return MALFORMED;
+    }
+    let before = overlay_packed::record_in(&*rec);
+    let answered = call_rename::rename(listing, table, before, work, source, destination, limit);
+    overlay_packed::settle(rec, answered)
 }

@@ -13,9 +13,9 @@ use Rattle.model.specs.declared.Answer.the-variants.{Refused}
 use Rattle.model.specs.declared.Finding.{Finding}
 use Rattle.model.specs.declared.Finding.the-variants.{Unanswered}
 use Rattle.model.proofs.Orders.{bot}
-use Rattle.overlay_answer.proofs.Settles.{told-as}
-use Rattle.overlay_values.specs.declared.Row.{Row}
-use Rattle.overlay_values.specs.Values.{rowOf}
+use Rattle.call_answer.proofs.Settles.{told-as}
+use Rattle.call_values.specs.declared.Row.{Row}
+use Rattle.call_values.specs.Values.{rowOf}
 use Rattle.overlay_packed.specs.Packed.{packed, Fits, ifAccepted}
 
 -- a reply's row fits where the reply does, and is packed as the reply is

@@ -5,11 +5,11 @@ ghost use mathlib.Core.Bool.{true, false};
 ghost use lib.ListN.{length};
 ghost use Rattle.model.specs.Answer.{refused, told, toldFinding};
 ghost use Rattle.overlay_packed.specs.Packed.{packed, Fits, ifAccepted, numbers, recordIn};
+use call_values::Row;
 use model::Answer;
 use model::Answered;
 use model::Finding;
 use model::Record;
-use overlay_values::Row;
 
 // The record that four numbers are.
 pub fn record_in(rec: &[u64]) -> Record
@@ -51,7 +51,7 @@ pub fn pack_finding(finding: Finding) -> u64
     match finding {
         Finding::Yes => return 65_536,
         Finding::No => return 0,
-        Finding::Unanswered(refusal) => return pack(overlay_values::told_refusal(refusal)),
+        Finding::Unanswered(refusal) => return pack(call_values::told_refusal(refusal)),
     }
 }
 
@@ -60,7 +60,7 @@ fn pack_answer(answer: Answer) -> u64
     requires { ⌜ Fits (told answer) ⌝ }
     ensures { λ r. ⌜ r ≡ packed (told answer) ⌝ }
 {
-    pack(overlay_values::told(answer))
+    pack(call_values::told(answer))
 }
 
 fn is_accepted(answer: Answer) -> bool

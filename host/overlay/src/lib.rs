@@ -1,7 +1,7 @@
 //! An overlay file table over a published listing.
 //!
 //! A table holds what was written, made, deleted and moved; the published tree below it stays as it is. The calls are
-//! those of the static library `overlay_exports`, each proved against its definition: whatever bytes are given, a call
+//! those of the static library `overlay`, each proved against its definition: whatever bytes are given, a call
 //! ends, and a refused call changes nothing. This crate keeps the buffers and gives the answers Rust's form.
 //!
 //! [`Overlay`] owns its buffers, [`OverlayMut`] borrows them, and [`raw`] has the calls on plain slices.

@@ -40,10 +40,10 @@ use denote.Exit.{yes}
 use denote.Triple.Clauses.{ensured, lasts}
 use Rattle.model.specs.Map.{lookup}
 use Rattle.model.specs.Listing.{isListing, recordCount, treeIn}
-use Rattle.listing_parts.specs.Found.{foundOf}
-use Rattle.listing_parts.specs.declared.Found.{Found}
-use Rattle.listing_parts.proofs.Found as S
-use Rattle.listing_parts.proofs.Found.Laws as S′
+use Rattle.listing_records.specs.Found.{foundOf}
+use Rattle.listing_records.specs.declared.Found.{Found}
+use Rattle.listing_records.proofs.Found as S
+use Rattle.listing_records.proofs.Found.Laws as S′
 use Rattle.listing_dir.specs.declared.Dir.{Dir}
 use Rattle.listing_dir.proofs.Dir as T
 use Rattle.listing_dir.proofs.Dir.Laws as T′

@@ -1,4 +1,4 @@
--- `step` meets its contract: a walk of its MIR, by hand. The borrow is opened, the walk is loaded and passed to listing_parts' `ComponentWalk::step` with the listing, the path and the end, the walk that it answers is stored, and the borrow is closed at it.
+-- `step` meets its contract: a walk of its MIR, by hand. The borrow is opened, the walk is loaded and passed to listing_records' `ComponentWalk::step` with the listing, the path and the end, the walk that it answers is stored, and the borrow is closed at it.
 -- All that the proof knows of the callee is that it meets its contract. The slices are Copy: what they own is had twice, once for the callee and once for the exit. The walk and the end own only facts, so they are had for nothing wherever these are known.
 -- Assumes nothing.
 use mathlib.Core.Path.{_≡_, refl, ap}
@@ -48,21 +48,21 @@ use Rattle.model.specs.Path.{endsHere}
 use Rattle.model.specs.Map.{lookup}
 use Rattle.model.specs.Tree.{kind as kindAt, isDirectory}
 use Rattle.model.specs.Listing.{isListing, treeIn}
-use Rattle.listing_parts.specs.Found.{targetKind}
-use Rattle.listing_parts.specs.Walk.{Walks}
-use Rattle.listing_parts.specs.declared.ComponentWalk.{ComponentWalk}
-use Rattle.listing_parts.specs.declared.Stepped.{Stepped}
-use Rattle.listing_parts.specs.declared.RealTarget.{RealTarget}
-use Rattle.listing_parts.proofs.ComponentWalk as T
-use Rattle.listing_parts.proofs.ComponentWalk.Laws as T′
-use Rattle.listing_parts.proofs.Stepped as S
-use Rattle.listing_parts.proofs.Stepped.Laws as S′
-use Rattle.listing_parts.proofs.RealTarget as E
-use Rattle.listing_parts.proofs.RealTarget.Laws as E′
-use Rattle.listing_parts.proofs.ComponentWalk.step as callee
-use Rattle.listing_parts.proofs.ComponentWalk.step.Symbol as callee-def
-use Rattle.listing_parts.proofs.ComponentWalk.step.Symbol.{name as #callee}
-use Rattle.listing_parts.proofs.ComponentWalk.step.Met as callee-thm
+use Rattle.listing_records.specs.Found.{targetKind}
+use Rattle.listing_records.specs.Walk.{Walks}
+use Rattle.listing_records.specs.declared.ComponentWalk.{ComponentWalk}
+use Rattle.listing_records.specs.declared.Stepped.{Stepped}
+use Rattle.listing_records.specs.declared.RealTarget.{RealTarget}
+use Rattle.listing_records.proofs.ComponentWalk as T
+use Rattle.listing_records.proofs.ComponentWalk.Laws as T′
+use Rattle.listing_records.proofs.Stepped as S
+use Rattle.listing_records.proofs.Stepped.Laws as S′
+use Rattle.listing_records.proofs.RealTarget as E
+use Rattle.listing_records.proofs.RealTarget.Laws as E′
+use Rattle.listing_records.proofs.ComponentWalk.step as callee
+use Rattle.listing_records.proofs.ComponentWalk.step.Symbol as callee-def
+use Rattle.listing_records.proofs.ComponentWalk.step.Symbol.{name as #callee}
+use Rattle.listing_records.proofs.ComponentWalk.step.Met as callee-thm
 use Rattle.listing_walk.specs.Steps.{Steps}
 use Rattle.listing_walk.proofs.Facts.{Asked, shown, learned}
 use Rattle.listing_walk.proofs.step.Key.{name as #step}

@@ -42,15 +42,15 @@ use denote.Triple.Table.{entered, cited}
 use denote.Triple.Walked.{says, needs, Stays, stay-none, stay-none-slice, walkOf, AllGo, goes-none, goes-none-slice, Walks as Walked, ends-at, walked, walk-meets}
 use denote.Triple.Clauses.{ensured}
 use denote.Exit.{yes}
-use Rattle.listing_parts.specs.declared.ComponentWalk.{ComponentWalk}
-use Rattle.listing_parts.specs.declared.Stepped.{Stepped}
-use Rattle.listing_parts.specs.declared.RealTarget.{RealTarget}
-use Rattle.listing_parts.proofs.ComponentWalk as T
-use Rattle.listing_parts.proofs.ComponentWalk.Laws as T′
-use Rattle.listing_parts.proofs.Stepped as S
-use Rattle.listing_parts.proofs.Stepped.Laws as S′
-use Rattle.listing_parts.proofs.RealTarget as E
-use Rattle.listing_parts.proofs.RealTarget.Laws as E′
+use Rattle.listing_records.specs.declared.ComponentWalk.{ComponentWalk}
+use Rattle.listing_records.specs.declared.Stepped.{Stepped}
+use Rattle.listing_records.specs.declared.RealTarget.{RealTarget}
+use Rattle.listing_records.proofs.ComponentWalk as T
+use Rattle.listing_records.proofs.ComponentWalk.Laws as T′
+use Rattle.listing_records.proofs.Stepped as S
+use Rattle.listing_records.proofs.Stepped.Laws as S′
+use Rattle.listing_records.proofs.RealTarget as E
+use Rattle.listing_records.proofs.RealTarget.Laws as E′
 use Rattle.listing_walk.specs.Steps.{Steps}
 use Rattle.listing_walk.proofs.Facts.{Asked}
 use Rattle.listing_walk.proofs.Lent.{val, lent-at, lend, back}

@@ -47,10 +47,10 @@ use denote.Triple.Clauses.{ensured, lasts}
 use Rattle.model.specs.Map.{lookup}
 use Rattle.model.specs.Tree.{kind}
 use Rattle.model.specs.Listing.{isListing, recordCount, treeIn}
-use Rattle.listing_parts.specs.Found.{targetKind}
-use Rattle.listing_parts.specs.declared.RealTarget.{RealTarget}
-use Rattle.listing_parts.proofs.RealTarget as S
-use Rattle.listing_parts.proofs.RealTarget.Laws as S′
+use Rattle.listing_records.specs.Found.{targetKind}
+use Rattle.listing_records.specs.declared.RealTarget.{RealTarget}
+use Rattle.listing_records.proofs.RealTarget as S
+use Rattle.listing_records.proofs.RealTarget.Laws as S′
 use Rattle.listing_dir.specs.declared.Dir.{Dir}
 use Rattle.listing_dir.proofs.Dir as T
 use Rattle.listing_dir.proofs.Dir.Laws as T′

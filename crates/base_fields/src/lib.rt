@@ -1,0 +1,162 @@
+// Little-endian numbers in byte slices; comparing, copying and zeroing byte slices.
+// A caller sees to it that what is read or written lies within the slice; nothing else is assumed.
+// A number costs a few reads or writes, and every other function one pass over the bytes that its result depends on.
+ghost use mathlib.Core.Path.{_≡_};
+ghost use mathlib.Core.List.{_++_};
+ghost use Prim.Native.Nat.{_+_, _-_, _≤_, _<_};
+ghost use lib.ListN.{length, take, drop, replicate};
+ghost use Rattle.model.specs.Bytes.{numberAt, bytes, order, byOrder, same, before};
+ghost use Rattle.base_fields.specs.Read.{common, zeros};
+ghost use Rattle.base_fields.specs.Write.{overwritten};
+
+fn wide(b: u8) -> u64
+    ensures { λ r. ⌜ (r ≡ b) × (r < 256) ⌝ }
+{
+    b as u64
+}
+
+// The number in the two bytes from `at` on; then in four, and in eight.
+pub fn le16(s: &[u8], at: usize) -> u64
+    requires { ⌜ at + 2 ≤ length (now s) ⌝ }
+    ensures { λ r. ⌜ (r ≡ numberAt (now (s .entry)) at 2) × (r < 0x1_0000) ⌝ }
+{
+    let low = wide(s[at]);
+    let high = wide(s[at + 1]);
+    low + 256 * high
+}
+
+pub fn le32(s: &[u8], at: usize) -> u64
+    requires { ⌜ at + 4 ≤ length (now s) ⌝ }
+    ensures { λ r. ⌜ (r ≡ numberAt (now (s .entry)) at 4) × (r < 0x1_0000_0000) ⌝ }
+{
+    let low = le16(s, at);
+    let high = le16(s, at + 2);
+    low + 0x1_0000 * high
+}
+
+pub fn le64(s: &[u8], at: usize) -> u64
+    requires { ⌜ at + 8 ≤ length (now s) ⌝ }
+    ensures { λ r. ⌜ r ≡ numberAt (now (s .entry)) at 8 ⌝ }
+{
+    let low = le32(s, at);
+    let high = le32(s, at + 4);
+    low + 0x1_0000_0000 * high
+}
+
+// Puts the low two bytes of v from `at` on; then the low four, and all eight.
+pub fn put16(t: &mut [u8], at: usize, v: u64)
+    requires { ⌜ at + 2 ≤ length (now t) ⌝ }
+    ensures { λ _. ⌜ now (t .exit) ≡ overwritten (now (t .entry)) at (bytes 2 v) ⌝ }
+{
+    t[at] = (v % 256) as u8;
+    t[at + 1] = (v / 256 % 256) as u8;
+}
+
+pub fn put32(t: &mut [u8], at: usize, v: u64)
+    requires { ⌜ at + 4 ≤ length (now t) ⌝ }
+    ensures { λ _. ⌜ now (t .exit) ≡ overwritten (now (t .entry)) at (bytes 4 v) ⌝ }
+{
+    put16(t, at, v);
+    put16(t, at + 2, v / 0x1_0000);
+}
+
+pub fn put64(t: &mut [u8], at: usize, v: u64)
+    requires { ⌜ at + 8 ≤ length (now t) ⌝ }
+    ensures { λ _. ⌜ now (t .exit) ≡ overwritten (now (t .entry)) at (bytes 8 v) ⌝ }
+{
+    put32(t, at, v);
+    put32(t, at + 4, v / 0x1_0000_0000);
+}
+
+// How many bytes the two have in common from the start. It reads up to the first byte that differs.
+pub fn shared(a: &[u8], b: &[u8]) -> usize
+    ensures { λ r. ⌜ r ≡ common (now (a .entry)) (now (b .entry)) ⌝ }
+    ensures within { λ r. ⌜ (r ≤ length (now (a .entry))) × (r ≤ length (now (b .entry))) ⌝ }
+{
+    let mut i = 0;
+    while i < a.len() {
+        if b.len() <= i {
+            return i;
+        }
+        let x = a[i];
+        let y = b[i];
+        if x != y {
+            return i;
+        }
+        i += 1;
+    }
+    i
+}
+
+// How a stands to b in the order of byte strings: 0 before it, 1 the same, 2 after it. One pass, that of `shared`.
+pub fn compared(a: &[u8], b: &[u8]) -> u64
+    ensures { λ r. ⌜ r ≡ byOrder (order (now (a .entry)) (now (b .entry))) 0 1 2 ⌝ }
+{
+    let n = shared(a, b);
+    if a.len() <= n {
+        if n < b.len() {
+            return 0;
+        }
+        return 1;
+    }
+    if b.len() <= n {
+        return 2;
+    }
+    let x = a[n];
+    let y = b[n];
+    if x < y {
+        return 0;
+    }
+    2
+}
+
+// Whether the two are the same; whether a comes before b.
+pub fn is_same(a: &[u8], b: &[u8]) -> bool
+    ensures { λ r. ⌜ r ≡ same (now (a .entry)) (now (b .entry)) ⌝ }
+{
+    compared(a, b) == 1
+}
+
+pub fn is_before(a: &[u8], b: &[u8]) -> bool
+    ensures { λ r. ⌜ r ≡ before (now (a .entry)) (now (b .entry)) ⌝ }
+{
+    compared(a, b) == 0
+}
+
+// Writes all of src from `at` on. One pass over src, however long the buffer is.
+pub fn copy_in(t: &mut [u8], at: usize, src: &[u8])
+    requires { ⌜ at + length (now src) ≤ length (now t) ⌝ }
+    ensures { λ _. ⌜ now (t .exit) ≡ overwritten (now (t .entry)) at (now (src .entry)) ⌝ }
+{
+    let mut i = 0;
+    while i < src.len() {
+        t[at + i] = src[i];
+        i += 1;
+    }
+}
+
+// Writes 0 to every byte from `from` on.
+pub fn zero_from(t: &mut [u8], from: usize)
+    requires { ⌜ from ≤ length (now t) ⌝ }
+    ensures { λ _. ⌜ now (t .exit) ≡ take from (now (t .entry)) ++ replicate (length (now (t .entry)) - from) 0 ⌝ }
+{
+    let mut at = from;
+    while at < t.len() {
+        t[at] = 0;
+        at += 1;
+    }
+}
+
+// Whether every byte from `from` on is 0. It reads up to the first that is not.
+pub fn all_zero(s: &[u8], from: usize) -> bool
+    ensures { λ r. ⌜ r ≡ zeros (drop from (now (s .entry))) ⌝ }
+{
+    let mut i = from;
+    while i < s.len() {
+        if s[i] != 0 {
+            return false;
+        }
+        i += 1;
+    }
+    true
+}

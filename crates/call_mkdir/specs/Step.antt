@@ -1,0 +1,33 @@
+-- What mkdir does once its checks are made.
+-- Assumes nothing.
+use mathlib.Core.Path.{_≡_}
+use mathlib.Core.Bool.{true}
+use Prim.Native.Nat.{ℕ, _≤_}
+use lib.ListN.{length}
+use Rattle.model.specs.Bytes.{Bytes}
+use Rattle.model.specs.Path.{Path}
+use Rattle.model.specs.Map.{puts, each}
+use Rattle.model.specs.Tree.{directory, shown}
+use Rattle.model.specs.Listing.{treeIn}
+use Rattle.model.specs.Table.{tableIn}
+use Rattle.model.specs.Checks.{Check, pass, makes}
+use Rattle.model.specs.Answer.{toldRefusal}
+use Rattle.model.specs.declared.Record.{Record}
+use Rattle.check_parents.specs.declared.Dirs.{Dirs}
+use Rattle.check_parents.specs.Judged.{asCheck}
+use Rattle.check_parents.specs.Dirs.{endsOf, climbs, prefixes}
+use Rattle.call_mkdir.specs.declared.Step.{Step}
+use Rattle.call_mkdir.specs.declared.Step.the-variants.{Make, There, Refused}
+
+-- the check that follows, `later`, is made only where something is to be made
+abbrev pub afterStep : Step → Check → Check
+afterStep Make later = later
+afterStep There later = pass
+afterStep (Refused r) later = asCheck (toldRefusal r)
+
+-- d are the directories that mkdir makes at p: put into the table s, with any mtime, they give what the definition puts
+pub record Makes (l s : Bytes) (r : Record) (p : Path) (d : Dirs) : Type 0 where
+  pub count : d .count ≤ 32
+  pub climb : climbs 0 (length p) (endsOf d) ≡ true
+  pub table : (m : ℕ) → puts (each (directory m) (prefixes p (endsOf d))) (tableIn s r)
+      ≡ puts (each (directory m) (makes (shown (tableIn s r) (treeIn l)) p)) (tableIn s r)

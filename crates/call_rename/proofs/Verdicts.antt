@@ -1,0 +1,178 @@
+-- From rename's checks, in groups, to its outcome: refused by the first that refuses, or done.
+-- Assumes nothing.
+use mathlib.Core.Path.{_≡_, refl, ap, sym, _∙_}
+use mathlib.Core.Bool.{Bool, true, false, cond, _&&_}
+use Prim.Native.Nat.{ℕ, _≤_}
+use lib.Dec.{leb}
+use lib.ListN.{length, replicate}
+use borrow.Author.Tests.{leb-true}
+use Rattle.model.specs.Bytes.{Bytes, every}
+use Rattle.model.specs.Path.{Path, isPath, short}
+use Rattle.model.specs.Map.{lookup, keys, rekey}
+use Rattle.model.specs.Tree.{Table, Tree, shown, Kind, nothing, aDirectory, aFile, aLink, kind, isDirectory}
+use Rattle.model.specs.Listing.{isListing, treeIn}
+use Rattle.model.specs.Table.{encode, padded, charge, recordOf, isTable, tableIn}
+use Rattle.model.specs.Checks.{Check, pass, refuse, _then_, unless, form, Memory, limited, charged}
+use Rattle.model.specs.Rename.{ifDirectory, plan, budget, walkFrom, walked, carried, moved, keysFit}
+use Rattle.model.specs.Calls.{rename}
+use Rattle.model.specs.Answer.{toldRefusal}
+use Rattle.model.specs.Outcome.{Request, Outcome, room, verdict, settle, outcome}
+use Rattle.model.specs.declared.Record.{Record}
+use Rattle.model.specs.declared.Refusal.{Refusal}
+use Rattle.model.specs.declared.Answer.the-variants.{Accepted, Refused}
+use Rattle.model.proofs.Orders.{bot}
+use Rattle.model.proofs.Invariant.{then-pass}
+use Rattle.check_parents.specs.declared.Judged.{Judged}
+use Rattle.check_parents.specs.declared.Judged.the-variants as judge
+use Rattle.check_parents.specs.Judged.{asCheck, checkOf, refuses}
+use Rattle.check_parents.proofs.Checked.{refusal-refuses, refused-stops}
+use Rattle.call_answer.specs.Meets.{requested, stored, Meets}
+use Rattle.call_answer.proofs.Settles.{told-so}
+use Rattle.rename_checks.specs.Both.{earlyChecks}
+use Rattle.rename_checks.proofs.Early.{early-first}
+use Rattle.rename_settle.specs.declared.Settled.{Settled}
+use Rattle.rename_settle.specs.declared.Settled.the-variants as settled
+use Rattle.rename_settle.specs.Settled.{lastChecks, settledCheck}
+use Rattle.call_rename.specs.First.{firstChecks, directoryChecks}
+
+-- a check of directories, by whether k is one
+pub is-planned : (k m : Kind) (b : Bool) (c j : Check) → k ≡ m → b ≡ isDirectory k → b ≡ true → j ≡ c → j ≡ ifDirectory m c
+is-planned k m b c j e f h g = g ∙ sym (ap (λ (x : Bool). cond x c pass) (sym (ap isDirectory e) ∙ sym f ∙ h))
+
+pub not-planned : (k m : Kind) (b : Bool) (c : Check) → k ≡ m → b ≡ isDirectory k → b ≡ false → pass ≡ ifDirectory m c
+not-planned k m b c e f h = sym (ap (λ (x : Bool). cond x c pass) (sym (ap isDirectory e) ∙ sym f ∙ h))
+
+-- two checks of directories in a row are one
+both-planned : (k : Kind) (c d : Check) → (ifDirectory k c then ifDirectory k d) ≡ ifDirectory k (c then d)
+both-planned nothing c d = refl
+both-planned aDirectory c d = refl
+both-planned aFile c d = refl
+both-planned aLink c d = refl
+
+-- the order of document 01, and the same checks in the three groups in which they are made
+regroup :
+    (a b c d e f g h i j : Check)
+    → (a then b then (c then d) then (e then f then g then h then i) then j) ≡ (((a then b then c then d) then e then (f then g)) then h then i then j)
+regroup (refuse n w k) b c d e f g h i j = refl
+regroup pass (refuse n w k) c d e f g h i j = refl
+regroup pass pass (refuse n w k) d e f g h i j = refl
+regroup pass pass pass (refuse n w k) e f g h i j = refl
+regroup pass pass pass pass (refuse n w k) f g h i j = refl
+regroup pass pass pass pass pass (refuse n w k) g h i j = refl
+regroup pass pass pass pass pass pass (refuse n w k) h i j = refl
+regroup pass pass pass pass pass pass pass (refuse n w k) i j = refl
+regroup pass pass pass pass pass pass pass pass i j = refl
+
+-- 1, 2 and 3 passed: t whether the table is one, w whether the work buffer is long enough, l whether the listing is one, p and q whether the paths are
+all-five : (t w l p q : Bool) → (unless 1 (t && w) then unless 2 l then cond p pass (refuse 3 0 0) then cond q pass (refuse 3 1 0)) ≡ pass
+    → (t ≡ true) × (w ≡ true) × (l ≡ true) × (p ≡ true) × (q ≡ true)
+all-five true true true true true h = (refl, refl, refl, refl, refl)
+all-five true true true true false h = absurd (bot (cc))
+all-five true true true false q h = absurd (bot (cc))
+all-five true true false p q h = absurd (bot (cc))
+all-five true false l p q h = absurd (bot (cc))
+all-five false w l p q h = absurd (bot (cc))
+
+-- j is what 1, 2 and 3 gave, and y whether that refuses
+pub ready-known : (l s : Bytes) (r : Record) (n : ℕ) (a b : Path) (j : Check) (y : Bool) → j ≡ firstChecks l s r n a b → y ≡ refuses j → y ≡ false
+    → (isTable s r ≡ true) × (leb (length s) n ≡ true) × (isListing l ≡ true) × (isPath a ≡ true) × (isPath b ≡ true)
+ready-known l s r n a b j y e i h =
+    all-five (isTable s r) (leb (length s) n) (isListing l) (isPath a) (isPath b) (sym e ∙ passes j (sym i ∙ h))
+  where
+    passes : (c : Check) → refuses c ≡ false → c ≡ pass
+    passes pass g = refl
+    passes (refuse m w k) g = absurd (bot (cc))
+
+-- 11, 12 and 13 passed: the keys are short, and there is room
+all-three : (c k u : Bool) → (unless 11 c then unless 12 k then unless 13 u) ≡ pass → (k ≡ true) × (u ≡ true)
+all-three true true true h = (refl, refl)
+all-three true true false h = absurd (bot (cc))
+all-three true false u h = absurd (bot (cc))
+all-three false k u h = absurd (bot (cc))
+
+module _ (l s : Bytes) (r : Record) (w : Bytes) (a b : Path) (limit : ℕ) where
+  abbrev q : Request
+  q = requested (rename a b) limit w
+
+  abbrev m : Memory
+  m = limited (r .«entry_size») limit
+
+  abbrev t : Table
+  t = tableIn s r
+
+  abbrev g : Tree
+  g = treeIn l
+
+  abbrev new : Table
+  new = moved t g a b
+
+  -- the checks before 11, and those from 11 on
+  abbrev judgement : Check
+  judgement = firstChecks l s r (length w) a b then earlyChecks t g a b then directoryChecks m t g a b
+
+  abbrev rest : Check
+  rest = lastChecks m (length s) t g a b
+
+  verdict-is : verdict l q (stored s r) ≡ (judgement then rest)
+  verdict-is =
+      let f = shown t g in
+      let one = unless 1 (isTable s r && leb (length s) (length w)) in
+      let two = unless 2 (isListing l) in
+      let thirteen = unless 13 (room l q (stored s r)) in
+      let walk = ifDirectory (kind (lookup g) a) (walked (length a) (walkFrom t g (budget m t a b) a)) in
+      ap (λ (c : Check). one then two then (form 0 a then form 1 b) then c then thirteen) (early-first m t g a b)
+      ∙ regroup one two (form 0 a) (form 1 b) (earlyChecks t g a b) (ifDirectory (kind f a) (plan m t a b)) (ifDirectory (kind f a) walk)
+      (charged m new) (keysFit m (rekey a b (carried t g a))) thirteen
+      ∙ ap (λ (c : Check). (firstChecks l s r (length w) a b then earlyChecks t g a b then c) then rest) (both-planned (kind f a) (plan m t a b) walk)
+
+  -- j is what the checks before 11 gave
+  module _ (j : Judged) (e : checkOf j ≡ judgement) where
+    pub judged-refused : (x : Refusal) → j ≡ judge.Refused x → Meets (outcome l q (stored s r)) (record { answer = Refused x; «record» = r }) s w
+    judged-refused x h =
+        let c = asCheck (toldRefusal x) in
+        told-so l q (stored s r) x (verdict-is ∙ ap (λ (y : Check). y then rest) (sym e ∙ ap checkOf h) ∙ refused-stops c rest (refusal-refuses x))
+
+    module _ (h : j ≡ judge.Pass) where
+      passed : judgement ≡ pass
+      passed = sym e ∙ ap checkOf h
+
+      -- what they have shown of what was given
+      pub known : (isTable s r ≡ true) × (leb (length s) (length w) ≡ true) × (isListing l ≡ true) × (isPath a ≡ true) × (isPath b ≡ true)
+      known =
+          all-five (isTable s r) (leb (length s) (length w)) (isListing l) (isPath a) (isPath b)
+          (then-pass (firstChecks l s r (length w) a b) (earlyChecks t g a b then directoryChecks m t g a b) passed .0)
+
+      pub early : earlyChecks t g a b ≡ pass
+      early =
+          then-pass (earlyChecks t g a b) (directoryChecks m t g a b)
+          (then-pass (firstChecks l s r (length w) a b) (earlyChecks t g a b then directoryChecks m t g a b) passed .1) .0
+
+      -- x is what 11, 12 and 13 settled
+      module _ (x : Settled) (f : settledCheck x ≡ rest) where
+        decides : verdict l q (stored s r) ≡ settledCheck x
+        decides = verdict-is ∙ ap (λ (y : Check). y then rest) passed ∙ sym f
+
+        pub settled-refused : (y : Refusal) → x ≡ settled.Refused y
+            → Meets (outcome l q (stored s r)) (record { answer = Refused y; «record» = r }) s w
+        settled-refused y k = told-so l q (stored s r) y (decides ∙ ap settledCheck k)
+
+        pub settled-fits : (after : Record) → x ≡ settled.Done after
+            → (every short (keys (rekey a b (carried t g a))) ≡ true) × (length (encode new) ≤ length s)
+        settled-fits after k =
+            let y = all-three (leb (charge (r .«entry_size») new) limit) (every short (keys (rekey a b (carried t g a))))
+            (leb (length (encode new)) (length s)) (sym f ∙ ap settledCheck k) in
+            (y .0, leb-true (length (encode new)) (length s) (y .1))
+
+        -- the table u and the work buffer v were written
+        pub settled-done : (after : Record) → x ≡ settled.Done after → after ≡ recordOf (r .«entry_size») new → (u v : Bytes)
+            → u ≡ padded (length s) (encode new) → v ≡ replicate (length w) 0
+            → Meets (outcome l q (stored s r)) (record { answer = Accepted 0; «record» = after }) u v
+        settled-done after k n u v y z =
+            let o : outcome l q (stored s r) ≡ settle pass l q (stored s r) =
+            ap (λ (c : Check). settle c l q (stored s r)) (decides ∙ ap settledCheck k) in
+            record {
+              answer = sym (ap (λ (i : Outcome). i .reply) o);
+              rec = n ∙ sym (ap (λ (i : Outcome). i .store .rec) o);
+              bytes = y ∙ sym (ap (λ (i : Outcome). i .store .table) o);
+              buffer = z ∙ sym (ap (λ (i : Outcome). i .work) o);
+            }

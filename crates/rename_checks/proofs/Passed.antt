@@ -1,0 +1,126 @@
+-- What is known once rename's checks before its plan pass: neither path is the root, the source shows a directory or a file, and nothing is at or below
+-- both paths, if these are not one.
+-- Assumes nothing.
+use mathlib.Core.Path.{_≡_, ap, sym, _∙_}
+use mathlib.Core.Logic.{inl, inr}
+use mathlib.Core.List.{[], _∷_}
+use mathlib.Core.Bool.{Bool, true, false, cond}
+use mathlib.Core.Option.{none, some}
+use Prim.Native.Nat.{ℕ}
+use lib.ListN.{length}
+use Rattle.model.specs.Path.{Path, below, rest}
+use Rattle.model.specs.Map.{lookup}
+use Rattle.model.specs.Tree.{Node, Table, Tree, shown, Kind, aDirectory, aFile, kind, isNothing, isDirectory}
+use Rattle.model.specs.Checks.{pass, refuse, _then_, parents, notRoot, empty}
+use Rattle.model.specs.Rename.{notLink, notDeleted, noClash, present, ifDirectory}
+use Rattle.model.proofs.Orders.{Lt, bot, is-none, is-some, opt, inside-both}
+use Rattle.model.proofs.Invariant.{kind-is, is-nothing, is-directory, is-file, is-link′, kind-at, then-pass, parents-dirs}
+use Rattle.model.proofs.Rules.{child-root, way}
+use Rattle.model.proofs.Small.{childless}
+use Rattle.rename_laws.proofs.Moves.{Parted}
+use Rattle.rename_checks.specs.Both.{bothChecks, earlyChecks}
+
+not-root : (w : ℕ) (p : Path) → notRoot w p ≡ pass → Lt [] p
+not-root w [] h = absurd (bot (cc))
+not-root w (c ∷ p) h = tt
+
+-- neither a link nor nothing
+regular : (n : ℕ) (k : Kind) → notLink 0 n k ≡ pass → present n k ≡ pass → k ≡ cond (isDirectory k) aDirectory aFile
+regular n k h g = elim (kind-is k) [
+  | is-nothing e ↦ absurd (bot (cc))
+  | is-directory e ↦ cc
+  | is-file e ↦ cc
+  | is-link′ e ↦ absurd (bot (cc))
+]
+
+module _ (t : Table) (l : Tree) (a b : Path) (h : earlyChecks t l a b ≡ pass) where
+  pub no-roots : Lt [] a × Lt [] b
+  no-roots =
+      let f = shown t l in
+      let target = parents 1 f b then notLink 1 (length b) (kind f b) in
+      let source = parents 0 f a then notDeleted (length a) (lookup t a) then notLink 0 (length a) (kind f a) in
+      let r = then-pass (notRoot 0 a then notRoot 1 b) (target then source then bothChecks t l a b) h .0 in
+      let e = then-pass (notRoot 0 a) (notRoot 1 b) r in
+      (not-root 0 a (e .0), not-root 1 b (e .1))
+
+  -- w is whether the source is a directory; else it is a file
+  pub kind-whole : (k : Kind) → k ≡ kind (shown t l) a → (w : Bool) → w ≡ isDirectory k → kind (shown t l) a ≡ cond w aDirectory aFile
+  kind-whole k e w d =
+      let f = shown t l in
+      let roots = notRoot 0 a then notRoot 1 b in
+      let target = parents 1 f b then notLink 1 (length b) (kind f b) in
+      let away = notDeleted (length a) (lookup t a) then notLink 0 (length a) (kind f a) in
+      let clash = noClash (length b) (kind f a) (kind f b) in
+      let vacant = ifDirectory (kind f a) (ifDirectory (kind f b) (empty 1 t l b)) in
+      let apart = cond (below a b) (refuse 10 0 (length a)) pass in
+      let there = present (length a) (kind f a) in
+      let h1 = then-pass roots (target then (parents 0 f a then away) then bothChecks t l a b) h .1 in
+      let h2 = then-pass target ((parents 0 f a then away) then bothChecks t l a b) h1 .1 in
+      let h3 = then-pass (parents 0 f a then away) (bothChecks t l a b) h2 in
+      let h4 = then-pass (parents 0 f a) away (h3 .0) .1 in
+      let link = then-pass (notDeleted (length a) (lookup t a)) (notLink 0 (length a) (kind f a)) h4 .1 in
+      let h5 = then-pass clash (vacant then apart then there) (h3 .1) .1 in
+      let h6 = then-pass vacant (apart then there) h5 .1 in
+      regular (length a) (kind f a) link (then-pass apart there h6 .1)
+      ∙ ap (λ (x : Bool). cond x aDirectory aFile) (sym (d ∙ ap isDirectory e))
+
+module _ (t : Table) (l : Tree) where
+  -- something is shown where anything is, but for the root
+  pub some-shown : (q : Path) → (q ≡ [] → ⊥) → isNothing (kind (shown t l) q) ≡ false → (n : Node) × (shown t l q ≡ some n)
+  some-shown q r k = elim (opt (shown t l q)) [
+    | is-some n e ↦ (n, e)
+    | is-none e ↦ absurd (bot (cc (kind-at (shown t l) q none e r)))
+  ]
+
+  -- a directory that is empty is not on the way to a directory whose parents are all there
+  not-above : (a b : Path) → kind (shown t l) a ≡ aDirectory → parents 0 (shown t l) a ≡ pass → empty 1 t l b ≡ pass → below b a ≡ true → ⊥
+  not-above a b k p e h = elim (way b a h) [
+    | inl c ↦ let n = some-shown a (child-root b a c) (ap isNothing k) in childless t l b 1 e a (n .0) c (n .1)
+    | inr z ↦
+        let q = z .0 in
+        let n = some-shown q (child-root b q (z .1)) (ap isNothing (parents-dirs 0 (length a) (kind (shown t l)) a q p (z .2))) in
+        childless t l b 1 e q (n .0) (z .1) (n .1)
+  ]
+
+  -- so no destination is, where the checks on both kinds and on its children passed
+  not-under : (a b : Path) → noClash (length b) (kind (shown t l) a) (kind (shown t l) b) ≡ pass
+      → ifDirectory (kind (shown t l) a) (ifDirectory (kind (shown t l) b) (empty 1 t l b)) ≡ pass → parents 0 (shown t l) a ≡ pass
+      → below b a ≡ true → ⊥
+  not-under a b c e p h =
+      let kb = parents-dirs 0 (length a) (kind (shown t l)) a b p h in
+      elim (kind-is (kind (shown t l) a)) [
+        | is-directory ka ↦ not-above a b ka p (cc) h
+        | is-nothing ka ↦ bot (cc)
+        | is-file ka ↦ bot (cc)
+        | is-link′ ka ↦ bot (cc)
+      ]
+
+  -- and by 10 the source is not on the way to the destination
+  not-over : (a b : Path) → cond (below a b) (refuse 10 0 (length a)) pass ≡ pass → below a b ≡ true → ⊥
+  not-over a b h e = bot (cc)
+
+  -- the checks before the plan leave nothing at or below both paths, if these are not one
+  pub apart-paths : (a b : Path) → earlyChecks t l a b ≡ pass → (a ≡ b → ⊥) → Parted a b
+  apart-paths a b h ne q r f =
+      let v = shown t l in
+      let roots = notRoot 0 a then notRoot 1 b in
+      let target = parents 1 v b then notLink 1 (length b) (kind v b) in
+      let apart = cond (below a b) (refuse 10 0 (length a)) pass in
+      let vacant = ifDirectory (kind v a) (ifDirectory (kind v b) (empty 1 t l b)) in
+      let last = present (length a) (kind v a) in
+      let away = notDeleted (length a) (lookup t a) then notLink 0 (length a) (kind v a) in
+      let h1 = then-pass roots (target then (parents 0 v a then away) then bothChecks t l a b) h .1 in
+      let h2 = then-pass target ((parents 0 v a then away) then bothChecks t l a b) h1 .1 in
+      let h3 = then-pass (parents 0 v a then away) (bothChecks t l a b) h2 in
+      let p = then-pass (parents 0 v a) away (h3 .0) .0 in
+      let h4 = then-pass (noClash (length b) (kind v a) (kind v b)) (vacant then apart then last) (h3 .1) in
+      let h5 = then-pass vacant (apart then last) (h4 .1) in
+      let h6 = then-pass apart last (h5 .1) in
+      elim (opt (rest b q)) [
+        | is-none n ↦ n
+        | is-some s n ↦ absurd (elim (inside-both a b q r s f n) [
+          | inl e ↦ ne e
+          | inr (inl e) ↦ not-over a b (h6 .0) e
+          | inr (inr e) ↦ not-under a b (h4 .0) (h5 .0) p e
+        ])
+      ]

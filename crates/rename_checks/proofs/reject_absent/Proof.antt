@@ -1,0 +1,40 @@
+-- `reject_absent` meets its contract: each case gives what the definition gives for it.
+-- Assumes nothing.
+use borrow.Author.Needs.{needs}
+use mathlib.Core.Path.{ap, sym}
+use Rattle.model.specs.Rename.{present}
+use Rattle.view_at.specs.Sight.{visibleKind}
+use Rattle.view_at.specs.declared.Visible.{Visible}
+use Rattle.rename_checks.proofs.reject_absent.Statement.{statement}
+use Rattle.rename_checks.proofs.reject_absent.Tie as tie
+
+enum-told : tie.Need-enum-told
+enum-told c = search needs
+
+returns : tie.Need-returns
+returns c =
+    let a = c .before .before .args in
+    sym (ap (λ (v : Visible). present (a .len) (visibleKind v)) (c .enum-told .given .1))
+
+enum-told-2 : tie.Need-enum-told-2
+enum-told-2 c = search needs
+
+returns-2 : tie.Need-returns-2
+returns-2 c = search needs
+
+enum-told-3 : tie.Need-enum-told-3
+enum-told-3 c = search needs
+
+returns-3 : tie.Need-returns-3
+returns-3 c = search needs
+
+enum-told-4 : tie.Need-enum-told-4
+enum-told-4 c = search needs
+
+returns-4 : tie.Need-returns-4
+returns-4 c = search needs
+
+pub reject-absent-spec : {M : Type 1} → statement M
+reject-absent-spec =
+    tie.close
+    (tie.spec enum-told returns enum-told-2 returns-2 enum-told-3 returns-3 enum-told-4 returns-4)

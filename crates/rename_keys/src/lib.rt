@@ -1,0 +1,76 @@
+// A moved key: the destination standing where the source stood; and whether a key is short enough (12).
+// Assumes that what is composed has room: only this repository's crates call.
+// Composing is one pass over the key, and a copy of 512 bytes; counting components one pass over the path.
+ghost use mathlib.Core.Path.{_≡_};
+ghost use mathlib.Core.Bool.{cond};
+ghost use mathlib.Core.List.{_++_};
+ghost use Prim.Native.Nat.{_+_, _-_, _≤_};
+ghost use lib.Dec.{eqb};
+ghost use lib.ListN.{length, take, drop};
+ghost use Rattle.model.specs.Path.{components, short};
+
+// `format!` of the Rust becomes this: the first `len` of 512 bytes.
+pub struct Key {
+    pub bytes: [u8; 512],
+    pub len: usize,
+}
+
+// The destination and then the tail, from the buffer's start on.
+fn compose(t: &mut [u8], destination: &[u8], tail: &[u8])
+    requires { ⌜ length (now destination) + length (now tail) ≤ length (now t) ⌝ }
+    ensures { λ _. ⌜ length (now (t .exit)) ≡ length (now (t .entry)) ⌝ }
+    ensures { λ _. ⌜ take (length (now (destination .entry)) + length (now (tail .entry))) (now (t .exit))
+        ≡ now (destination .entry) ++ now (tail .entry) ⌝ }
+{
+    let n = destination.len();
+    base_fields::copy_in(t, 0, destination);
+    base_fields::copy_in(t, n, tail);
+}
+
+// The destination, then what stands in the path behind its first `from` bytes.
+pub fn moved_key(destination: &[u8], path: &[u8], from: usize) -> Key
+    requires { ⌜ (from ≤ length (now path)) × (length (now destination) + (length (now path) - from) ≤ 512) ⌝ }
+    ensures { λ r. ⌜ (r .len ≤ 512) × (length (r .bytes) ≡ 512) ⌝ }
+    ensures { λ r. ⌜ take (r .len) (r .bytes) ≡ now (destination .entry) ++ drop from (now (path .entry)) ⌝ }
+    ensures { λ r. ⌜ r .len ≡ length (now (destination .entry)) + (length (now (path .entry)) - from) ⌝ }
+{
+    let mut bytes: [u8; 512] = [0; 512];
+    let tail = &path[from..];
+    let len = destination.len() + tail.len();
+    compose(&mut bytes, destination, tail);
+    Key {
+        bytes: bytes,
+        len: len,
+    }
+}
+
+// 1 for a slash, 0 for every other byte.
+fn slash(b: u8) -> u64
+    ensures { λ r. ⌜ r ≡ cond (eqb b 47) 1 0 ⌝ }
+{
+    if b == b'/' {
+        return 1;
+    }
+    0
+}
+
+// How many components a path has: one more than slashes.
+pub fn component_count(path: &[u8]) -> u64
+    ensures { λ r. ⌜ r ≡ length (components (now (path .entry))) ⌝ }
+{
+    let mut n: u64 = 1;
+    let mut i = 0;
+    while i < path.len() {
+        n += slash(path[i]);
+        i += 1;
+    }
+    n
+}
+
+// Whether a path has at most 512 bytes and 32 components.
+pub fn is_short(path: &[u8]) -> bool
+    ensures { λ r. ⌜ r ≡ short (now (path .entry)) ⌝ }
+{
+    let n = component_count(path);
+    (path.len() <= model::PATH_MAX) & (n <= model::DEPTH_MAX as u64)
+}

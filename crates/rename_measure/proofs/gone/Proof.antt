@@ -1,0 +1,43 @@
+-- `gone` meets its contract.
+-- Assumes nothing.
+use mathlib.Core.Path.{refl}
+use native.Mathlib.Omega.{arith}
+use borrow.Author.Needs.{needs}
+use Rattle.model.specs.Tree.{deleted}
+use Rattle.rename_measure.proofs.Foretelling.{not-first, small-put, gone-whole, gone-alone}
+use Rattle.rename_measure.proofs.gone.Statement.{statement}
+use Rattle.rename_measure.proofs.gone.Tie as tie
+
+gone-below-requires : tie.Need-gone-below-requires
+gone-below-requires c κs = search needs
+
+returns : tie.Need-returns
+returns c =
+    let e = c .before .before .before .before .before in
+    let a = e .args in
+    let p = e .pre in
+    let g = c .gone-below in (
+      gone-whole (a .table .now) (a .listing .now) (a .rec) (p .1 .0) (p .0) (a .source .now) (a .whole) (p .1 .1 .1) (c .before .if1 .taken)
+          (g .result) (g .ensures .0),
+      g .ensures .1,
+    )
+
+projected-record-requires : tie.Need-projected-record-requires
+projected-record-requires c κs =
+    let e = c .before .before .before .before in
+    let p = e .pre in
+    (p .1 .0, (not-first (e .args .source .now) (p .1 .1 .0 .0), p .1 .1 .0 .1, omega arith))
+
+returns-2 : tie.Need-returns-2
+returns-2 c =
+    let e = c .before .before .before .before .before in
+    let a = e .args in
+    let p = e .pre in
+    let g = c .projected-record in (
+      gone-alone (a .table .now) (a .listing .now) (a .rec) (p .1 .0) (p .0) (a .source .now) (a .whole) (p .1 .1 .1) (c .before .if1 .left)
+          (g .result) (g .ensures deleted refl),
+      small-put (a .table .now) (a .rec) (p .1 .0) (a .source .now) deleted (p .1 .1 .0 .1) (omega arith) (g .result) (g .ensures deleted refl),
+    )
+
+pub gone-spec : {M : Type 1} → statement M
+gone-spec = tie.close (tie.spec gone-below-requires returns projected-record-requires returns-2)

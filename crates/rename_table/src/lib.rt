@@ -1,0 +1,41 @@
+// The table that rename leaves, written anew as the definition has it.
+// Assumes a checked table and a checked listing, paths that passed rename's checks before its plan, short new keys, and buffers with room:
+// only this repository's crates call, once all checks passed.
+ghost use mathlib.Core.Path.{_≡_};
+ghost use mathlib.Core.Bool.{true, cond};
+ghost use Prim.Native.Nat.{_≤_};
+ghost use lib.ListN.{length, replicate};
+ghost use Rattle.model.specs.Bytes.{every};
+ghost use Rattle.model.specs.Path.{short};
+ghost use Rattle.model.specs.Map.{keys, rekey};
+ghost use Rattle.model.specs.Tree.{shown, aDirectory, aFile, kind};
+ghost use Rattle.model.specs.Listing.{treeIn, isListing};
+ghost use Rattle.model.specs.Table.{encode, padded, tableIn, isTable};
+ghost use Rattle.model.specs.Checks.{pass};
+ghost use Rattle.model.specs.Rename.{carried, moved};
+ghost use Rattle.rename_checks.specs.Both.{earlyChecks};
+
+// The table anew with what rename moves; `whole` tells whether the source is a directory.
+pub fn write_move(
+    table: &mut [u8],
+    work: &mut [u8],
+    rec: model::Record,
+    listing: &[u8],
+    source: &[u8],
+    destination: &[u8],
+    whole: bool,
+)
+    requires { ⌜ isTable (now table) rec ≡ true ⌝ }
+    requires { ⌜ isListing (now listing) ≡ true ⌝ }
+    requires { ⌜ earlyChecks (tableIn (now table) rec) (treeIn (now listing)) (now source) (now destination) ≡ pass ⌝ }
+    requires { ⌜ kind (shown (tableIn (now table) rec) (treeIn (now listing))) (now source) ≡ cond whole aDirectory aFile ⌝ }
+    requires { ⌜ every short (keys (rekey (now source) (now destination)
+        (carried (tableIn (now table) rec) (treeIn (now listing)) (now source)))) ≡ true ⌝ }
+    requires { ⌜ length (encode (moved (tableIn (now table) rec) (treeIn (now listing)) (now source) (now destination))) ≤ length (now table) ⌝ }
+    requires { ⌜ length (now table) ≤ length (now work) ⌝ }
+    ensures { λ _. ⌜ now (table .exit) ≡ padded (length (now (table .entry))) (encode (moved (tableIn (now (table .entry)) rec)
+        (treeIn (now (listing .entry))) (now (source .entry)) (now (destination .entry)))) ⌝ }
+    ensures { λ _. ⌜ now (work .exit) ≡ replicate (length (now (work .entry))) 0 ⌝ }
+{
+    rename_write::write_ordered(table, work, rec, listing, source, destination, whole);
+}

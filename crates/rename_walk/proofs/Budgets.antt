@@ -1,0 +1,72 @@
+-- One node visited within a budget, as the code adds, and what an answer says of a node.
+-- Assumes nothing.
+use mathlib.Core.Path.{_≡_, refl, ap, _∙_}
+use mathlib.Core.Bool.{true, false}
+use mathlib.Core.Option.{Option, some}
+use Prim.Native.Nat.{ℕ, _+_, _-_, _*_, _<_, _≤_}
+use native.Mathlib.Omega.{arith}
+use lib.ListN.{length}
+use borrow.Author.Tests.{le-leb, lt-leb}
+use Rattle.model.specs.Path.{Path}
+use Rattle.model.specs.Tree.{Node, dir, file, link, kindOf, isDirectory}
+use Rattle.model.specs.Rename.{Walk, sum, overBudget, atLink, inBudget, visit}
+use Rattle.model.proofs.Orders.{bot}
+use Rattle.listing_records.specs.Found.{foundOf}
+use Rattle.rename_walk.specs.Walked.{ended}
+use Rattle.listing_records.specs.declared.Found.the-variants as found
+
+module _ (b s : ℕ) where
+  -- a sum above the budget, a cost above what is left of it, and one within
+  pub over-before : (c : ℕ) → b < s → overBudget ≡ inBudget (some b) (s + c)
+  over-before c h = rw (lt-leb (s + c) b (omega arith))
+
+  pub over-after : (c : ℕ) → s ≤ b → b - s < c → overBudget ≡ inBudget (some b) (s + c)
+  over-after c g h = rw (lt-leb (s + c) b (omega arith))
+
+  pub within : (c : ℕ) → s ≤ b → c ≤ b - s → sum (s + c) ≡ inBudget (some b) (s + c)
+  within c g h = rw (le-leb (s + c) b (omega arith))
+
+  module _ (n : ℕ) (p : Path) (e : n ≡ length p) where
+    pub at-dir : (x : Node) (m : ℕ) → found.Directory m ≡ foundOf (some x) → (r : Walk) → r ≡ inBudget (some b) (s + (3 * n + 512))
+        → r ≡ visit (some b) (sum s) p x
+    at-dir (dir k) m h r f = let z : s + (3 * n + 512) ≡ s + 3 * length p + 512 = omega arith in f ∙ ap (inBudget (some b)) z
+    at-dir (file k y c) m h r f = absurd (bot (cc))
+    at-dir link m h r f = absurd (bot (cc))
+
+    pub at-file : (x : Node) (m y : ℕ) → found.File m y ≡ foundOf (some x) → (r : Walk) → r ≡ inBudget (some b) (s + (2 * n + 512))
+        → r ≡ visit (some b) (sum s) p x
+    at-file (dir k) m y h r f = absurd (bot (cc))
+    at-file (file k z c) m y h r f = let z : s + (2 * n + 512) ≡ s + 2 * length p + 512 = omega arith in f ∙ ap (inBudget (some b)) z
+    at-file link m y h r f = absurd (bot (cc))
+
+  pub at-link : (p : Path) (x : Node) → found.Link ≡ foundOf (some x) → atLink ≡ visit (some b) (sum s) p x
+  at-link p (dir k) h = absurd (bot (cc))
+  at-link p (file k z c) h = absurd (bot (cc))
+  at-link p link h = refl
+
+-- a walk that has ended is visited without change
+pub ended-visit : (b : Option ℕ) (p : Path) (x : Node) (w v : Walk) → w ≡ v → ended v ≡ true → w ≡ visit b w p x
+ended-visit b p x w (sum s) e h = absurd (bot (cc))
+ended-visit b p x w overBudget e h = rw e
+ended-visit b p x w atLink e h = rw e
+
+-- a listed node is no absent one
+pub never-absent : (x : Node) → found.Absent ≡ foundOf (some x) → ⊥
+never-absent (dir k) h = bot (cc)
+never-absent (file k z c) h = bot (cc)
+never-absent link h = bot (cc)
+
+pub dir-is : (x : Node) (m : ℕ) → found.Directory m ≡ foundOf (some x) → true ≡ isDirectory (kindOf (some x))
+dir-is (dir k) m h = refl
+dir-is (file k z c) m h = absurd (bot (cc))
+dir-is link m h = absurd (bot (cc))
+
+pub file-is : (x : Node) (m z : ℕ) → found.File m z ≡ foundOf (some x) → false ≡ isDirectory (kindOf (some x))
+file-is (dir k) m z h = absurd (bot (cc))
+file-is (file k y c) m z h = refl
+file-is link m z h = absurd (bot (cc))
+
+pub link-is : (x : Node) → found.Link ≡ foundOf (some x) → false ≡ isDirectory (kindOf (some x))
+link-is (dir k) h = absurd (bot (cc))
+link-is (file k y c) h = absurd (bot (cc))
+link-is link h = refl

@@ -1,0 +1,62 @@
+-- `order_at` meets its contract: it reads the numbers that stand in the step.
+-- Assumes nothing.
+use borrow.Author.Needs.{needs}
+use Rattle.run_script.proofs.Heads.{order-is}
+use Rattle.run_script.proofs.order_at.Statement.{statement}
+use Rattle.run_script.proofs.order_at.Tie as tie
+
+shared-slice-read-wide : tie.Need-shared-slice-read-wide
+shared-slice-read-wide c = search needs
+
+wide-requires : tie.Need-wide-requires
+wide-requires c κs = search needs
+
+add-wide : tie.Need-add-wide
+add-wide c = search needs
+
+shared-slice-read-wide-2 : tie.Need-shared-slice-read-wide-2
+shared-slice-read-wide-2 c = search needs
+
+wide-requires-2 : tie.Need-wide-requires-2
+wide-requires-2 c κs = search needs
+
+add-le64 : tie.Need-add-le64
+add-le64 c = search needs
+
+le64-requires : tie.Need-le64-requires
+le64-requires c κs = search needs
+
+add-le64-2 : tie.Need-add-le64-2
+add-le64-2 c = search needs
+
+le64-requires-2 : tie.Need-le64-requires-2
+le64-requires-2 c κs = search needs
+
+kind-of-requires : tie.Need-kind-of-requires
+kind-of-requires c κs = search needs
+
+returns : tie.Need-returns
+returns c =
+    let l = c .before in
+    let m = l .before in
+    let f = m .before in
+    let k = f .before .before in
+    let a = k .before .before .before .args in
+    order-is (a .script .now) (a .at) (c .kind-of .result) (k .wide .result) (f .wide2 .result) (m .le64 .result) (l .le642 .result)
+    (c .kind-of .ensures) (k .wide .ensures .0) (f .wide2 .ensures .0) (m .le64 .ensures) (l .le642 .ensures)
+
+pub order-at-spec : {M : Type 1} → statement M
+order-at-spec =
+    tie.close
+    (tie.spec
+    shared-slice-read-wide
+    wide-requires
+    add-wide
+    shared-slice-read-wide-2
+    wide-requires-2
+    add-le64
+    le64-requires
+    add-le64-2
+    le64-requires-2
+    kind-of-requires
+    returns)

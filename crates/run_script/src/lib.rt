@@ -1,0 +1,170 @@
+// Scripts: lists of changing calls as bytes, which of them are well-formed, and what stands in a step.
+// The check takes any bytes; what reads a step asks that its head stands there, or the whole step: only this repository's crates call it.
+// A check is one pass over the script's steps.
+ghost use mathlib.Core.Path.{_≡_};
+ghost use mathlib.Core.Bool.{_&&_};
+ghost use Prim.Native.Nat.{_+_, _*_, _≤_, _<_};
+ghost use lib.Dec.{leb};
+ghost use lib.ListN.{length};
+ghost use Rattle.run_script.specs.Script.{ruled, fits, headed, marked, firstAt, secondAt, stepEnd, orderAt, stepCount, isScript, kindOf};
+use call_values::Kind;
+use call_values::Order;
+
+// The bytes of a script before its steps, and of a step before its parts.
+pub const SCRIPT_HEAD: usize = 8;
+
+const STEP_HEAD: usize = 24;
+
+fn wide(b: u8) -> u64
+    ensures { λ r. ⌜ (r ≡ b) × (r < 256) ⌝ }
+{
+    b as u64
+}
+
+// Whether a step's kind, flags, length of its second part and mtime bits go together.
+fn is_ruled(kind: u64, flags: u64, second: u64, mtime: u64) -> bool
+    ensures { λ r. ⌜ r ≡ ruled kind flags second mtime ⌝ }
+{
+    ((0 < kind) & (kind < 6))
+        & (((flags == 0) | ((kind == 2) & (flags < 4)))
+            & (((second == 0) | ((kind == 1) | (kind == 5)))
+                & ((mtime == 0) | ((kind == 1) | (kind == 2)))))
+}
+
+// Whether the bytes begin with a mark and a count.
+fn is_marked(script: &[u8]) -> bool
+    ensures { λ r. ⌜ r ≡ marked (now (script .entry)) ⌝ }
+{
+    if script.len() < SCRIPT_HEAD {
+        return false;
+    }
+    let mark = &script[..4];
+    base_fields::is_same(mark, b"TSC1")
+}
+
+// Where the step at `at` ends.
+pub fn end_of(script: &[u8], at: usize) -> usize
+    requires { ⌜ at + 24 ≤ length (now script) ⌝ }
+    ensures { λ r. ⌜ r ≡ stepEnd (now (script .entry)) at ⌝ }
+{
+    let n = base_fields::le16(script, at + 2) as usize;
+    let m = base_fields::le32(script, at + 4) as usize;
+    at + STEP_HEAD + n + m
+}
+
+// Whether the step that starts at `at` ends within the script.
+fn is_inside(script: &[u8], at: usize) -> bool
+    requires { ⌜ at ≤ length (now script) ⌝ }
+    ensures { λ r. ⌜ r ≡ fits (now (script .entry)) at ⌝ }
+{
+    if script.len() < at + STEP_HEAD {
+        return false;
+    }
+    end_of(script, at) <= script.len()
+}
+
+// Whether the numbers of the step at `at` go together.
+fn is_headed(script: &[u8], at: usize) -> bool
+    requires { ⌜ at + 24 ≤ length (now script) ⌝ }
+    ensures { λ r. ⌜ r ≡ headed (now (script .entry)) at ⌝ }
+{
+    let kind = wide(script[at]);
+    let flags = wide(script[at + 1]);
+    let second = base_fields::le32(script, at + 4);
+    let mtime = base_fields::le64(script, at + 8);
+    is_ruled(kind, flags, second, mtime)
+}
+
+// Whether a step stands at `at`.
+fn is_step(script: &[u8], at: usize) -> bool
+    requires { ⌜ at ≤ length (now script) ⌝ }
+    ensures { λ r. ⌜ r ≡ (fits (now (script .entry)) at && headed (now (script .entry)) at) ⌝ }
+{
+    if !is_inside(script, at) {
+        return false;
+    }
+    is_headed(script, at)
+}
+
+// Whether the bytes are a script. What does not stand there ends the pass, so the time is linear in the bytes, whatever is counted.
+pub fn check(script: &[u8]) -> bool
+    ensures { λ r. ⌜ r ≡ isScript (now (script .entry)) ⌝ }
+{
+    if !is_marked(script) {
+        return false;
+    }
+    let mut left = base_fields::le32(script, 4);
+    let mut at: usize = SCRIPT_HEAD;
+    while 0 < left {
+        if !is_step(script, at) {
+            return false;
+        }
+        at = end_of(script, at);
+        left -= 1;
+    }
+    at == script.len()
+}
+
+fn kind_of(kind: u64) -> Kind
+    ensures { λ r. ⌜ r ≡ kindOf kind ⌝ }
+{
+    if kind == 1 {
+        return Kind::Write;
+    }
+    if kind == 2 {
+        return Kind::Mkdir;
+    }
+    if kind == 3 {
+        return Kind::Unlink;
+    }
+    if kind == 4 {
+        return Kind::Rmdir;
+    }
+    Kind::Rename
+}
+
+// The call of the step at `at`, without its paths and data.
+pub fn order_at(script: &[u8], at: usize) -> Order
+    requires { ⌜ at + 24 ≤ length (now script) ⌝ }
+    ensures { λ r. ⌜ r ≡ orderAt (now (script .entry)) at ⌝ }
+{
+    let kind = wide(script[at]);
+    let flags = wide(script[at + 1]);
+    let mtime = base_fields::le64(script, at + 8);
+    let limit = base_fields::le64(script, at + 16);
+    Order {
+        kind: kind_of(kind),
+        parents: flags % 2 == 1,
+        exist_ok: flags / 2 == 1,
+        mtime: mtime,
+        limit: limit,
+    }
+}
+
+// The step's first part; then its second.
+pub fn first_at(script: &[u8], at: usize) -> &[u8]
+    requires { ⌜ (at + 24 ≤ length (now script)) × (stepEnd (now script) at ≤ length (now script)) ⌝ }
+    ensures { λ r. ⌜ now r ≡ firstAt (now (script .entry)) at ⌝ }
+{
+    let from = at + STEP_HEAD;
+    let to = from + base_fields::le16(script, at + 2) as usize;
+    &script[from..to]
+}
+
+pub fn second_at(script: &[u8], at: usize) -> &[u8]
+    requires { ⌜ (at + 24 ≤ length (now script)) × (stepEnd (now script) at ≤ length (now script)) ⌝ }
+    ensures { λ r. ⌜ now r ≡ secondAt (now (script .entry)) at ⌝ }
+{
+    let from = at + STEP_HEAD + base_fields::le16(script, at + 2) as usize;
+    let to = end_of(script, at);
+    &script[from..to]
+}
+
+// Whether the report has a row for each step of a script that has its head.
+pub fn has_rows(script: &[u8], len: usize) -> bool
+    requires { ⌜ 8 ≤ length (now script) ⌝ }
+    ensures { λ r. ⌜ r ≡ leb (32 * stepCount (now (script .entry))) len ⌝ }
+{
+    let count = base_fields::le32(script, 4);
+    32 * count <= len as u64
+}

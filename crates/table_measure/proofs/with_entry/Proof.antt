@@ -1,0 +1,37 @@
+-- `with_entry` meets its contract: the record with one entry more, by its fields.
+-- Assumes nothing.
+use mathlib.Core.Path.{refl}
+use borrow.Author.Needs.{needs}
+use Rattle.table_measure.proofs.with_entry.Statement.{statement}
+use Rattle.table_measure.proofs.with_entry.Tie as tie
+
+add-t5 : tie.Need-add-t5
+add-t5 c = search needs
+
+add-t6 : tie.Need-add-t6
+add-t6 c = search needs
+
+add-t7 : tie.Need-add-t7
+add-t7 c = search needs
+
+add-t8 : tie.Need-add-t8
+add-t8 c = search needs
+
+add-t9 : tie.Need-add-t9
+add-t9 c = search needs
+
+add-t10 : tie.Need-add-t10
+add-t10 c = search needs
+
+add-t11 : tie.Need-add-t11
+add-t11 c = search needs
+
+add-t12 : tie.Need-add-t12
+add-t12 c = search needs
+
+returns : tie.Need-returns
+returns c = refl
+
+pub with-entry-spec : {M : Type 1} → statement M
+with-entry-spec =
+    tie.close (tie.spec add-t5 add-t6 add-t7 add-t8 add-t9 add-t10 add-t11 add-t12 returns)
