@@ -16,7 +16,7 @@ use Rattle.model.specs.Map.{lookup, puts, each}
 use Rattle.model.specs.Tree.{Entry, directory, Table, View, shown, Kind, nothing, aDirectory, aFile, aLink, kind, isNothing}
 use Rattle.model.specs.Listing.{treeIn}
 use Rattle.model.specs.Table.{tableIn, isTable}
-use Rattle.model.specs.Checks.{Check, pass, _then_, parent, parentsIn, parents, missing, makes}
+use Rattle.model.specs.Checks.{Check, pass, _then_, parentAt, parentsIn, parentChecks, missing, makes}
 use Rattle.model.specs.declared.Record.{Record}
 use Rattle.model.proofs.Orders.{bot, yea, nay, test, mem}
 use Rattle.model.proofs.Maps.{Ascending, orElse, lookup-puts, lookup-each, ascending-puts, ascends-is, map-ext}
@@ -83,7 +83,7 @@ makes-nothing : (f : View) (p : Path) → isNothing (kind f p) ≡ true → make
 makes-nothing f p h = rw h
 
 -- parents that pass are all there
-passed-parent : (w n : ℕ) (k : Kind) (c : Check) → (parent w n k then c) ≡ pass → (isNothing k ≡ false) × (c ≡ pass)
+passed-parent : (w n : ℕ) (k : Kind) (c : Check) → (parentAt w n k then c) ≡ pass → (isNothing k ≡ false) × (c ≡ pass)
 passed-parent w n nothing c h = absurd (bot (cc))
 passed-parent w n aDirectory c h = (refl, h)
 passed-parent w n aFile c h = absurd (bot (cc))
@@ -114,7 +114,7 @@ module _ (l s : Bytes) (r : Record) (p : Path) where
       ∙ sym (ap (λ (qs : List Path). puts (each (directory m) qs) t) (makes-nothing f p n))
 
   -- without it: the path alone, since its parents are there
-  pub made-one : (es : List ℕ) → es ≡ length p ∷ [] → (c : Check) → c ≡ parents 0 f p → c ≡ pass → isNothing (kind f p) ≡ true → (m : ℕ)
+  pub made-one : (es : List ℕ) → es ≡ length p ∷ [] → (c : Check) → c ≡ parentChecks 0 f p → c ≡ pass → isNothing (kind f p) ≡ true → (m : ℕ)
       → puts (each (directory m) (prefixes p es)) t ≡ puts (each (directory m) (makes f p)) t
   made-one es e c d h n m =
       let a : prefixes p es ≡ p ∷ [] = ap (prefixes p) e ∙ ap (λ (q : Path). q ∷ []) (whole p) in

@@ -13,7 +13,7 @@ use Rattle.model.specs.Path.{Path, isPath, ancestors}
 use Rattle.model.specs.Tree.{View, Kind, nothing, aDirectory, aFile, aLink, kind, isNothing}
 use Rattle.model.specs.Listing.{isListing}
 use Rattle.model.specs.Table.{isTable}
-use Rattle.model.specs.Checks.{Check, pass, refuse, _then_, mkdirAt, mkdirParents, parents, ancestorsIn, makes}
+use Rattle.model.specs.Checks.{Check, pass, refuse, _then_, mkdirAt, mkdirParents, parentChecks, ancestorsIn, makes}
 use Rattle.model.specs.Answer.{toldRefusal}
 use Rattle.model.specs.declared.Record.{Record}
 use Rattle.model.specs.declared.Refusal.{Refusal}
@@ -47,7 +47,7 @@ pub parents-made : (f : View) (p : Path) (up : Bool) (c : Check) → up ≡ true
     → c ≡ mkdirParents f p up
 parents-made f p up c h e = e ∙ sym (ap (mkdirParents f p) h)
 
-pub parents-there : (f : View) (p : Path) (up : Bool) (c : Check) → up ≡ false → c ≡ parents 0 f p → c ≡ mkdirParents f p up
+pub parents-there : (f : View) (p : Path) (up : Bool) (c : Check) → up ≡ false → c ≡ parentChecks 0 f p → c ≡ mkdirParents f p up
 parents-there f p up c h e = e ∙ sym (ap (mkdirParents f p) h)
 
 -- the check c gave j: where that refuses, c decides, else what follows does

@@ -14,7 +14,7 @@ use Rattle.model.specs.Map.{lookup}
 use Rattle.model.specs.Tree.{Entry, Table, Tree, shown, kind}
 use Rattle.model.specs.Listing.{isListing, treeIn}
 use Rattle.model.specs.Table.{encode, padded, isTable, tableIn}
-use Rattle.model.specs.Checks.{Check, pass, refuse, _then_, unless, form, limited, charged, parents, writeChecks, unlinkAt, unlinkEntry, unlinkChecks, rmdirChecks}
+use Rattle.model.specs.Checks.{Check, pass, refuse, _then_, unless, form, limited, charged, parentChecks, writeChecks, unlinkAt, unlinkEntry, unlinkChecks, rmdirChecks}
 use Rattle.model.specs.Calls.{Call, changed, forms, rules, valueOf}
 use Rattle.model.specs.Outcome.{Request, room, verdict, outcome}
 use Rattle.model.specs.declared.Record.{Record}
@@ -67,7 +67,7 @@ pub unlink-root : (s : Bytes) (r : Record) (l : Tree) → isTable s r ≡ true �
 unlink-root s r l h =
     let u = ascends-is [] (tableIn s r) (decoded s r h .ascending) in
     let e : lookup (tableIn s r) [] ≡ none = lookup-low [] (tableIn s r) (u .0) (u .1) in
-    ap (λ (o : Option Entry). refuses (unlinkEntry 0 o (parents 0 (shown (tableIn s r) l) [] then unlinkAt 0 (kind (shown (tableIn s r) l) [])))) e
+    ap (λ (o : Option Entry). refuses (unlinkEntry 0 o (parentChecks 0 (shown (tableIn s r) l) [] then unlinkAt 0 (kind (shown (tableIn s r) l) [])))) e
 
 -- a call with one path: its checks from 4 to 10 are c, and j is what the checks up to there gave
 module _ (l s : Bytes) (r : Record) (w : Bytes) (p : Path) (c : Path → Check) where

@@ -10,7 +10,7 @@ use Rattle.model.specs.Map.{lookup}
 use Rattle.model.specs.Tree.{Entry, own, reference, directory, deleted, shown, kind}
 use Rattle.model.specs.Listing.{treeIn}
 use Rattle.model.specs.Table.{tableIn}
-use Rattle.model.specs.Checks.{Check, pass, refuse, _then_, parents, unlinkAt, unlinkEntry, rmdirAt, rmdirEntry}
+use Rattle.model.specs.Checks.{Check, pass, refuse, _then_, parentChecks, unlinkAt, unlinkEntry, rmdirAt, rmdirEntry}
 use Rattle.model.specs.declared.Record.{Record}
 use Rattle.table_entries.specs.declared.OverlayEntry.{OverlayEntry}
 use Rattle.table_entries.specs.Said.{Said, said, saidOf, aFile, aReference, aDirectory, isDeleted, noEntry}
@@ -48,18 +48,18 @@ rmdir-said n c (some deleted) = refl
 module _ (l s : Bytes) (r : Record) (p : Path) (x y : OverlayEntry) (h : saidOf s x ≡ said (lookup (tableIn s r) p)) (i : x ≡ y) (z : Check) where
   pub unlink-by :
       let f = shown (tableIn s r) (treeIn l) in
-      z ≡ unlinkSaid (length p) (parents 0 f p then unlinkAt (length p) (kind f p)) (saidOf s y)
-      → z ≡ unlinkEntry (length p) (lookup (tableIn s r) p) (parents 0 f p then unlinkAt (length p) (kind f p))
+      z ≡ unlinkSaid (length p) (parentChecks 0 f p then unlinkAt (length p) (kind f p)) (saidOf s y)
+      → z ≡ unlinkEntry (length p) (lookup (tableIn s r) p) (parentChecks 0 f p then unlinkAt (length p) (kind f p))
   unlink-by e =
       let f = shown (tableIn s r) (treeIn l) in
-      let c = parents 0 f p then unlinkAt (length p) (kind f p) in
+      let c = parentChecks 0 f p then unlinkAt (length p) (kind f p) in
       e ∙ ap (unlinkSaid (length p) c) (sym (ap (saidOf s) i) ∙ h) ∙ unlink-said (length p) c (lookup (tableIn s r) p)
 
   pub rmdir-by :
       let f = shown (tableIn s r) (treeIn l) in
-      z ≡ rmdirSaid (length p) (parents 0 f p then rmdirAt (length p) (kind f p)) (saidOf s y)
-      → z ≡ rmdirEntry (length p) (lookup (tableIn s r) p) (parents 0 f p then rmdirAt (length p) (kind f p))
+      z ≡ rmdirSaid (length p) (parentChecks 0 f p then rmdirAt (length p) (kind f p)) (saidOf s y)
+      → z ≡ rmdirEntry (length p) (lookup (tableIn s r) p) (parentChecks 0 f p then rmdirAt (length p) (kind f p))
   rmdir-by e =
       let f = shown (tableIn s r) (treeIn l) in
-      let c = parents 0 f p then rmdirAt (length p) (kind f p) in
+      let c = parentChecks 0 f p then rmdirAt (length p) (kind f p) in
       e ∙ ap (rmdirSaid (length p) c) (sym (ap (saidOf s) i) ∙ h) ∙ rmdir-said (length p) c (lookup (tableIn s r) p)

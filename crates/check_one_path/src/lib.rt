@@ -10,7 +10,7 @@ ghost use Rattle.model.specs.Map.{lookup};
 ghost use Rattle.model.specs.Tree.{shown, kind};
 ghost use Rattle.model.specs.Listing.{treeIn, isListing};
 ghost use Rattle.model.specs.Table.{tableIn, isTable};
-ghost use Rattle.model.specs.Checks.{_then_, unless, form, parents, writeAt, writeChecks, unlinkAt, unlinkChecks, rmdirAt, rmdirEntry, rmdirChecks, empty};
+ghost use Rattle.model.specs.Checks.{_then_, unless, form, parentChecks, writeAt, writeChecks, unlinkAt, unlinkChecks, rmdirAt, rmdirEntry, rmdirChecks, noVisibleChild};
 ghost use Rattle.view_at.specs.Sight.{visibleKind};
 ghost use Rattle.check_parents.specs.Judged.{checkOf};
 use check_parents::Judged;
@@ -105,7 +105,7 @@ fn unlink_listed(listing: &[u8], table: &[u8], rec: model::Record, path: &[u8]) 
     requires { ⌜ isListing (now listing) ≡ true ⌝ }
     requires { ⌜ isTable (now table) rec ≡ true ⌝ }
     requires { ⌜ isPath (now path) ≡ true ⌝ }
-    ensures { λ r. ⌜ checkOf r ≡ (parents 0 (shown (tableIn (now (table .entry)) rec) (treeIn (now (listing .entry)))) (now (path .entry))
+    ensures { λ r. ⌜ checkOf r ≡ (parentChecks 0 (shown (tableIn (now (table .entry)) rec) (treeIn (now (listing .entry)))) (now (path .entry))
         then unlinkAt (length (now (path .entry))) (kind (shown (tableIn (now (table .entry)) rec)
         (treeIn (now (listing .entry)))) (now (path .entry)))) ⌝ }
 {
@@ -174,7 +174,7 @@ fn rmdir_listed(listing: &[u8], table: &[u8], rec: model::Record, path: &[u8]) -
     requires { ⌜ isListing (now listing) ≡ true ⌝ }
     requires { ⌜ isTable (now table) rec ≡ true ⌝ }
     requires { ⌜ isPath (now path) ≡ true ⌝ }
-    ensures { λ r. ⌜ checkOf r ≡ (parents 0 (shown (tableIn (now (table .entry)) rec) (treeIn (now (listing .entry)))) (now (path .entry))
+    ensures { λ r. ⌜ checkOf r ≡ (parentChecks 0 (shown (tableIn (now (table .entry)) rec) (treeIn (now (listing .entry)))) (now (path .entry))
         then rmdirAt (length (now (path .entry))) (kind (shown (tableIn (now (table .entry)) rec)
         (treeIn (now (listing .entry)))) (now (path .entry)))) ⌝ }
 {
@@ -191,7 +191,7 @@ fn rmdir_entry(listing: &[u8], table: &[u8], rec: model::Record, path: &[u8]) ->
     requires { ⌜ isListing (now listing) ≡ true ⌝ }
     requires { ⌜ isTable (now table) rec ≡ true ⌝ }
     requires { ⌜ isPath (now path) ≡ true ⌝ }
-    ensures { λ r. ⌜ checkOf r ≡ rmdirEntry (length (now (path .entry))) (lookup (tableIn (now (table .entry)) rec) (now (path .entry))) (parents 0
+    ensures { λ r. ⌜ checkOf r ≡ rmdirEntry (length (now (path .entry))) (lookup (tableIn (now (table .entry)) rec) (now (path .entry))) (parentChecks 0
         (shown (tableIn (now (table .entry)) rec) (treeIn (now (listing .entry)))) (now (path .entry))
         then rmdirAt (length (now (path .entry))) (kind (shown (tableIn (now (table .entry)) rec)
         (treeIn (now (listing .entry)))) (now (path .entry)))) ⌝ }
@@ -232,7 +232,7 @@ pub fn check_empty(
 ) -> Judged
     requires { ⌜ isListing (now listing) ≡ true ⌝ }
     requires { ⌜ isTable (now table) rec ≡ true ⌝ }
-    ensures { λ r. ⌜ checkOf r ≡ empty which (tableIn (now (table .entry)) rec) (treeIn (now (listing .entry))) (now (path .entry)) ⌝ }
+    ensures { λ r. ⌜ checkOf r ≡ noVisibleChild which (tableIn (now (table .entry)) rec) (treeIn (now (listing .entry))) (now (path .entry)) ⌝ }
 {
     if view_children::has_visible_children(listing, table, rec, path) {
         return Judged::Refused(Refusal::NotEmpty(which, path.len() as u64));

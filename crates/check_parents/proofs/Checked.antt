@@ -4,7 +4,7 @@ use mathlib.Core.Path.{_≡_, refl}
 use mathlib.Core.Bool.{true, false, not}
 use Prim.Native.Nat.{ℕ}
 use Rattle.model.specs.Tree.{Kind, nothing, aDirectory, aFile, aLink, isNothing, isDirectory}
-use Rattle.model.specs.Checks.{Check, pass, refuse, _then_, parent, ancestor}
+use Rattle.model.specs.Checks.{Check, pass, refuse, _then_, parentAt, ancestorAt}
 use Rattle.model.specs.Answer.{toldRefusal}
 use Rattle.model.specs.declared.Refusal.{Refusal}
 use Rattle.model.specs.declared.Refusal.the-variants as refusal
@@ -27,13 +27,13 @@ refusal-refuses refusal.KeyTooLong = refl
 refusal-refuses refusal.NoRoom = refl
 
 -- a directory is passed, at anything else the check of the parents ends
-pub parent-passes : (w n : ℕ) (k : Kind) (c : Check) → isDirectory k ≡ true → (parent w n k then c) ≡ c
+pub parent-passes : (w n : ℕ) (k : Kind) (c : Check) → isDirectory k ≡ true → (parentAt w n k then c) ≡ c
 parent-passes w n nothing c h = absurd (bot (cc))
 parent-passes w n aDirectory c h = refl
 parent-passes w n aFile c h = absurd (bot (cc))
 parent-passes w n aLink c h = absurd (bot (cc))
 
-pub parent-stops : (w n : ℕ) (k : Kind) (c : Check) → isDirectory k ≡ false → (parent w n k then c) ≡ parent w n k
+pub parent-stops : (w n : ℕ) (k : Kind) (c : Check) → isDirectory k ≡ false → (parentAt w n k then c) ≡ parentAt w n k
 parent-stops w n nothing c h = refl
 parent-stops w n aDirectory c h = absurd (bot (cc))
 parent-stops w n aFile c h = refl
@@ -52,7 +52,7 @@ pub refused-not-passed : (c : Check) → refuses c ≡ true → c ≡ pass → �
 refused-not-passed c h e = bot (cc)
 
 -- an ancestor that does not refuse is a directory or nothing
-pub passed-nothing : (k n : ℕ) (x : Kind) → refuses (ancestor k n x) ≡ false → not (isDirectory x) ≡ isNothing x
+pub passed-nothing : (k n : ℕ) (x : Kind) → refuses (ancestorAt k n x) ≡ false → not (isDirectory x) ≡ isNothing x
 passed-nothing k n nothing h = refl
 passed-nothing k n aDirectory h = refl
 passed-nothing k n aFile h = absurd (bot (cc))

@@ -12,7 +12,7 @@ use borrow.Author.Tests.{ltb-true, ltb-false, lt-ltb, le-leb}
 use Rattle.model.specs.Bytes.{Bytes, consIf}
 use Rattle.model.specs.Path.{Path, onFirst, components, isPath, ancestors}
 use Rattle.model.specs.Tree.{Kind, isNothing, isDirectory}
-use Rattle.model.specs.Checks.{Check, pass, _then_, ancestor, ancestorsIn, missing}
+use Rattle.model.specs.Checks.{Check, pass, _then_, ancestorAt, ancestorsIn, missing}
 use Rattle.model.proofs.Orders.{yea, nay, test}
 use Rattle.model.proofs.Codec.{path-shallow}
 use Rattle.base_paths.specs.Ancestors.{nextSlash, ancestorsFrom}
@@ -96,11 +96,11 @@ module _ (g : Path → Kind) (p : Path) where
         omega arith
 
     -- the ancestor of k bytes shows x, and c is what its check gives
-    module _ (a : k ≡ nextSlash p k) (h : k < length p) (x : Kind) (y : x ≡ g (take k p)) (c : Check) (u : c ≡ ancestor k (length p) x) where
+    module _ (a : k ≡ nextSlash p k) (h : k < length p) (x : Kind) (y : x ≡ g (take k p)) (c : Check) (u : c ≡ ancestorAt k (length p) x) where
       here : (j : ℕ) → j ≡ nextSlash p (k + 1) → (c then ancestorsIn (length p) g (ancestorsFrom p j)) ≡ ancestorsIn (length p) g (ancestors p)
       here j e =
           let m = length-take-le k p (omega arith) in
-          ap (λ (z : Check). z then ancestorsIn (length p) g (ancestorsFrom p j)) (u ∙ ap (ancestor k (length p)) y)
+          ap (λ (z : Check). z then ancestorsIn (length p) g (ancestorsFrom p j)) (u ∙ ap (ancestorAt k (length p)) y)
           ∙ ap (λ (z : ℕ). ancestor z (length p) (g (take k p)) then ancestorsIn (length p) g (ancestorsFrom p j)) (sym m)
           ∙ sym (ap (ancestorsIn (length p) g) (turn p k j a h e .1))
           ∙ v .judged

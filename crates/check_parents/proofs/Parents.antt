@@ -8,7 +8,7 @@ use lib.ListN.{length, take, drop}
 use Rattle.model.specs.Bytes.{Bytes}
 use Rattle.model.specs.Path.{Path, isPath, endsHere}
 use Rattle.model.specs.Tree.{View, Kind, kind, isDirectory}
-use Rattle.model.specs.Checks.{Check, pass, _then_, parent, parentsIn, parents}
+use Rattle.model.specs.Checks.{Check, pass, _then_, parentAt, parentsIn, parentChecks}
 use Rattle.model.specs.declared.Record.{Record}
 use Rattle.model.proofs.Texts.{proper-ancestor}
 use Rattle.base_paths.specs.Ancestors.{nextSlash, ancestorsFrom}
@@ -54,24 +54,24 @@ module _ (l s : Bytes) (r : Record) (p : Path) where
 
 -- the check of the parents, from k on
 module _ (w : ℕ) (f : View) (p : Path) where
-  pub parents-first : (k : ℕ) → k ≡ nextSlash p 0 → parentsIn w (length p) (kind f) (ancestorsFrom p k) ≡ parents w f p
+  pub parents-first : (k : ℕ) → k ≡ nextSlash p 0 → parentsIn w (length p) (kind f) (ancestorsFrom p k) ≡ parentChecks w f p
   parents-first k e = ap (parentsIn w (length p) (kind f)) (sym (begin p k e .1))
 
-  pub parents-last : (k : ℕ) → length p ≤ k → parentsIn w (length p) (kind f) (ancestorsFrom p k) ≡ parents w f p → pass ≡ parents w f p
+  pub parents-last : (k : ℕ) → length p ≤ k → parentsIn w (length p) (kind f) (ancestorsFrom p k) ≡ parentChecks w f p → pass ≡ parentChecks w f p
   parents-last k h e = sym (ap (parentsIn w (length p) (kind f)) (done p k h)) ∙ e
 
-  module _ (k : ℕ) (x : Kind) (a : k ≡ nextSlash p k) (h : k < length p) (e : parentsIn w (length p) (kind f) (ancestorsFrom p k) ≡ parents w f p)
+  module _ (k : ℕ) (x : Kind) (a : k ≡ nextSlash p k) (h : k < length p) (e : parentsIn w (length p) (kind f) (ancestorsFrom p k) ≡ parentChecks w f p)
       (y : x ≡ kind f (take k p)) where
-    here : (j : ℕ) → j ≡ nextSlash p (k + 1) → (parent w (length p) x then parentsIn w (length p) (kind f) (ancestorsFrom p j)) ≡ parents w f p
+    here : (j : ℕ) → j ≡ nextSlash p (k + 1) → (parentAt w (length p) x then parentsIn w (length p) (kind f) (ancestorsFrom p j)) ≡ parentChecks w f p
     here j u =
-        ap (λ (z : Kind). parent w (length p) z then parentsIn w (length p) (kind f) (ancestorsFrom p j)) y
+        ap (λ (z : Kind). parentAt w (length p) z then parentsIn w (length p) (kind f) (ancestorsFrom p j)) y
         ∙ sym (ap (parentsIn w (length p) (kind f)) (turn p k j a h u .1))
         ∙ e
 
-    pub parents-next : (j : ℕ) → j ≡ nextSlash p (k + 1) → isDirectory x ≡ true → parentsIn w (length p) (kind f) (ancestorsFrom p j) ≡ parents w f p
+    pub parents-next : (j : ℕ) → j ≡ nextSlash p (k + 1) → isDirectory x ≡ true → parentsIn w (length p) (kind f) (ancestorsFrom p j) ≡ parentChecks w f p
     parents-next j u d = sym (parent-passes w (length p) x (parentsIn w (length p) (kind f) (ancestorsFrom p j)) d) ∙ here j u
 
-    pub parents-stop : (c : Check) → isDirectory x ≡ false → c ≡ parent w (length p) x → c ≡ parents w f p
+    pub parents-stop : (c : Check) → isDirectory x ≡ false → c ≡ parentAt w (length p) x → c ≡ parentChecks w f p
     parents-stop c d u =
         let j = nextSlash p (k + 1) in
         u ∙ sym (parent-stops w (length p) x (parentsIn w (length p) (kind f) (ancestorsFrom p j)) d) ∙ here j refl

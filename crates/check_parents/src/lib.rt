@@ -11,7 +11,7 @@ ghost use Rattle.model.specs.Path.{isPath, ancestors};
 ghost use Rattle.model.specs.Tree.{shown, kind, isDirectory};
 ghost use Rattle.model.specs.Listing.{treeIn, isListing};
 ghost use Rattle.model.specs.Table.{tableIn, isTable};
-ghost use Rattle.model.specs.Checks.{pass, parent, parents, ancestor, ancestorsIn};
+ghost use Rattle.model.specs.Checks.{pass, parentAt, parentChecks, ancestorAt, ancestorsIn};
 ghost use Rattle.view_at.specs.Sight.{visibleKind};
 ghost use Rattle.check_parents.specs.Judged.{checkOf, refuses};
 ghost use Rattle.check_parents.specs.Dirs.{endsOf, missingEnds, climbs};
@@ -54,7 +54,7 @@ pub fn is_directory(visible: view_at::Visible) -> bool
 
 // What a parent that shows this gives, for the path `which` of `len` bytes.
 fn check_parent(visible: view_at::Visible, which: u64, len: u64) -> Judged
-    ensures { λ r. ⌜ checkOf r ≡ parent which len (visibleKind visible) ⌝ }
+    ensures { λ r. ⌜ checkOf r ≡ parentAt which len (visibleKind visible) ⌝ }
 {
     match visible {
         view_at::Visible::Nothing => {
@@ -82,7 +82,7 @@ pub fn ensure_parent_exists(
     requires { ⌜ isListing (now listing) ≡ true ⌝ }
     requires { ⌜ isTable (now table) rec ≡ true ⌝ }
     requires { ⌜ isPath (now path) ≡ true ⌝ }
-    ensures { λ r. ⌜ checkOf r ≡ parents which (shown (tableIn (now (table .entry)) rec) (treeIn (now (listing .entry)))) (now (path .entry)) ⌝ }
+    ensures { λ r. ⌜ checkOf r ≡ parentChecks which (shown (tableIn (now (table .entry)) rec) (treeIn (now (listing .entry)))) (now (path .entry)) ⌝ }
 {
     let mut sight = view_at::begin(listing, table, rec);
     let mut at = base_paths::next_ancestor(path, 0);
@@ -100,7 +100,7 @@ pub fn ensure_parent_exists(
 
 // What an ancestor of `end` bytes that shows this gives mkdir with parents, for a path of `len` bytes.
 fn check_ancestor(visible: view_at::Visible, end: u64, len: u64) -> Judged
-    ensures { λ r. ⌜ checkOf r ≡ ancestor end len (visibleKind visible) ⌝ }
+    ensures { λ r. ⌜ checkOf r ≡ ancestorAt end len (visibleKind visible) ⌝ }
 {
     match visible {
         view_at::Visible::Nothing => {

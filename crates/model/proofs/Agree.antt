@@ -17,8 +17,8 @@ use Rattle.model.specs.Map.{lookup, puts, del, each, keys, rekey, outsid
 use Rattle.model.specs.Tree.{held, Node, dir, file, link, Entry, own, reference, directory, deleted, Table, Tree, View, view, over, shown}
 use Rattle.model.specs.Tree.{Kind, nothing, aDirectory, aFile, aLink, kindOf, kind, isNothing, isDirectory}
 use Rattle.model.specs.Table.{charge}
-use Rattle.model.specs.Checks.{Check, pass, refuse, _then_, unless, parents, writeChecks, mkdirAt, mkdirParents, missing, makes, unlinkAt, unlinkChecks}
-use Rattle.model.specs.Checks.{notRoot, empty, rmdirChecks, Memory, limited, unlimited, charged}
+use Rattle.model.specs.Checks.{Check, pass, refuse, _then_, unless, parentChecks, writeChecks, mkdirAt, mkdirParents, missing, makes, unlinkAt, unlinkChecks}
+use Rattle.model.specs.Checks.{notRoot, noVisibleChild, rmdirChecks, Memory, limited, unlimited, charged}
 use Rattle.model.specs.Rename.{notLink, notDeleted, noClash, present, ifDirectory, planned, plan, budget, Walk, sum, overBudget, atLink, walkFrom, walked}
 use Rattle.model.specs.Rename.{carried, moved, keysFit, renameChecks}
 use Rattle.model.specs.Calls.{Call, write, mkdir, unlink, rmdir, rename, changed, rules}
@@ -139,13 +139,13 @@ abbrev pub later : Memory → Table → Tree → Path → Path → List Check
 later m t l a b =
     let f = shown t l in
     notRoot 1 b
-    ∷ parents 1 f b
+    ∷ parentChecks 1 f b
     ∷ notLink 1 (length b) (kind f b)
-    ∷ parents 0 f a
+    ∷ parentChecks 0 f a
     ∷ notDeleted (length a) (lookup t a)
     ∷ notLink 0 (length a) (kind f a)
     ∷ noClash (length b) (kind f a) (kind f b)
-    ∷ ifDirectory (kind f a) (ifDirectory (kind f b) (empty 1 t l b))
+    ∷ ifDirectory (kind f a) (ifDirectory (kind f b) (noVisibleChild 1 t l b))
     ∷ cond (below a b) (refuse 10 0 (length a)) pass
     ∷ present (length a) (kind f a)
     ∷ ifDirectory (kind f a) (plan m t a b)
@@ -196,7 +196,7 @@ module _ (t : Table) (l : Tree) (cl : Closed (lookup l)) (i : Inv t l) (a b : Pa
       dir′ h e = elim (kind-is (kind (shown t l) a)) [ is-directory k ↦ k | is-nothing k ↦ cc | is-file k ↦ cc | is-link′ k ↦ cc ]
 
       free′ : noClash (length b) (kind (shown t l) a) (kind (shown t l) b) ≡ pass
-          → ifDirectory (kind (shown t l) a) (ifDirectory (kind (shown t l) b) (empty 1 t l b)) ≡ pass → (q : Path) (n : Node) → below b q ≡ true → shown t l q ≡ some n → ⊥
+          → ifDirectory (kind (shown t l) a) (ifDirectory (kind (shown t l) b) (noVisibleChild 1 t l b)) ≡ pass → (q : Path) (n : Node) → below b q ≡ true → shown t l q ≡ some n → ⊥
       free′ h g q n z e = let c = i .closed b q n z e in let d = dir′ h c in childless-empty t l b 1 (i .closed) (cc) q n z e
 
       unlinked′ : ifDirectory (kind (shown t l) a) (ifDirectory (kind (lookup l) a) (walked (length a) (walkFrom t l (budget m t a b) a))) ≡ pass
@@ -215,9 +215,9 @@ module _ (t : Table) (l : Tree) (cl : Closed (lookup l)) (i : Inv t l) (a b : Pa
           → notLink 0 (length a) (kind (shown t l) a) ≡ pass → kind (shown t l) b ≡ aFile → kind (shown t l) a ≡ aFile
       file′ h g r e = elim (kind-is (kind (shown t l) a)) [ is-directory k ↦ cc | is-nothing k ↦ cc | is-file k ↦ k | is-link′ k ↦ cc ]
 
-      build : notRoot 0 a ≡ pass → notRoot 1 b ≡ pass → parents 1 (shown t l) b ≡ pass → notLink 1 (length b) (kind (shown t l) b) ≡ pass
+      build : notRoot 0 a ≡ pass → notRoot 1 b ≡ pass → parentChecks 1 (shown t l) b ≡ pass → notLink 1 (length b) (kind (shown t l) b) ≡ pass
           → notLink 0 (length a) (kind (shown t l) a) ≡ pass → noClash (length b) (kind (shown t l) a) (kind (shown t l) b) ≡ pass
-          → ifDirectory (kind (shown t l) a) (ifDirectory (kind (shown t l) b) (empty 1 t l b)) ≡ pass → cond (below a b) (refuse 10 0 (length a)) pass ≡ pass
+          → ifDirectory (kind (shown t l) a) (ifDirectory (kind (shown t l) b) (noVisibleChild 1 t l b)) ≡ pass → cond (below a b) (refuse 10 0 (length a)) pass ≡ pass
           → present (length a) (kind (shown t l) a) ≡ pass
           → ifDirectory (kind (shown t l) a) (ifDirectory (kind (lookup l) a) (walked (length a) (walkFrom t l (budget m t a b) a))) ≡ pass → RenameOk (shown t l) a b
       build ra rb pb nb na ty em un an wa = record {
@@ -237,13 +237,13 @@ module _ (t : Table) (l : Tree) (cl : Closed (lookup l)) (i : Inv t l) (a b : Pa
   ok-rename asc o m =
       next (notRoot 0 a) _ (fine (notRoot 0 a) (proper-pass t l i a b 0 a (o .source))) (
       next (notRoot 1 b) _ (fine (notRoot 1 b) (proper-pass t l i a b 1 b (o .target))) (
-      next (parents 1 (shown t l) b) _ (fine (parents 1 (shown t l) b) (parents-pass 1 (length b) (kind (shown t l)) b (o .up))) (
+      next (parentChecks 1 (shown t l) b) _ (fine (parentChecks 1 (shown t l) b) (parents-pass 1 (length b) (kind (shown t l)) b (o .up))) (
       next (notLink 1 (length b) kb) _ (fine (notLink 1 (length b) kb) link-b) (
-      next (parents 0 (shown t l) a) _ (fine (parents 0 (shown t l) a) (parents-pass 0 (length a) (kind (shown t l)) a up-a)) (
+      next (parentChecks 0 (shown t l) a) _ (fine (parentChecks 0 (shown t l) a) (parents-pass 0 (length a) (kind (shown t l)) a up-a)) (
       next (notDeleted (length a) (lookup t a)) _ (fine (notDeleted (length a) (lookup t a)) there) (
       next (notLink 0 (length a) ka) _ (fine (notLink 0 (length a) ka) link-a) (
       next (noClash (length b) ka kb) _ (fine (noClash (length b) ka kb) types) (
-      next (ifDirectory ka (ifDirectory kb (empty 1 t l b))) _ (fine (ifDirectory ka (ifDirectory kb (empty 1 t l b))) vacant) (
+      next (ifDirectory ka (ifDirectory kb (noVisibleChild 1 t l b))) _ (fine (ifDirectory ka (ifDirectory kb (noVisibleChild 1 t l b))) vacant) (
       next (cond (below a b) (refuse 10 0 (length a)) pass) _ (fine (cond (below a b) (refuse 10 0 (length a)) pass) apart′) (
       next (present (length a) ka) _ (fine (present (length a) ka) found′) (
       next (ifDirectory ka (plan m t a b)) _ planned′ (
@@ -291,7 +291,7 @@ module _ (t : Table) (l : Tree) (cl : Closed (lookup l)) (i : Inv t l) (a b : Pa
         | is-file z ↦ cc (o .over-file z)
       ]
 
-      vacant : ifDirectory ka (ifDirectory kb (empty 1 t l b)) ≡ pass
+      vacant : ifDirectory ka (ifDirectory kb (noVisibleChild 1 t l b)) ≡ pass
       vacant = let e = empty-childless t l b 1 (o .free) in elim (test (isDirectory ka)) [ nay z ↦ cc | yea z ↦ elim (test (isDirectory kb)) [ yea y ↦ cc | nay y ↦ cc ] ]
 
       apart′ : cond (below a b) (refuse 10 0 (length a)) pass ≡ pass
@@ -340,8 +340,8 @@ module _ (t : Table) (l s : Tree) (g : Sound t l s) where
   agree-unlink : (p : Path) → (unlinkChecks t l p ≡ pass) ↔ (unlinkChecks [] s p ≡ pass)
   agree-unlink p = (forth, back)
     where
-      e : (parents 0 (shown t l) p then unlinkAt (length p) (kind (shown t l) p)) ≡ unlinkChecks [] s p
-      e = ap (λ (f : View). parents 0 f p then unlinkAt (length p) (kind f p)) (g .tree)
+      e : (parentChecks 0 (shown t l) p then unlinkAt (length p) (kind (shown t l) p)) ≡ unlinkChecks [] s p
+      e = ap (λ (f : View). parentChecks 0 f p then unlinkAt (length p) (kind f p)) (g .tree)
 
       shows : (x : Entry) (n : Node) → lookup t p ≡ some x → view x ≡ some n → kindOf (view x) ≡ aFile → unlinkChecks [] s p ≡ pass
       shows x n h v r = sym e ∙ cc (kind-entry t l (g .inv) p x h, parents-pass 0 (length p) (kind (shown t l)) p (λ q b. g .inv .closed q p n b (cc)))
@@ -357,7 +357,7 @@ module _ (t : Table) (l s : Tree) (g : Sound t l s) where
 
       back : unlinkChecks [] s p ≡ pass → unlinkChecks t l p ≡ pass
       back h =
-          let k = unlink-regular (length p) (kind (shown t l) p) (then-pass (parents 0 (shown t l) p) (unlinkAt (length p) (kind (shown t l) p)) (e ∙ h) .1) in
+          let k = unlink-regular (length p) (kind (shown t l) p) (then-pass (parentChecks 0 (shown t l) p) (unlinkAt (length p) (kind (shown t l) p)) (e ∙ h) .1) in
           elim (entry-at (lookup t p)) [
             | at-none a ↦ cc (e)
             | at-own m d a ↦ cc

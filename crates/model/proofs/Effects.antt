@@ -15,7 +15,7 @@ use Rattle.model.specs.Map.{lookup, put, puts, only, each, keys, rekey, 
 use Rattle.model.specs.Tree.{Node, dir, file, link, Entry, own, directory, deleted, Table, Tree, View, shown}
 use Rattle.model.specs.Tree.{Kind, nothing, aDirectory, aLink, kindOf, kind, isNothing, isDirectory}
 use Rattle.model.specs.Table.{charge}
-use Rattle.model.specs.Checks.{Check, pass, _then_, unless, parents, writeChecks, mkdirAt, mkdirParents, missing, makes, unlinkChecks, rmdirChecks}
+use Rattle.model.specs.Checks.{Check, pass, _then_, unless, parentChecks, writeChecks, mkdirAt, mkdirParents, missing, makes, unlinkChecks, rmdirChecks}
 use Rattle.model.specs.Checks.{notRoot, Memory, limited, charged}
 use Rattle.model.specs.Rename.{asEntry, uncovered, along, carried, moved, renameChecks}
 use Rattle.model.specs.Calls.{Call, write, mkdir, unlink, rmdir, rename, changed, rules}
@@ -226,8 +226,8 @@ module _ (t : Table) (l : Tree) (i : Inv t l) where
     | met-directory e u ↦ (λ d. (u, ap (λ (x : Table). shown x l) (unchanged t l p m e)), λ n. absurd (n e))
   ]
     where
-      above : (p : Path) (y : Check) → (parents 0 (shown t l) p then y) ≡ pass → Prefixed (shown t l) p
-      above p y u q b = parents-dirs 0 (length p) (kind (shown t l)) p q (then-pass (parents 0 (shown t l) p) y u .0) b
+      above : (p : Path) (y : Check) → (parentChecks 0 (shown t l) p then y) ≡ pass → Prefixed (shown t l) p
+      above p y u q b = parents-dirs 0 (length p) (kind (shown t l)) p q (then-pass (parentChecks 0 (shown t l) p) y u .0) b
 
   posix-unlink : (p : Path) → unlinkChecks t l p ≡ pass → Posix (shown t l) (shown (put p deleted t) l) (unlink p)
   posix-unlink p h = let k = unlink-found t l i p h in (

@@ -9,7 +9,7 @@ use lib.Dec.{eqb}
 use Rattle.model.specs.Path.{Path, below, ancestors}
 use Rattle.model.specs.Map.{lookup, put}
 use Rattle.model.specs.Tree.{Body, listed, Node, dir, file, link, Entry, own, reference, directory, deleted, Table, Tree, View, view, over, shown, Kind, nothing, aDirectory, aFile, aLink, kindOf, kind}
-use Rattle.model.specs.Checks.{Check, pass, refuse, _then_, parent, parentsIn}
+use Rattle.model.specs.Checks.{Check, pass, refuse, _then_, parentAt, parentsIn}
 use Rattle.model.proofs.Orders.{split, Split, below-irrefl, eqb-eq, eqb-true, same-no, and-true, bot, is-none, is-some, opt}
 use Rattle.model.proofs.Maps.{upd, lookup-put, orElse}
 
@@ -69,7 +69,7 @@ pub then-pass : (a b : Check) → (a then b) ≡ pass → (a ≡ pass) × (b ≡
 then-pass pass b h = (refl, h)
 then-pass (refuse k w n) b h = (cc, cc)
 
-parent-dir : (w n : ℕ) (k : Kind) → parent w n k ≡ pass → k ≡ aDirectory
+parent-dir : (w n : ℕ) (k : Kind) → parentAt w n k ≡ pass → k ≡ aDirectory
 parent-dir w n nothing h = cc
 parent-dir w n aDirectory h = refl
 parent-dir w n aFile h = cc
@@ -78,14 +78,14 @@ parent-dir w n aLink h = cc
 module _ (w n : ℕ) where
   parents-map : (g : Path → Kind) (c : ℕ) (qs : List Path) → parentsIn w n g (map (λ (q : Path). c ∷ q) qs) ≡ parentsIn w n (λ q. g (c ∷ q)) qs
   parents-map g c [] = refl
-  parents-map g c (q ∷ qs) = ap (λ z. parent w n (g (c ∷ q)) then z) (parents-map g c qs)
+  parents-map g c (q ∷ qs) = ap (λ z. parentAt w n (g (c ∷ q)) then z) (parents-map g c qs)
 
   -- the check on the parents, and what it says
-  parents-cons : (g : Path → Kind) (c : ℕ) (cs : Path) → parentsIn w n g (ancestors (c ∷ cs)) ≡ (cond (eqb c 47) (parent w n (g [])) pass then parentsIn w n (λ q. g (c ∷ q)) (ancestors cs))
+  parents-cons : (g : Path → Kind) (c : ℕ) (cs : Path) → parentsIn w n g (ancestors (c ∷ cs)) ≡ (cond (eqb c 47) (parentAt w n (g [])) pass then parentsIn w n (λ q. g (c ∷ q)) (ancestors cs))
   parents-cons g c cs = go (eqb c 47) refl (parents-map g c (ancestors cs))
     where
       go : (b : Bool) → eqb c 47 ≡ b → parentsIn w n g (map (λ (q : Path). c ∷ q) (ancestors cs)) ≡ parentsIn w n (λ q. g (c ∷ q)) (ancestors cs)
-          → parentsIn w n g (ancestors (c ∷ cs)) ≡ (cond (eqb c 47) (parent w n (g [])) pass then parentsIn w n (λ q. g (c ∷ q)) (ancestors cs))
+          → parentsIn w n g (ancestors (c ∷ cs)) ≡ (cond (eqb c 47) (parentAt w n (g [])) pass then parentsIn w n (λ q. g (c ∷ q)) (ancestors cs))
       go true e h = cc
       go false e h = cc
 
@@ -93,10 +93,10 @@ module _ (w n : ℕ) where
   parents-dirs g [] [] h b = cc
   parents-dirs g [] (a ∷ as′) h b = cc
   parents-dirs g (c ∷ cs) [] h b =
-      let k = then-pass (cond (eqb c 47) (parent w n (g [])) pass) (parentsIn w n (λ q. g (c ∷ q)) (ancestors cs)) (sym (parents-cons g c cs) ∙ h) in
+      let k = then-pass (cond (eqb c 47) (parentAt w n (g [])) pass) (parentsIn w n (λ q. g (c ∷ q)) (ancestors cs)) (sym (parents-cons g c cs) ∙ h) in
       parent-dir w n (g []) (cc (k .0))
   parents-dirs g (c ∷ cs) (a ∷ as′) h b =
-      let k = then-pass (cond (eqb c 47) (parent w n (g [])) pass) (parentsIn w n (λ q. g (c ∷ q)) (ancestors cs)) (sym (parents-cons g c cs) ∙ h) in
+      let k = then-pass (cond (eqb c 47) (parentAt w n (g [])) pass) (parentsIn w n (λ q. g (c ∷ q)) (ancestors cs)) (sym (parents-cons g c cs) ∙ h) in
       let e = and-true (eqb a c) (below as′ cs) b in
       cc (parents-dirs (λ q. g (c ∷ q)) cs as′ (k .1) (e .1), eqb-eq a c (e .0))
 
@@ -104,7 +104,7 @@ module _ (w n : ℕ) where
   parents-pass g [] h = refl
   parents-pass g (c ∷ cs) h = parents-cons g c cs ∙ go (eqb c 47) refl (parents-pass (λ q. g (c ∷ q)) cs (λ q b. h (c ∷ q) (cc (eqb-true c))))
     where
-      go : (b : Bool) → eqb c 47 ≡ b → parentsIn w n (λ q. g (c ∷ q)) (ancestors cs) ≡ pass → (cond (eqb c 47) (parent w n (g [])) pass then parentsIn w n (λ q. g (c ∷ q)) (ancestors cs)) ≡ pass
+      go : (b : Bool) → eqb c 47 ≡ b → parentsIn w n (λ q. g (c ∷ q)) (ancestors cs) ≡ pass → (cond (eqb c 47) (parentAt w n (g [])) pass then parentsIn w n (λ q. g (c ∷ q)) (ancestors cs)) ≡ pass
       go true e ih = cc (h [] e)
       go false e ih = cc
 

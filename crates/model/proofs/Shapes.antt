@@ -14,7 +14,7 @@ use Rattle.model.specs.Map.{lookup, keys, rekey}
 use Rattle.model.specs.Tree.{Entry, own, reference, directory, deleted, Table, Tree, View, shown, Kind, nothing, aDirectory, aFile, aLink, kind, isDirectory}
 use Rattle.model.specs.Table.{charge, isTable, tableIn, sized}
 use Rattle.model.specs.Listing.{isListing, treeIn}
-use Rattle.model.specs.Checks.{Check, pass, refuse, _then_, unless, form, parent, parentsIn, parents, writeAt, ancestor, ancestorsIn, mkdirParents, mkdirAt, unlinkAt, unlinkEntry, notRoot, visibleChild, empty, rmdirAt, rmdirEntry, Memory, limited, unlimited, charged}
+use Rattle.model.specs.Checks.{Check, pass, refuse, _then_, unless, form, parentAt, parentsIn, parentChecks, writeAt, ancestorAt, ancestorsIn, mkdirParents, mkdirAt, unlinkAt, unlinkEntry, notRoot, visibleChild, noVisibleChild, rmdirAt, rmdirEntry, Memory, limited, unlimited, charged}
 use Rattle.model.specs.Rename.{notLink, notDeleted, noClash, present, ifDirectory, planned, plan, budget, Walk, sum, overBudget, atLink, walkFrom, walked, keysFit, carried, moved, renameChecks}
 use Rattle.model.specs.Calls.{Call, write, mkdir, unlink, rmdir, rename, changed, forms, rules, valueOf, Query, says}
 use Rattle.model.specs.Answer.{accepted, refused}
@@ -84,7 +84,7 @@ module _ {c : Call} {w : ℕ} {p : Path} (at : Names c w p) where
   well-form : Well c (form w p)
   well-form = well-cond (isPath p) passes (refuses (malformed w p at))
 
-  well-parent : (k : Kind) → Well c (parent w (length p) k)
+  well-parent : (k : Kind) → Well c (parentAt w (length p) k)
   well-parent nothing = here 5 tt tt
   well-parent aDirectory = passes
   well-parent aFile = here 5 tt tt
@@ -94,10 +94,10 @@ module _ {c : Call} {w : ℕ} {p : Path} (at : Names c w p) where
   well-parentsIn g [] = passes
   well-parentsIn g (q ∷ qs) = well-parent (g q) and well-parentsIn g qs
 
-  well-parents : (f : View) → Well c (parents w f p)
+  well-parents : (f : View) → Well c (parentChecks w f p)
   well-parents f = well-parentsIn (kind f) (ancestors p)
 
-  well-empty : (t : Table) (l : Tree) → Well c (empty w t l p)
+  well-empty : (t : Table) (l : Tree) → Well c (noVisibleChild w t l p)
   well-empty t l = well-cond (visibleChild (shown t l) p (keys t) || visibleChild (shown t l) p (keys l)) (here 9 tt tt) passes
 
   well-notLink : (k : Kind) → Well c (notLink w (length p) k)
@@ -170,7 +170,7 @@ module _ {c : Call} {p : Path} (at : Names c 0 p) where
 
 -- the ancestors of mkdir with parents
 module _ (p : Path) (ok : Bool) (m : ℕ) where
-  well-ancestor : (q : Path) → below q p ≡ true → (k : Kind) → Well (mkdir p true ok m) (ancestor (length q) (length p) k)
+  well-ancestor : (q : Path) → below q p ≡ true → (k : Kind) → Well (mkdir p true ok m) (ancestorAt (length q) (length p) k)
   well-ancestor q h nothing = passes
   well-ancestor q h aDirectory = passes
   well-ancestor q h aFile = refuses (at-ancestor p q ok m refl h)

@@ -12,8 +12,8 @@ use Rattle.model.specs.Path.{Path, below, child, ancestors}
 use Rattle.model.specs.Map.{Map, lookup, put, puts, each, keys}
 use Rattle.model.specs.Tree.{Node, dir, file, link, Entry, own, reference, directory, deleted, Table, Tree, View, over, shown}
 use Rattle.model.specs.Tree.{Kind, nothing, aDirectory, aFile, aLink, kindOf, kind, isNothing}
-use Rattle.model.specs.Checks.{Check, pass, _then_, parents, writeAt, writeChecks, ancestor, ancestorsIn, mkdirAt, mkdirParents, missing, makes}
-use Rattle.model.specs.Checks.{unlinkAt, unlinkChecks, notRoot, visibleChild, empty, rmdirAt, rmdirEntry, rmdirChecks}
+use Rattle.model.specs.Checks.{Check, pass, _then_, parentChecks, writeAt, writeChecks, ancestorAt, ancestorsIn, mkdirAt, mkdirParents, missing, makes}
+use Rattle.model.specs.Checks.{unlinkAt, unlinkChecks, notRoot, visibleChild, noVisibleChild, rmdirAt, rmdirEntry, rmdirChecks}
 use Rattle.model.proofs.Orders.{split, Split, and-true, bot, yea, nay, test, is-none, is-some, opt, mem, mem-ancestors, below-trans}
 use Rattle.model.proofs.Maps.{orElse, lookup-puts, lookup-each}
 use Rattle.model.proofs.Invariant.{entry-at, at-none, at-own, at-reference, at-directory, at-deleted, Closed, Inv, kind-at, kind-entry, then-pass, parents-dirs, parents-pass, inv-put, inv-over}
@@ -33,7 +33,7 @@ module _ (t : Table) (l : Tree) (i : Inv t l) (p : Path) where
 
   pub write-inv : (m : ℕ) (d : List ℕ) → writeChecks (shown t l) p ≡ pass → Inv (put p (own m d) t) l
   write-inv m d h =
-      let k = then-pass (parents 0 (shown t l) p) (writeAt (length p) (kind (shown t l) p)) h in
+      let k = then-pass (parentChecks 0 (shown t l) p) (writeAt (length p) (kind (shown t l) p)) h in
       let nd : kind (shown t l) p ≡ aDirectory → ⊥ = λ e. bot (cc (k .1)) in
       let r = no-link nd (λ e. bot (cc (k .1))) in
       inv-put t l i p (own m d) (λ q n b s. nd (i .closed p q n b s)) (λ n q v b. parents-dirs 0 (length p) (kind (shown t l)) p q (k .0) b)
@@ -42,7 +42,7 @@ module _ (t : Table) (l : Tree) (i : Inv t l) (p : Path) where
   -- what an accepted unlink found
   pub unlink-found : unlinkChecks t l p ≡ pass → kind (shown t l) p ≡ aFile
   unlink-found h = elim (entry-at (lookup t p)) [
-    | at-none e ↦ unlink-regular (length p) (kind (shown t l) p) (then-pass (parents 0 (shown t l) p) (unlinkAt (length p) (kind (shown t l) p)) (cc) .1)
+    | at-none e ↦ unlink-regular (length p) (kind (shown t l) p) (then-pass (parentChecks 0 (shown t l) p) (unlinkAt (length p) (kind (shown t l) p)) (cc) .1)
     | at-own m d e ↦ kind-entry t l i p (own m d) e
     | at-reference m s q e ↦ kind-entry t l i p (reference m s q) e
     | at-directory m e ↦ cc
@@ -76,7 +76,7 @@ mem-absent g (k ∷ ks) q =
       | Split.ne x w ↦ elim (test (isNothing (g k))) [ yea e ↦ cc | nay e ↦ cc ]
     ]
 
-parent-may : (n : ℕ) (q : Path) (k : Kind) → ancestor (length q) n k ≡ pass → (k ≡ aDirectory) ⊎ (k ≡ nothing)
+parent-may : (n : ℕ) (q : Path) (k : Kind) → ancestorAt (length q) n k ≡ pass → (k ≡ aDirectory) ⊎ (k ≡ nothing)
 parent-may n q nothing h = inr refl
 parent-may n q aDirectory h = inl refl
 parent-may n q aFile h = inl (cc)
@@ -85,7 +85,7 @@ parent-may n q aLink h = inl (cc)
 parents-may : (n : ℕ) (g : Path → Kind) (qs : List Path) → ancestorsIn n g qs ≡ pass → (q : Path) → mem q qs ≡ true → (g q ≡ aDirectory) ⊎ (g q ≡ nothing)
 parents-may n g [] h q b = inl (cc)
 parents-may n g (k ∷ ks) h q b =
-    let r = then-pass (ancestor (length k) n (g k)) (ancestorsIn n g ks) h in
+    let r = then-pass (ancestorAt (length k) n (g k)) (ancestorsIn n g ks) h in
     elim (split k q) [ Split.eq e w ↦ rw (← e) (parent-may n k (g k) (r .0)) | Split.ne e w ↦ parents-may n g ks (r .1) q (cc) ]
 
 -- what an accepted mkdir has met at its path: nothing, and checks behind it that pass; or a directory, which exist_ok accepts
@@ -202,7 +202,7 @@ some-kind (file m z b) = refl
 some-kind link = refl
 
 module _ (t : Table) (l : Tree) (p : Path) (w : ℕ) where
-  pub childless : empty w t l p ≡ pass → (q : Path) (x : Node) → child p q ≡ true → shown t l q ≡ some x → ⊥
+  pub childless : noVisibleChild w t l p ≡ pass → (q : Path) (x : Node) → child p q ≡ true → shown t l q ≡ some x → ⊥
   childless h q x c g =
       let v : isNothing (kind (shown t l) q) ≡ false = cc (kind-at (shown t l) q (some x) g (child-root p q c), some-kind x) in
       elim (test (visibleChild (shown t l) p (keys t))) [
@@ -216,7 +216,7 @@ module _ (t : Table) (l : Tree) (p : Path) (w : ℕ) where
         ]
       ]
 
-  pub childless-empty : Closed (shown t l) → empty w t l p ≡ pass → (q : Path) (x : Node) → below p q ≡ true → shown t l q ≡ some x → ⊥
+  pub childless-empty : Closed (shown t l) → noVisibleChild w t l p ≡ pass → (q : Path) (x : Node) → below p q ≡ true → shown t l q ≡ some x → ⊥
   childless-empty cl h q x b g = elim (way p q b) [
     | inl c ↦ childless h q x c g
     | inr z ↦ elim (opt (shown t l (z .0))) [
@@ -225,7 +225,7 @@ module _ (t : Table) (l : Tree) (p : Path) (w : ℕ) where
     ]
   ]
 
-  pub empty-childless : ((q : Path) (x : Node) → below p q ≡ true → shown t l q ≡ some x → ⊥) → empty w t l p ≡ pass
+  pub empty-childless : ((q : Path) (x : Node) → below p q ≡ true → shown t l q ≡ some x → ⊥) → noVisibleChild w t l p ≡ pass
   empty-childless h =
       let v : (q : Path) → child p q ≡ true → isNothing (kind (shown t l) q) ≡ true = λ q c. elim (opt (shown t l q)) [
         | is-none e ↦ cc (kind-at (shown t l) q none e (child-root p q c))
@@ -259,12 +259,12 @@ pub record RmdirOk (f : View) (p : Path) : Type 0 where
 module _ (t : Table) (l : Tree) (i : Inv t l) (p : Path) where
   pub rmdir-ok : rmdirChecks t l p ≡ pass → RmdirOk (shown t l) p
   rmdir-ok h =
-      let a = then-pass (notRoot 0 p) (rmdirEntry (length p) (lookup t p) (parents 0 (shown t l) p then rmdirAt (length p) (kind (shown t l) p)) then empty 0 t l p) h in
-      let b = then-pass (rmdirEntry (length p) (lookup t p) (parents 0 (shown t l) p then rmdirAt (length p) (kind (shown t l) p))) (empty 0 t l p) (a .1) in
+      let a = then-pass (notRoot 0 p) (rmdirEntry (length p) (lookup t p) (parentChecks 0 (shown t l) p then rmdirAt (length p) (kind (shown t l) p)) then noVisibleChild 0 t l p) h in
+      let b = then-pass (rmdirEntry (length p) (lookup t p) (parentChecks 0 (shown t l) p then rmdirAt (length p) (kind (shown t l) p))) (noVisibleChild 0 t l p) (a .1) in
       record {
         proper = root-refused 0 p (a .0);
-        isDir = rmdir-entry (length p) (lookup t p) (parents 0 (shown t l) p then rmdirAt (length p) (kind (shown t l) p)) (kind (shown t l) p) (b .0)
-            (λ y. rmdir-dir (length p) (kind (shown t l) p) (then-pass (parents 0 (shown t l) p) (rmdirAt (length p) (kind (shown t l) p)) y .1))
+        isDir = rmdir-entry (length p) (lookup t p) (parentChecks 0 (shown t l) p then rmdirAt (length p) (kind (shown t l) p)) (kind (shown t l) p) (b .0)
+            (λ y. rmdir-dir (length p) (kind (shown t l) p) (then-pass (parentChecks 0 (shown t l) p) (rmdirAt (length p) (kind (shown t l) p)) y .1))
             (λ m e. kind-entry t l i p (directory m) e);
         empty = childless-empty t l p 0 (i .closed) (b .1);
       }

@@ -35,12 +35,12 @@ forms (rename a b) = form 0 a then form 1 b
 
 -- 4 to 12
 abbrev pub rules : Memory → Table → Tree → Call → Check
-rules m t l (write p d c) = writeChecks (shown t l) p then charged m (changed t l (write p d c))
-rules m t l (mkdir p up ok d) =
-    mkdirAt (length p) ok (kind (shown t l) p) (mkdirParents (shown t l) p up then charged m (changed t l (mkdir p up ok d)))
-rules m t l (unlink p) = unlinkChecks t l p then charged m (changed t l (unlink p))
-rules m t l (rmdir p) = rmdirChecks t l p then charged m (changed t l (rmdir p))
-rules m t l (rename a b) = renameChecks m t l a b
+rules memory t l (write p m c) = writeChecks (shown t l) p then charged memory (changed t l (write p m c))
+rules memory t l (mkdir p up ok m) =
+    mkdirAt (length p) ok (kind (shown t l) p) (mkdirParents (shown t l) p up then charged memory (changed t l (mkdir p up ok m)))
+rules memory t l (unlink p) = unlinkChecks t l p then charged memory (changed t l (unlink p))
+rules memory t l (rmdir p) = rmdirChecks t l p then charged memory (changed t l (rmdir p))
+rules memory t l (rename a b) = renameChecks memory t l a b
 
 -- "An accepted write answers the data's length, the other changing calls nothing."
 abbrev pub valueOf : Call → ℕ

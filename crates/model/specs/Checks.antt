@@ -33,18 +33,18 @@ abbrev pub form : ℕ → Path → Check
 form w p = cond (isPath p) pass (refuse 3 w 0)
 
 -- "Parents of p, from the top: a directory entry passes, another entry gives 5; without an entry a directory passes, a link gives 4, else 5."
-abbrev pub parent : ℕ → ℕ → Kind → Check
-parent w n nothing = refuse 5 w n
-parent w n aDirectory = pass
-parent w n aFile = refuse 5 w n
-parent w n aLink = refuse 4 w n
+abbrev pub parentAt : ℕ → ℕ → Kind → Check
+parentAt w n nothing = refuse 5 w n
+parentAt w n aDirectory = pass
+parentAt w n aFile = refuse 5 w n
+parentAt w n aLink = refuse 4 w n
 
 abbrev pub parentsIn : ℕ → ℕ → (Path → Kind) → List Path → Check
 parentsIn w n g [] = pass
-parentsIn w n g (q ∷ qs) = parent w n (g q) then parentsIn w n g qs
+parentsIn w n g (q ∷ qs) = parentAt w n (g q) then parentsIn w n g qs
 
-abbrev pub parents : ℕ → View → Path → Check
-parents w f p = parentsIn w (length p) (kind f) (ancestors p)
+abbrev pub parentChecks : ℕ → View → Path → Check
+parentChecks w f p = parentsIn w (length p) (kind f) (ancestors p)
 
 -- "write: parents; 8 on a directory; 4 on a link"
 abbrev pub writeAt : ℕ → Kind → Check
@@ -54,22 +54,22 @@ writeAt n aFile = pass
 writeAt n aLink = refuse 4 0 n
 
 abbrev pub writeChecks : View → Path → Check
-writeChecks f p = parents 0 f p then writeAt (length p) (kind f p)
+writeChecks f p = parentChecks 0 f p then writeAt (length p) (kind f p)
 
 -- "with the parents flag, at the first ancestor that is a file 7, or a link 4 with the whole path's length, missing ones being made"
-abbrev pub ancestor : ℕ → ℕ → Kind → Check
-ancestor k n nothing = pass
-ancestor k n aDirectory = pass
-ancestor k n aFile = refuse 7 0 k
-ancestor k n aLink = refuse 4 0 n
+abbrev pub ancestorAt : ℕ → ℕ → Kind → Check
+ancestorAt k n nothing = pass
+ancestorAt k n aDirectory = pass
+ancestorAt k n aFile = refuse 7 0 k
+ancestorAt k n aLink = refuse 4 0 n
 
 abbrev pub ancestorsIn : ℕ → (Path → Kind) → List Path → Check
 ancestorsIn n g [] = pass
-ancestorsIn n g (q ∷ qs) = ancestor (length q) n (g q) then ancestorsIn n g qs
+ancestorsIn n g (q ∷ qs) = ancestorAt (length q) n (g q) then ancestorsIn n g qs
 
 abbrev pub mkdirParents : View → Path → Bool → Check
 mkdirParents f p true = ancestorsIn (length p) (kind f) (ancestors p)
-mkdirParents f p false = parents 0 f p
+mkdirParents f p false = parentChecks 0 f p
 
 -- "mkdir: own entry (a deleted one passes) or, without an entry, listed kind (6, also for a file with exist_ok; link 4; a directory with exist_ok is
 -- accepted here)": what follows, `later`, is asked only where nothing is shown
@@ -102,7 +102,7 @@ unlinkEntry n (some (directory m)) otherwise = refuse 8 0 n
 unlinkEntry n (some deleted) otherwise = refuse 5 0 n
 
 abbrev pub unlinkChecks : Table → Tree → Path → Check
-unlinkChecks t l p = unlinkEntry (length p) (lookup t p) (parents 0 (shown t l) p then unlinkAt (length p) (kind (shown t l) p))
+unlinkChecks t l p = unlinkEntry (length p) (lookup t p) (parentChecks 0 (shown t l) p then unlinkAt (length p) (kind (shown t l) p))
 
 -- "root given | 4 | path, length"
 abbrev pub notRoot : ℕ → Path → Check
@@ -113,8 +113,8 @@ notRoot w (c ∷ p) = pass
 abbrev pub visibleChild : View → Path → List Path → Bool
 visibleChild f p ks = some? (λ k. child p k && not (isNothing (kind f k))) ks
 
-abbrev pub empty : ℕ → Table → Tree → Path → Check
-empty w t l p = cond (visibleChild (shown t l) p (keys t) || visibleChild (shown t l) p (keys l)) (refuse 9 w (length p)) pass
+abbrev pub noVisibleChild : ℕ → Table → Tree → Path → Check
+noVisibleChild w t l p = cond (visibleChild (shown t l) p (keys t) || visibleChild (shown t l) p (keys l)) (refuse 9 w (length p)) pass
 
 -- "rmdir: root 4; own entry (file 7, deleted 5, directory on to 9); else parents, link 4, 5 or 7; 9"
 abbrev pub rmdirAt : ℕ → Kind → Check
@@ -133,8 +133,8 @@ rmdirEntry n (some deleted) otherwise = refuse 5 0 n
 abbrev pub rmdirChecks : Table → Tree → Path → Check
 rmdirChecks t l p =
     notRoot 0 p
-    then rmdirEntry (length p) (lookup t p) (parents 0 (shown t l) p then rmdirAt (length p) (kind (shown t l) p))
-    then empty 0 t l p
+    then rmdirEntry (length p) (lookup t p) (parentChecks 0 (shown t l) p then rmdirAt (length p) (kind (shown t l) p))
+    then noVisibleChild 0 t l p
 
 -- what a call may charge: an entry size and a limit, or no end of it, as in the plain tree's rules ("without 11 to 13")
 pub data Memory : Type 0 where

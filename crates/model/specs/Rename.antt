@@ -11,7 +11,7 @@ use Rattle.model.specs.Path.{Path, components, short, ancestors, below, 
 use Rattle.model.specs.Map.{isNone, lookup, puts, only, each, keys, rekey, mapped}
 use Rattle.model.specs.Tree.{held, listed, Node, dir, file, link, Entry, own, reference, directory, deleted, Table, Tree, shown, Kind, nothing, aDirectory, aFile, aLink, kindOf, kind, isDirectory}
 use Rattle.model.specs.Table.{charge}
-use Rattle.model.specs.Checks.{Check, pass, refuse, _then_, unless, parents, notRoot, empty, Memory, limited, unlimited, charged}
+use Rattle.model.specs.Checks.{Check, pass, refuse, _then_, unless, parentChecks, notRoot, noVisibleChild, Memory, limited, unlimited, charged}
 
 -- "a link at the destination without an entry, 4"; "source … link 4"
 abbrev pub notLink : ℕ → ℕ → Kind → Check
@@ -149,20 +149,20 @@ keysFit unlimited c = pass
 -- "rename: roots; destination's parents; a link at the destination without an entry, 4; source's parents; source deleted 5, link 4; type clash 8 or 7;
 -- 9 for a directory source; 10; source absent 5; for a directory the plan and the walk; 11; 12"
 abbrev pub renameChecks : Memory → Table → Tree → Path → Path → Check
-renameChecks m t l a b =
+renameChecks memory t l a b =
     let f = shown t l in
     notRoot 0 a
     then notRoot 1 b
-    then parents 1 f b
+    then parentChecks 1 f b
     then notLink 1 (length b) (kind f b)
-    then parents 0 f a
+    then parentChecks 0 f a
     then notDeleted (length a) (lookup t a)
     then notLink 0 (length a) (kind f a)
     then noClash (length b) (kind f a) (kind f b)
-    then ifDirectory (kind f a) (ifDirectory (kind f b) (empty 1 t l b))
+    then ifDirectory (kind f a) (ifDirectory (kind f b) (noVisibleChild 1 t l b))
     then cond (below a b) (refuse 10 0 (length a)) pass
     then present (length a) (kind f a)
-    then ifDirectory (kind f a) (plan m t a b)
-    then ifDirectory (kind f a) (ifDirectory (kind (lookup l) a) (walked (length a) (walkFrom t l (budget m t a b) a)))
-    then charged m (moved t l a b)
-    then keysFit m (rekey a b (carried t l a))
+    then ifDirectory (kind f a) (plan memory t a b)
+    then ifDirectory (kind f a) (ifDirectory (kind (lookup l) a) (walked (length a) (walkFrom t l (budget memory t a b) a)))
+    then charged memory (moved t l a b)
+    then keysFit memory (rekey a b (carried t l a))

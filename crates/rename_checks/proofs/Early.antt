@@ -6,7 +6,7 @@ use lib.ListN.{length}
 use Rattle.model.specs.Path.{Path, below}
 use Rattle.model.specs.Map.{lookup, rekey}
 use Rattle.model.specs.Tree.{Table, Tree, shown, kind}
-use Rattle.model.specs.Checks.{Check, pass, refuse, _then_, parents, notRoot, empty, Memory, charged}
+use Rattle.model.specs.Checks.{Check, pass, refuse, _then_, parentChecks, notRoot, noVisibleChild, Memory, charged}
 use Rattle.model.specs.Rename.{notLink, notDeleted, noClash, present, ifDirectory, plan, budget, walkFrom, walked, carried, moved, keysFit, renameChecks}
 use Rattle.rename_checks.specs.Both.{earlyChecks}
 
@@ -38,8 +38,8 @@ pub early-first :
     then keysFit m (rekey a b (carried t l a)))
 early-first m t l a b =
     let f = shown t l in
-    grouped (notRoot 0 a) (notRoot 1 b) (parents 1 f b) (notLink 1 (length b) (kind f b)) (parents 0 f a) (notDeleted (length a) (lookup t a))
-    (notLink 0 (length a) (kind f a)) (noClash (length b) (kind f a) (kind f b)) (ifDirectory (kind f a) (ifDirectory (kind f b) (empty 1 t l b)))
+    grouped (notRoot 0 a) (notRoot 1 b) (parentChecks 1 f b) (notLink 1 (length b) (kind f b)) (parentChecks 0 f a) (notDeleted (length a) (lookup t a))
+    (notLink 0 (length a) (kind f a)) (noClash (length b) (kind f a) (kind f b)) (ifDirectory (kind f a) (ifDirectory (kind f b) (noVisibleChild 1 t l b)))
     (cond (below a b) (refuse 10 0 (length a)) pass) (present (length a) (kind f a))
     (ifDirectory (kind f a) (plan m t a b)
     then ifDirectory (kind f a) (ifDirectory (kind (lookup l) a) (walked (length a) (walkFrom t l (budget m t a b) a)))

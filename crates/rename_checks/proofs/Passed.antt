@@ -11,7 +11,7 @@ use lib.ListN.{length}
 use Rattle.model.specs.Path.{Path, below, rest}
 use Rattle.model.specs.Map.{lookup}
 use Rattle.model.specs.Tree.{Node, Table, Tree, shown, Kind, aDirectory, aFile, kind, isNothing, isDirectory}
-use Rattle.model.specs.Checks.{pass, refuse, _then_, parents, notRoot, empty}
+use Rattle.model.specs.Checks.{pass, refuse, _then_, parentChecks, notRoot, noVisibleChild}
 use Rattle.model.specs.Rename.{notLink, notDeleted, noClash, present, ifDirectory}
 use Rattle.model.proofs.Orders.{Lt, bot, is-none, is-some, opt, inside-both}
 use Rattle.model.proofs.Invariant.{kind-is, is-nothing, is-directory, is-file, is-link′, kind-at, then-pass, parents-dirs}
@@ -37,8 +37,8 @@ module _ (t : Table) (l : Tree) (a b : Path) (h : earlyChecks t l a b ≡ pass) 
   pub no-roots : Lt [] a × Lt [] b
   no-roots =
       let f = shown t l in
-      let target = parents 1 f b then notLink 1 (length b) (kind f b) in
-      let source = parents 0 f a then notDeleted (length a) (lookup t a) then notLink 0 (length a) (kind f a) in
+      let target = parentChecks 1 f b then notLink 1 (length b) (kind f b) in
+      let source = parentChecks 0 f a then notDeleted (length a) (lookup t a) then notLink 0 (length a) (kind f a) in
       let r = then-pass (notRoot 0 a then notRoot 1 b) (target then source then bothChecks t l a b) h .0 in
       let e = then-pass (notRoot 0 a) (notRoot 1 b) r in
       (not-root 0 a (e .0), not-root 1 b (e .1))
@@ -48,16 +48,16 @@ module _ (t : Table) (l : Tree) (a b : Path) (h : earlyChecks t l a b ≡ pass) 
   kind-whole k e w d =
       let f = shown t l in
       let roots = notRoot 0 a then notRoot 1 b in
-      let target = parents 1 f b then notLink 1 (length b) (kind f b) in
+      let target = parentChecks 1 f b then notLink 1 (length b) (kind f b) in
       let away = notDeleted (length a) (lookup t a) then notLink 0 (length a) (kind f a) in
       let clash = noClash (length b) (kind f a) (kind f b) in
-      let vacant = ifDirectory (kind f a) (ifDirectory (kind f b) (empty 1 t l b)) in
+      let vacant = ifDirectory (kind f a) (ifDirectory (kind f b) (noVisibleChild 1 t l b)) in
       let apart = cond (below a b) (refuse 10 0 (length a)) pass in
       let there = present (length a) (kind f a) in
-      let h1 = then-pass roots (target then (parents 0 f a then away) then bothChecks t l a b) h .1 in
-      let h2 = then-pass target ((parents 0 f a then away) then bothChecks t l a b) h1 .1 in
-      let h3 = then-pass (parents 0 f a then away) (bothChecks t l a b) h2 in
-      let h4 = then-pass (parents 0 f a) away (h3 .0) .1 in
+      let h1 = then-pass roots (target then (parentChecks 0 f a then away) then bothChecks t l a b) h .1 in
+      let h2 = then-pass target ((parentChecks 0 f a then away) then bothChecks t l a b) h1 .1 in
+      let h3 = then-pass (parentChecks 0 f a then away) (bothChecks t l a b) h2 in
+      let h4 = then-pass (parentChecks 0 f a) away (h3 .0) .1 in
       let link = then-pass (notDeleted (length a) (lookup t a)) (notLink 0 (length a) (kind f a)) h4 .1 in
       let h5 = then-pass clash (vacant then apart then there) (h3 .1) .1 in
       let h6 = then-pass vacant (apart then there) h5 .1 in
@@ -73,7 +73,7 @@ module _ (t : Table) (l : Tree) where
   ]
 
   -- a directory that is empty is not on the way to a directory whose parents are all there
-  not-above : (a b : Path) → kind (shown t l) a ≡ aDirectory → parents 0 (shown t l) a ≡ pass → empty 1 t l b ≡ pass → below b a ≡ true → ⊥
+  not-above : (a b : Path) → kind (shown t l) a ≡ aDirectory → parentChecks 0 (shown t l) a ≡ pass → noVisibleChild 1 t l b ≡ pass → below b a ≡ true → ⊥
   not-above a b k p e h = elim (way b a h) [
     | inl c ↦ let n = some-shown a (child-root b a c) (ap isNothing k) in childless t l b 1 e a (n .0) c (n .1)
     | inr z ↦
@@ -84,7 +84,7 @@ module _ (t : Table) (l : Tree) where
 
   -- so no destination is, where the checks on both kinds and on its children passed
   not-under : (a b : Path) → noClash (length b) (kind (shown t l) a) (kind (shown t l) b) ≡ pass
-      → ifDirectory (kind (shown t l) a) (ifDirectory (kind (shown t l) b) (empty 1 t l b)) ≡ pass → parents 0 (shown t l) a ≡ pass
+      → ifDirectory (kind (shown t l) a) (ifDirectory (kind (shown t l) b) (noVisibleChild 1 t l b)) ≡ pass → parentChecks 0 (shown t l) a ≡ pass
       → below b a ≡ true → ⊥
   not-under a b c e p h =
       let kb = parents-dirs 0 (length a) (kind (shown t l)) a b p h in
@@ -104,15 +104,15 @@ module _ (t : Table) (l : Tree) where
   apart-paths a b h ne q r f =
       let v = shown t l in
       let roots = notRoot 0 a then notRoot 1 b in
-      let target = parents 1 v b then notLink 1 (length b) (kind v b) in
+      let target = parentChecks 1 v b then notLink 1 (length b) (kind v b) in
       let apart = cond (below a b) (refuse 10 0 (length a)) pass in
-      let vacant = ifDirectory (kind v a) (ifDirectory (kind v b) (empty 1 t l b)) in
+      let vacant = ifDirectory (kind v a) (ifDirectory (kind v b) (noVisibleChild 1 t l b)) in
       let last = present (length a) (kind v a) in
       let away = notDeleted (length a) (lookup t a) then notLink 0 (length a) (kind v a) in
-      let h1 = then-pass roots (target then (parents 0 v a then away) then bothChecks t l a b) h .1 in
-      let h2 = then-pass target ((parents 0 v a then away) then bothChecks t l a b) h1 .1 in
-      let h3 = then-pass (parents 0 v a then away) (bothChecks t l a b) h2 in
-      let p = then-pass (parents 0 v a) away (h3 .0) .0 in
+      let h1 = then-pass roots (target then (parentChecks 0 v a then away) then bothChecks t l a b) h .1 in
+      let h2 = then-pass target ((parentChecks 0 v a then away) then bothChecks t l a b) h1 .1 in
+      let h3 = then-pass (parentChecks 0 v a then away) (bothChecks t l a b) h2 in
+      let p = then-pass (parentChecks 0 v a) away (h3 .0) .0 in
       let h4 = then-pass (noClash (length b) (kind v a) (kind v b)) (vacant then apart then last) (h3 .1) in
       let h5 = then-pass vacant (apart then last) (h4 .1) in
       let h6 = then-pass apart last (h5 .1) in

@@ -5,7 +5,7 @@ use lib.ListN.{length}
 use Rattle.model.specs.Path.{Path, below}
 use Rattle.model.specs.Map.{lookup}
 use Rattle.model.specs.Tree.{Table, Tree, shown, kind}
-use Rattle.model.specs.Checks.{Check, pass, refuse, _then_, parents, notRoot, empty}
+use Rattle.model.specs.Checks.{Check, pass, refuse, _then_, parentChecks, notRoot, noVisibleChild}
 use Rattle.model.specs.Rename.{notLink, notDeleted, noClash, present, ifDirectory}
 
 -- "type clash 8 or 7; 9 for a directory source; 10; source absent 5"
@@ -13,7 +13,7 @@ abbrev pub bothChecks : Table → Tree → Path → Path → Check
 bothChecks t l a b =
     let f = shown t l in
     noClash (length b) (kind f a) (kind f b)
-    then ifDirectory (kind f a) (ifDirectory (kind f b) (empty 1 t l b))
+    then ifDirectory (kind f a) (ifDirectory (kind f b) (noVisibleChild 1 t l b))
     then cond (below a b) (refuse 10 0 (length a)) pass
     then present (length a) (kind f a)
 
@@ -22,6 +22,6 @@ abbrev pub earlyChecks : Table → Tree → Path → Path → Check
 earlyChecks t l a b =
     let f = shown t l in
     (notRoot 0 a then notRoot 1 b)
-    then (parents 1 f b then notLink 1 (length b) (kind f b))
-    then (parents 0 f a then notDeleted (length a) (lookup t a) then notLink 0 (length a) (kind f a))
+    then (parentChecks 1 f b then notLink 1 (length b) (kind f b))
+    then (parentChecks 0 f a then notDeleted (length a) (lookup t a) then notLink 0 (length a) (kind f a))
     then bothChecks t l a b

@@ -11,7 +11,7 @@ ghost use Rattle.model.specs.Map.{lookup};
 ghost use Rattle.model.specs.Tree.{Entry, shown, kind};
 ghost use Rattle.model.specs.Listing.{treeIn, isListing};
 ghost use Rattle.model.specs.Table.{tableIn, isTable};
-ghost use Rattle.model.specs.Checks.{pass, refuse, _then_, parents, notRoot, empty};
+ghost use Rattle.model.specs.Checks.{pass, refuse, _then_, parentChecks, notRoot, noVisibleChild};
 ghost use Rattle.model.specs.Rename.{notLink, notDeleted, noClash, present, ifDirectory};
 ghost use Rattle.table_entries.specs.Said.{said, saidOf};
 ghost use Rattle.view_at.specs.Sight.{visibleKind};
@@ -68,7 +68,7 @@ pub fn check_destination(listing: &[u8], table: &[u8], rec: Record, path: &[u8])
     requires { ⌜ isListing (now listing) ≡ true ⌝ }
     requires { ⌜ isTable (now table) rec ≡ true ⌝ }
     requires { ⌜ isPath (now path) ≡ true ⌝ }
-    ensures { λ r. ⌜ checkOf r ≡ (parents 1 (shown (tableIn (now (table .entry)) rec) (treeIn (now (listing .entry)))) (now (path .entry))
+    ensures { λ r. ⌜ checkOf r ≡ (parentChecks 1 (shown (tableIn (now (table .entry)) rec) (treeIn (now (listing .entry)))) (now (path .entry))
         then notLink 1 (length (now (path .entry))) (kind (shown (tableIn (now (table .entry)) rec)
         (treeIn (now (listing .entry)))) (now (path .entry)))) ⌝ }
 {
@@ -113,7 +113,7 @@ pub fn check_source(listing: &[u8], table: &[u8], rec: Record, path: &[u8]) -> J
     requires { ⌜ isListing (now listing) ≡ true ⌝ }
     requires { ⌜ isTable (now table) rec ≡ true ⌝ }
     requires { ⌜ isPath (now path) ≡ true ⌝ }
-    ensures { λ r. ⌜ checkOf r ≡ (parents 0 (shown (tableIn (now (table .entry)) rec) (treeIn (now (listing .entry)))) (now (path .entry))
+    ensures { λ r. ⌜ checkOf r ≡ (parentChecks 0 (shown (tableIn (now (table .entry)) rec) (treeIn (now (listing .entry)))) (now (path .entry))
         then notDeleted (length (now (path .entry))) (lookup (tableIn (now (table .entry)) rec) (now (path .entry)))
         then notLink 0 (length (now (path .entry))) (kind (shown (tableIn (now (table .entry)) rec)
         (treeIn (now (listing .entry)))) (now (path .entry)))) ⌝ }
@@ -169,7 +169,7 @@ fn reject_rename_onto_nonempty_dir(
 ) -> Judged
     requires { ⌜ isListing (now listing) ≡ true ⌝ }
     requires { ⌜ isTable (now table) rec ≡ true ⌝ }
-    ensures { λ r. ⌜ checkOf r ≡ ifDirectory (visibleKind source) (ifDirectory (visibleKind destination) (empty 1 (tableIn (now (table .entry)) rec)
+    ensures { λ r. ⌜ checkOf r ≡ ifDirectory (visibleKind source) (ifDirectory (visibleKind destination) (noVisibleChild 1 (tableIn (now (table .entry)) rec)
         (treeIn (now (listing .entry))) (now (path .entry)))) ⌝ }
 {
     if !check_parents::is_directory(source) {

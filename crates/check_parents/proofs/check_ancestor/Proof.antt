@@ -2,7 +2,7 @@
 -- Assumes nothing.
 use mathlib.Core.Path.{ap, sym}
 use borrow.Author.Needs.{needs}
-use Rattle.model.specs.Checks.{ancestor}
+use Rattle.model.specs.Checks.{ancestorAt}
 use Rattle.view_at.specs.Sight.{visibleKind}
 use Rattle.view_at.specs.declared.Visible.{Visible}
 use Rattle.check_parents.proofs.check_ancestor.Statement.{statement}

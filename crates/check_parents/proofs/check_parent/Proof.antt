@@ -2,7 +2,7 @@
 -- Assumes nothing.
 use mathlib.Core.Path.{ap, sym}
 use borrow.Author.Needs.{needs}
-use Rattle.model.specs.Checks.{parent}
+use Rattle.model.specs.Checks.{parentAt}
 use Rattle.view_at.specs.Sight.{visibleKind}
 use Rattle.view_at.specs.declared.Visible.{Visible}
 use Rattle.check_parents.proofs.check_parent.Statement.{statement}

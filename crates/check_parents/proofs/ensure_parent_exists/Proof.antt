@@ -10,7 +10,7 @@ use borrow.Author.Tests.{not-true, not-false}
 use Rattle.model.specs.Tree.{shown, kind}
 use Rattle.model.specs.Listing.{treeIn}
 use Rattle.model.specs.Table.{tableIn}
-use Rattle.model.specs.Checks.{parents, parentsIn}
+use Rattle.model.specs.Checks.{parentChecks, parentsIn}
 use Rattle.model.proofs.Codec.{path-short}
 use Rattle.base_paths.specs.Ancestors.{ancestorsFrom}
 use Rattle.view_at.specs.Sight.{visibleKind}
@@ -24,7 +24,7 @@ Inv-loop listing table rec path which sight₀ at₀ sight at =
     (at ≤ length path)
     × Along listing table rec path sight at
     × (parentsIn which (length path) (kind (shown (tableIn table rec) (treeIn listing))) (ancestorsFrom path at)
-    ≡ parents which (shown (tableIn table rec) (treeIn listing)) path)
+    ≡ parentChecks which (shown (tableIn table rec) (treeIn listing)) path)
 
 abbrev μ-loop : tie.MeasureT-loop
 μ-loop listing table rec path which sight₀ at₀ sight at = length path - at

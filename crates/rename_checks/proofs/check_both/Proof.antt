@@ -7,7 +7,7 @@ use Rattle.model.specs.Path.{below}
 use Rattle.model.specs.Listing.{treeIn}
 use Rattle.model.specs.Table.{tableIn}
 use Rattle.model.specs.Tree.{shown, kind}
-use Rattle.model.specs.Checks.{pass, refuse, _then_, empty}
+use Rattle.model.specs.Checks.{pass, refuse, _then_, noVisibleChild}
 use Rattle.model.specs.Rename.{noClash, present, ifDirectory}
 use Rattle.view_at.specs.Sight.{visibleKind}
 use Rattle.check_parents.specs.Judged.{checkOf}
@@ -38,7 +38,7 @@ returns c =
     let k = kind (shown t l) x in
     let m = kind (shown t l) y in
     let u = noClash (length y) k m in
-    let w = ifDirectory k (ifDirectory m (empty 1 t l y)) in
+    let w = ifDirectory k (ifDirectory m (noVisibleChild 1 t l y)) in
     let z = cond (below x y) (refuse 10 0 (length x)) pass in
     let o = present (length x) k in
     let v = c .before .before .before .before .visible-at in
@@ -64,7 +64,7 @@ returns-2 c =
     let k = kind (shown t l) x in
     let m = kind (shown t l) y in
     let u = noClash (length y) k m in
-    let w = ifDirectory k (ifDirectory m (empty 1 t l y)) in
+    let w = ifDirectory k (ifDirectory m (noVisibleChild 1 t l y)) in
     let z = cond (below x y) (refuse 10 0 (length x)) pass in
     let o = present (length x) k in
     let v = c .before .before .before .before .before .before .before .visible-at in
@@ -75,7 +75,7 @@ returns-2 c =
     let h = c .before .before .reject-rename-onto-nonempty-dir in
     let s = c .before .is-refused2 in
     let i =
-    full-at (visibleKind (v .result)) (visibleKind (d .result)) k m (v .ensures) (d .ensures) (checkOf (h .result)) (empty 1 t l y) (h .ensures) in
+    full-at (visibleKind (v .result)) (visibleKind (d .result)) k m (v .ensures) (d .ensures) (checkOf (h .result)) (noVisibleChild 1 t l y) (h .ensures) in
     goes-on u (checkOf (g .result)) (r .result) e (r .ensures) (w then z then o) (checkOf (h .result)) (c .before .before .before .if1 .left)
     (ends w (checkOf (h .result)) (s .result) i (s .ensures) (z then o) (c .if2 .taken))
 
@@ -95,7 +95,7 @@ returns-3 c =
     let k = kind (shown t l) x in
     let m = kind (shown t l) y in
     let u = noClash (length y) k m in
-    let w = ifDirectory k (ifDirectory m (empty 1 t l y)) in
+    let w = ifDirectory k (ifDirectory m (noVisibleChild 1 t l y)) in
     let z = cond (below x y) (refuse 10 0 (length x)) pass in
     let o = present (length x) k in
     let v = c .before .before .before .before .before .before .before .before .before .before .visible-at in
@@ -106,7 +106,7 @@ returns-3 c =
     let h = c .before .before .before .before .before .reject-rename-onto-nonempty-dir in
     let s = c .before .before .before .before .is-refused2 in
     let i =
-    full-at (visibleKind (v .result)) (visibleKind (d .result)) k m (v .ensures) (d .ensures) (checkOf (h .result)) (empty 1 t l y) (h .ensures) in
+    full-at (visibleKind (v .result)) (visibleKind (d .result)) k m (v .ensures) (d .ensures) (checkOf (h .result)) (noVisibleChild 1 t l y) (h .ensures) in
     let j = c .before .before .reject-below in
     let q = c .before .is-refused3 in
     goes-on u (checkOf (g .result)) (r .result) e (r .ensures) (w then z then o) (checkOf (j .result)) (c .before .before .before .before .before .before .if1 .left)
@@ -126,7 +126,7 @@ returns-4 c =
     let k = kind (shown t l) x in
     let m = kind (shown t l) y in
     let u = noClash (length y) k m in
-    let w = ifDirectory k (ifDirectory m (empty 1 t l y)) in
+    let w = ifDirectory k (ifDirectory m (noVisibleChild 1 t l y)) in
     let z = cond (below x y) (refuse 10 0 (length x)) pass in
     let o = present (length x) k in
     let v = c .before .before .before .before .before .before .before .before .before .before .before .visible-at in
@@ -137,7 +137,7 @@ returns-4 c =
     let h = c .before .before .before .before .before .before .reject-rename-onto-nonempty-dir in
     let s = c .before .before .before .before .before .is-refused2 in
     let i =
-    full-at (visibleKind (v .result)) (visibleKind (d .result)) k m (v .ensures) (d .ensures) (checkOf (h .result)) (empty 1 t l y) (h .ensures) in
+    full-at (visibleKind (v .result)) (visibleKind (d .result)) k m (v .ensures) (d .ensures) (checkOf (h .result)) (noVisibleChild 1 t l y) (h .ensures) in
     let j = c .before .before .before .reject-below in
     let q = c .before .before .is-refused3 in
     let b = c .reject-absent in

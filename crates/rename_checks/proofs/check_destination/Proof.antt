@@ -5,7 +5,7 @@ use lib.ListN.{length}
 use Rattle.model.specs.Listing.{treeIn}
 use Rattle.model.specs.Table.{tableIn}
 use Rattle.model.specs.Tree.{shown, kind}
-use Rattle.model.specs.Checks.{parents}
+use Rattle.model.specs.Checks.{parentChecks}
 use Rattle.model.specs.Rename.{notLink}
 use Rattle.view_at.specs.Sight.{visibleKind}
 use Rattle.check_parents.specs.Judged.{checkOf}
@@ -25,7 +25,7 @@ returns c =
     let f = shown (tableIn (a .table .now) (a .rec)) (treeIn (a .listing .now)) in
     let p = c .before .before .ensure-parent-exists in
     let r = c .before .is-refused in
-    ends (parents 1 f (a .path .now)) (checkOf (p .result)) (r .result) (p .ensures) (r .ensures)
+    ends (parentChecks 1 f (a .path .now)) (checkOf (p .result)) (r .result) (p .ensures) (r .ensures)
     (notLink 1 (length (a .path .now)) (kind f (a .path .now))) (c .if1 .taken)
 
 visible-at-requires : tie.Need-visible-at-requires
@@ -42,7 +42,7 @@ returns-2 c =
     let r = c .before .before .before .is-refused in
     let v = c .before .visible-at in
     let t = c .reject-link in
-    goes-on-at (parents 1 f (a .path .now)) (checkOf (p .result)) (r .result) (p .ensures) (r .ensures)
+    goes-on-at (parentChecks 1 f (a .path .now)) (checkOf (p .result)) (r .result) (p .ensures) (r .ensures)
     (notLink 1 (length (a .path .now))) (visibleKind (v .result)) (kind f (a .path .now)) (checkOf (t .result)) (c .before .before .if1 .left)
     (t .ensures) (v .ensures)
 

@@ -6,7 +6,7 @@ use Rattle.model.specs.Map.{lookup}
 use Rattle.model.specs.Listing.{treeIn}
 use Rattle.model.specs.Table.{tableIn}
 use Rattle.model.specs.Tree.{shown, kind}
-use Rattle.model.specs.Checks.{_then_, parents}
+use Rattle.model.specs.Checks.{_then_, parentChecks}
 use Rattle.model.specs.Rename.{notLink, notDeleted}
 use Rattle.view_at.specs.Sight.{visibleKind}
 use Rattle.check_parents.specs.Judged.{checkOf}
@@ -30,7 +30,7 @@ returns c =
     let k = notLink 0 (length x) (kind f x) in
     let p = c .before .before .ensure-parent-exists in
     let r = c .before .is-refused in
-    ends (parents 0 f x) (checkOf (p .result)) (r .result) (p .ensures) (r .ensures) (n then k) (c .if1 .taken)
+    ends (parentChecks 0 f x) (checkOf (p .result)) (r .result) (p .ensures) (r .ensures) (n then k) (c .if1 .taken)
 
 get-requires : tie.Need-get-requires
 get-requires c κs = search needs
@@ -54,7 +54,7 @@ returns-2 c =
     let g = c .before .before .before .get in
     let d = c .before .before .reject-deleted in
     let q = c .before .is-refused2 in
-    goes-on (parents 0 f x) (checkOf (p .result)) (r .result) (p .ensures) (r .ensures) (n then k) (checkOf (d .result)) (c .before .before .before .before .if1 .left)
+    goes-on (parentChecks 0 f x) (checkOf (p .result)) (r .result) (p .ensures) (r .ensures) (n then k) (checkOf (d .result)) (c .before .before .before .before .if1 .left)
     (ends n (checkOf (d .result)) (q .result) (d .ensures (a .table .now) (lookup t x) (g .ensures)) (q .ensures) k (c .if2 .taken))
 
 visible-at-requires : tie.Need-visible-at-requires
@@ -78,7 +78,7 @@ returns-3 c =
     let q = c .before .before .before .is-refused2 in
     let v = c .before .visible-at in
     let y = c .reject-link in
-    goes-on (parents 0 f x) (checkOf (p .result)) (r .result) (p .ensures) (r .ensures) (n then k) (checkOf (y .result)) (c .before .before .before .before .before .before .if1 .left)
+    goes-on (parentChecks 0 f x) (checkOf (p .result)) (r .result) (p .ensures) (r .ensures) (n then k) (checkOf (y .result)) (c .before .before .before .before .before .before .if1 .left)
     (goes-on-at n (checkOf (d .result)) (q .result) (d .ensures (a .table .now) (lookup t x) (g .ensures)) (q .ensures)
     (notLink 0 (length x)) (visibleKind (v .result)) (kind f x) (checkOf (y .result)) (c .before .before .if2 .left) (y .ensures) (v .ensures))
 

@@ -6,7 +6,7 @@ use Rattle.model.specs.Map.{lookup}
 use Rattle.model.specs.Listing.{treeIn}
 use Rattle.model.specs.Table.{tableIn}
 use Rattle.model.specs.Tree.{shown, kind}
-use Rattle.model.specs.Checks.{_then_, parents, notRoot}
+use Rattle.model.specs.Checks.{_then_, parentChecks, notRoot}
 use Rattle.model.specs.Rename.{notLink, notDeleted}
 use Rattle.check_parents.specs.Judged.{checkOf}
 use Rattle.check_one_path.proofs.Thens.{ends, goes-on}
@@ -29,8 +29,8 @@ returns c =
     let x = a .source .now in
     let y = a .destination .now in
     let u = notRoot 0 x then notRoot 1 y in
-    let w = parents 1 f y then notLink 1 (length y) (kind f y) in
-    let z = parents 0 f x then notDeleted (length x) (lookup t x) then notLink 0 (length x) (kind f x) in
+    let w = parentChecks 1 f y then notLink 1 (length y) (kind f y) in
+    let z = parentChecks 0 f x then notDeleted (length x) (lookup t x) then notLink 0 (length x) (kind f x) in
     let o = bothChecks t l x y in
     let g = c .before .before .reject-roots in
     let r = c .before .is-refused in
@@ -51,8 +51,8 @@ returns-2 c =
     let x = a .source .now in
     let y = a .destination .now in
     let u = notRoot 0 x then notRoot 1 y in
-    let w = parents 1 f y then notLink 1 (length y) (kind f y) in
-    let z = parents 0 f x then notDeleted (length x) (lookup t x) then notLink 0 (length x) (kind f x) in
+    let w = parentChecks 1 f y then notLink 1 (length y) (kind f y) in
+    let z = parentChecks 0 f x then notDeleted (length x) (lookup t x) then notLink 0 (length x) (kind f x) in
     let o = bothChecks t l x y in
     let g = c .before .before .before .before .before .reject-roots in
     let r = c .before .before .before .before .is-refused in
@@ -76,8 +76,8 @@ returns-3 c =
     let x = a .source .now in
     let y = a .destination .now in
     let u = notRoot 0 x then notRoot 1 y in
-    let w = parents 1 f y then notLink 1 (length y) (kind f y) in
-    let z = parents 0 f x then notDeleted (length x) (lookup t x) then notLink 0 (length x) (kind f x) in
+    let w = parentChecks 1 f y then notLink 1 (length y) (kind f y) in
+    let z = parentChecks 0 f x then notDeleted (length x) (lookup t x) then notLink 0 (length x) (kind f x) in
     let o = bothChecks t l x y in
     let g = c .before .before .before .before .before .before .before .before .reject-roots in
     let r = c .before .before .before .before .before .before .before .is-refused in
@@ -101,8 +101,8 @@ returns-4 c =
     let x = a .source .now in
     let y = a .destination .now in
     let u = notRoot 0 x then notRoot 1 y in
-    let w = parents 1 f y then notLink 1 (length y) (kind f y) in
-    let z = parents 0 f x then notDeleted (length x) (lookup t x) then notLink 0 (length x) (kind f x) in
+    let w = parentChecks 1 f y then notLink 1 (length y) (kind f y) in
+    let z = parentChecks 0 f x then notDeleted (length x) (lookup t x) then notLink 0 (length x) (kind f x) in
     let o = bothChecks t l x y in
     let g = c .before .before .before .before .before .before .before .before .before .reject-roots in
     let r = c .before .before .before .before .before .before .before .before .is-refused in

@@ -4,7 +4,7 @@ use borrow.Author.Needs.{needs}
 use borrow.Author.Tests.{not-true, not-false}
 use Rattle.model.specs.Listing.{treeIn}
 use Rattle.model.specs.Table.{tableIn}
-use Rattle.model.specs.Checks.{pass, empty}
+use Rattle.model.specs.Checks.{pass, noVisibleChild}
 use Rattle.model.specs.Rename.{ifDirectory}
 use Rattle.view_at.specs.Sight.{visibleKind}
 use Rattle.check_parents.specs.Judged.{checkOf}
@@ -22,7 +22,7 @@ returns c =
     let l = treeIn (a .listing .now) in
     let k = visibleKind (a .source) in
     let m = visibleKind (a .destination) in
-    let e = empty 1 t l (a .path .now) in
+    let e = noVisibleChild 1 t l (a .path .now) in
     let s = c .before .is-directory in
     not-made k (s .result) (s .ensures) (ifDirectory m e) (not-true (s .result) (c .if1 .taken))
 
@@ -36,7 +36,7 @@ returns-2 c =
     let l = treeIn (a .listing .now) in
     let k = visibleKind (a .source) in
     let m = visibleKind (a .destination) in
-    let e = empty 1 t l (a .path .now) in
+    let e = noVisibleChild 1 t l (a .path .now) in
     let s = c .before .before .before .is-directory in
     let d = c .before .is-directory2 in
     made k (s .result) (s .ensures) (ifDirectory m e) pass (not-false (s .result) (c .before .before .if1 .left))
@@ -52,7 +52,7 @@ returns-3 c =
     let l = treeIn (a .listing .now) in
     let k = visibleKind (a .source) in
     let m = visibleKind (a .destination) in
-    let e = empty 1 t l (a .path .now) in
+    let e = noVisibleChild 1 t l (a .path .now) in
     let s = c .before .before .before .before .is-directory in
     let d = c .before .before .is-directory2 in
     let x = c .check-empty in
