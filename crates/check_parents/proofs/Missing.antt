@@ -101,7 +101,7 @@ module _ (g : Path → Kind) (p : Path) where
       here j e =
           let m = length-take-le k p (omega arith) in
           ap (λ (z : Check). z then ancestorsIn (length p) g (ancestorsFrom p j)) (u ∙ ap (ancestorAt k (length p)) y)
-          ∙ ap (λ (z : ℕ). ancestor z (length p) (g (take k p)) then ancestorsIn (length p) g (ancestorsFrom p j)) (sym m)
+          ∙ ap (λ (z : ℕ). ancestorAt z (length p) (g (take k p)) then ancestorsIn (length p) g (ancestorsFrom p j)) (sym m)
           ∙ sym (ap (ancestorsIn (length p) g) (turn p k j a h e .1))
           ∙ v .judged
 

@@ -26,7 +26,7 @@ enum-told-3 c = search needs
 returns-3 : tie.Need-returns-3
 returns-3 c =
     let a = c .before .before .args in
-    sym (ap (λ (v : Visible). ancestor (a .end) (a .len) (visibleKind v)) (c .enum-told3 .given .1))
+    sym (ap (λ (v : Visible). ancestorAt (a .end) (a .len) (visibleKind v)) (c .enum-told3 .given .1))
 
 enum-told-4 : tie.Need-enum-told-4
 enum-told-4 c = search needs
@@ -34,7 +34,7 @@ enum-told-4 c = search needs
 returns-4 : tie.Need-returns-4
 returns-4 c =
     let a = c .before .before .args in
-    sym (ap (λ (v : Visible). ancestor (a .end) (a .len) (visibleKind v)) (c .enum-told4 .given .1))
+    sym (ap (λ (v : Visible). ancestorAt (a .end) (a .len) (visibleKind v)) (c .enum-told4 .given .1))
 
 pub check-ancestor-spec : {M : Type 1} → statement M
 check-ancestor-spec =

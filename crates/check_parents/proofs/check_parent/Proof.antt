@@ -14,7 +14,7 @@ enum-told c = search needs
 returns : tie.Need-returns
 returns c =
     let a = c .before .before .args in
-    sym (ap (λ (v : Visible). parent (a .which) (a .len) (visibleKind v)) (c .enum-told .given .1))
+    sym (ap (λ (v : Visible). parentAt (a .which) (a .len) (visibleKind v)) (c .enum-told .given .1))
 
 enum-told-2 : tie.Need-enum-told-2
 enum-told-2 c = search needs
@@ -28,7 +28,7 @@ enum-told-3 c = search needs
 returns-3 : tie.Need-returns-3
 returns-3 c =
     let a = c .before .before .args in
-    sym (ap (λ (v : Visible). parent (a .which) (a .len) (visibleKind v)) (c .enum-told3 .given .1))
+    sym (ap (λ (v : Visible). parentAt (a .which) (a .len) (visibleKind v)) (c .enum-told3 .given .1))
 
 enum-told-4 : tie.Need-enum-told-4
 enum-told-4 c = search needs
@@ -36,7 +36,7 @@ enum-told-4 c = search needs
 returns-4 : tie.Need-returns-4
 returns-4 c =
     let a = c .before .before .args in
-    sym (ap (λ (v : Visible). parent (a .which) (a .len) (visibleKind v)) (c .enum-told4 .given .1))
+    sym (ap (λ (v : Visible). parentAt (a .which) (a .len) (visibleKind v)) (c .enum-told4 .given .1))
 
 pub check-parent-spec : {M : Type 1} → statement M
 check-parent-spec =
