@@ -1,5 +1,4 @@
 -- What a memory budget answers. `shrink` on what is free of a limit is document 01's plan: "… the rest is the walk's budget".
--- Assumes nothing.
 use mathlib.Core.Bool.{Bool, cond}
 use Prim.Native.Nat.{ℕ, _-_}
 use lib.Dec.{leb}

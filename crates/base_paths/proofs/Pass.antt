@@ -1,5 +1,4 @@
 -- What the loop of `is_path` keeps, and what it gives at its end.
--- Assumes nothing.
 use mathlib.Core.Path.{_≡_, refl, sym, ap, _∙_}
 use mathlib.Core.Bool.{Bool, true, false, _&&_, and-assoc, and-comm}
 use mathlib.Core.List.{[], _∷_}

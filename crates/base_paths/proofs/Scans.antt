@@ -1,6 +1,5 @@
 -- Laws of `scan`, what the bytes to come must be after a state of `Names`: from the start it says what the definition says of the
 -- components of a path.
--- Assumes nothing.
 use mathlib.Core.Path.{_≡_, refl, sym, ap, _∙_}
 use mathlib.Core.Bool.{Bool, true, false, not, _&&_, and-true, and-false, and-assoc, and-comm}
 use mathlib.Core.List.{List, [], _∷_}

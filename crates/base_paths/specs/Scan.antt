@@ -1,5 +1,4 @@
 -- What the states of the one pass stand for: what the bytes still to come must be.
--- Assumes nothing.
 use mathlib.Core.Bool.{Bool, true, cond, not, _&&_}
 use mathlib.Core.List.{List, [], _∷_}
 use Prim.Native.Nat.{ℕ, zero, suc, _+_}

@@ -1,5 +1,5 @@
 // UTF-8 by RFC 3629, a byte at a time: the classes of bytes, and what a text still needs to end its character.
-// Assumes nothing: every byte and every state is taken.
+// Every byte and every state is taken.
 ghost use mathlib.Core.Path.{_≡_};
 ghost use mathlib.Core.List.{List, _∷_};
 ghost use Prim.Native.Nat.{ℕ, _<_};

@@ -1,5 +1,5 @@
 // mkdir of overlay.rs, with its flags parents and exist_ok.
-// Nothing is assumed: any bytes can be given as listing, table, work buffer and path, and any numbers as record, mtime and limit.
+// Any bytes can be given as listing, table, work buffer and path, and any numbers as record, mtime and limit.
 // A refused call leaves all as it was; an accepted one leaves the work buffer all 0. It is a constant number of passes over what it is lent.
 ghost use mathlib.Core.Path.{_≡_};
 ghost use mathlib.Core.Bool.{true, cond, _&&_};
@@ -16,13 +16,13 @@ ghost use Rattle.model.specs.Checks.{Check, pass, refuse, _then_, unless, form,
 ghost use Rattle.model.specs.Calls as calls;
 ghost use Rattle.model.specs.Outcome.{outcome};
 ghost use Rattle.view_at.specs.Sight.{visibleKind};
-ghost use Rattle.check_parents.specs.Judged.{checkOf};
-ghost use Rattle.check_parents.specs.Dirs.{endsOf, climbs, prefixes};
+ghost use Rattle.check_judged.specs.Judged.{checkOf};
+ghost use Rattle.base_paths.specs.Dirs.{endsOf, climbs, prefixes};
 ghost use Rattle.call_answer.specs.Meets.{requested, stored, Meets};
 ghost use Rattle.call_mkdir.specs.Step.{afterStep, Makes};
 ghost use Rattle.call_mkdir.specs.declared.Step.the-variants as step;
-use check_parents::Dirs;
-use check_parents::Judged;
+use base_paths::Dirs;
+use check_judged::Judged;
 use check_parents::ToCreate;
 use model::Answer;
 use model::Answered;
@@ -203,7 +203,7 @@ fn judge_mkdir(
         → (isTable (now (table .entry)) rec ≡ true) × (makes (shown (tableIn (now (table .entry)) rec)
         (treeIn (now (listing .entry)))) (now (path .entry)) ≡ [])) ⌝ }
 {
-    let ready = call_answer::ready(listing, table, rec, room, path);
+    let ready = check_lent::ready(listing, table, rec, room, path);
     match ready {
         Judged::Refused(refusal) => {
             return Plan {

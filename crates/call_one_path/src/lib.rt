@@ -1,5 +1,5 @@
 // The calls of document 01 that change one entry: write_bytes, unlink and rmdir of overlay.rs.
-// Nothing is assumed: any bytes can be given as listing, table, work buffer, path and data, and any numbers as record, mtime and limit.
+// Any bytes can be given as listing, table, work buffer, path and data, and any numbers as record, mtime and limit.
 // A refused call leaves all as it was; an accepted one leaves the work buffer all 0. Each is a constant number of passes over what it is lent.
 ghost use mathlib.Core.Path.{_≡_};
 ghost use mathlib.Core.Bool.{_&&_};
@@ -11,9 +11,9 @@ ghost use Rattle.model.specs.Table.{tableIn, isTable};
 ghost use Rattle.model.specs.Checks.{_then_, unless, form, writeChecks, unlinkChecks, rmdirChecks};
 ghost use Rattle.model.specs.Calls as calls;
 ghost use Rattle.model.specs.Outcome.{outcome};
-ghost use Rattle.check_parents.specs.Judged.{checkOf};
+ghost use Rattle.check_judged.specs.Judged.{checkOf};
 ghost use Rattle.call_answer.specs.Meets.{requested, stored, Meets};
-use check_parents::Judged;
+use check_judged::Judged;
 use model::Answer;
 use model::Answered;
 use model::Record;
@@ -24,8 +24,8 @@ fn judge_write(listing: &[u8], table: &[u8], rec: Record, room: usize, path: &[u
         then unless 2 (isListing (now (listing .entry))) then form 0 (now (path .entry)))
         then writeChecks (shown (tableIn (now (table .entry)) rec) (treeIn (now (listing .entry)))) (now (path .entry))) ⌝ }
 {
-    let ready = call_answer::ready(listing, table, rec, room, path);
-    if check_parents::is_refused(ready) {
+    let ready = check_lent::ready(listing, table, rec, room, path);
+    if check_judged::is_refused(ready) {
         return ready;
     }
     check_one_path::write_checks(listing, table, rec, path)
@@ -66,8 +66,8 @@ fn judge_unlink(listing: &[u8], table: &[u8], rec: Record, room: usize, path: &[
         then unless 2 (isListing (now (listing .entry))) then form 0 (now (path .entry)))
         then unlinkChecks (tableIn (now (table .entry)) rec) (treeIn (now (listing .entry))) (now (path .entry))) ⌝ }
 {
-    let ready = call_answer::ready(listing, table, rec, room, path);
-    if check_parents::is_refused(ready) {
+    let ready = check_lent::ready(listing, table, rec, room, path);
+    if check_judged::is_refused(ready) {
         return ready;
     }
     check_one_path::unlink_checks(listing, table, rec, path)
@@ -107,8 +107,8 @@ fn judge_rmdir(listing: &[u8], table: &[u8], rec: Record, room: usize, path: &[u
         then unless 2 (isListing (now (listing .entry))) then form 0 (now (path .entry)))
         then rmdirChecks (tableIn (now (table .entry)) rec) (treeIn (now (listing .entry))) (now (path .entry))) ⌝ }
 {
-    let ready = call_answer::ready(listing, table, rec, room, path);
-    if check_parents::is_refused(ready) {
+    let ready = check_lent::ready(listing, table, rec, room, path);
+    if check_judged::is_refused(ready) {
         return ready;
     }
     check_one_path::rmdir_checks(listing, table, rec, path)

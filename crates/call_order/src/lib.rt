@@ -1,5 +1,5 @@
 // A changing call, given as a value, made by one function.
-// Nothing is assumed: any bytes can be given as listing, table, work buffer, paths and data, and any numbers as record and order.
+// Any bytes can be given as listing, table, work buffer, paths and data, and any numbers as record and order.
 // It costs what the call itself costs.
 ghost use Rattle.model.specs.Outcome.{outcome};
 ghost use Rattle.call_answer.specs.Meets.{requested, stored, Meets};

@@ -1,5 +1,4 @@
 // A changing call as a value, and an answer as a row of document 01's table.
-// Assumes nothing.
 ghost use mathlib.Core.Path.{_≡_};
 ghost use Rattle.model.specs.Answer as replies;
 ghost use Rattle.call_values.specs.Values.{rowOf};

@@ -1,5 +1,4 @@
 -- The steps of a walk: the prefixes of a path ascend, and nothing is listed below what is no directory.
--- Assumes nothing.
 use mathlib.Core.Path.{_≡_, refl, sym, ap, _∙_}
 use mathlib.Core.Bool.{Bool, true, false, not, _&&_}
 use mathlib.Core.Logic.{inr}

@@ -1,5 +1,4 @@
 -- The records below a directory, as one part in the middle of a listing.
--- Assumes nothing.
 use mathlib.Core.Path.{_≡_}
 use mathlib.Core.Bool.{true}
 use mathlib.Core.List.{List, [], _∷_}

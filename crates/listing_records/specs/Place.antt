@@ -1,5 +1,4 @@
 -- Places in a listing: the records from a place on, and the first of them that is not before a path.
--- Assumes nothing.
 use mathlib.Core.Path.{_≡_}
 use mathlib.Core.Bool.{true, cond}
 use mathlib.Core.List.{[]}

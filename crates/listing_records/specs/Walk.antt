@@ -1,5 +1,4 @@
 -- A walk down a path that searches a listing forward.
--- Assumes nothing.
 use mathlib.Core.Path.{_≡_}
 use mathlib.Core.Bool.{true}
 use mathlib.Core.Option.{none}

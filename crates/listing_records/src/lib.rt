@@ -6,7 +6,7 @@ ghost use mathlib.Core.Bool.{true, not};
 ghost use mathlib.Core.Option.{some};
 ghost use Prim.Native.Nat.{_+_, _-_, _≤_, _<_};
 ghost use lib.ListN.{length, take, drop};
-ghost use Rattle.model.specs.Path.{Path, below, endsHere};
+ghost use Rattle.model.specs.Path.{Path, endsHere};
 ghost use Rattle.model.specs.Map.{lookup};
 ghost use Rattle.model.specs.Tree.{kind, isDirectory};
 ghost use Rattle.model.specs.Listing.{recordAt, recordEnd, recordCount, nodeOf, treeIn, isListing};
@@ -137,21 +137,6 @@ pub fn find_in(listing: &[u8], count: u64, path: &[u8]) -> Found
     found_at(listing, path, place.at, place.left)
 }
 
-// Whether a path lies below a directory: its bytes, then a slash. Nothing is so below the root, since no path begins with a slash.
-pub fn is_below(dir: &[u8], path: &[u8]) -> bool
-    ensures { λ r. ⌜ r ≡ below (now (dir .entry)) (now (path .entry)) ⌝ }
-{
-    let n = base_fields::shared(dir, path);
-    if n < dir.len() {
-        return false;
-    }
-    if n < path.len() {
-        let b = path[n];
-        return b == 47;
-    }
-    false
-}
-
 // A part in the middle of a listing: `count` records in the bytes from `from` up to `to`.
 pub struct Part {
     pub from: usize,
@@ -173,7 +158,7 @@ pub fn below(listing: &[u8], dir: &[u8]) -> Part
         let to = start + base_fields::le16(listing, at) as usize;
         let part = &listing[start..to];
         left -= 1;
-        if is_below(dir, part) {
+        if base_paths::is_below(dir, part) {
             at = to;
             n += 1;
         } else {

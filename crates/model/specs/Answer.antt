@@ -1,5 +1,4 @@
 -- What an answer says: document 01's number and values for each case of the declared answer types.
--- Assumes nothing.
 use Prim.Native.Nat.{ℕ}
 use Rattle.model.specs.declared.Refusal.{Refusal}
 use Rattle.model.specs.declared.Refusal.the-variants.{MalformedTable, MalformedListing, MalformedPath, LinkOrRoot, NotFound, Exists, NotADirectory, IsADirectory, NotEmpty, BelowSource, Limit, KeyTooLong, NoRoom}

@@ -1,5 +1,4 @@
 -- The calls of document 01 on a table and a tree: the checks in their order from 3 to 12, the table after an accepted call, and the queries.
--- Assumes nothing.
 use mathlib.Core.Bool.{Bool, true, false}
 use Prim.Native.Nat.{ℕ}
 use lib.ListN.{length}

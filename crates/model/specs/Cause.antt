@@ -1,5 +1,4 @@
 -- Document 01, "Turning a call down": the causes of 1, 2, 11, 12 and 13, apart from the order of checks. The rows are those of its table.
--- Assumes nothing.
 use mathlib.Core.Path.{_≡_}
 use mathlib.Core.Bool.{false}
 use mathlib.Core.Option.{none}

@@ -1,5 +1,5 @@
 -- Document 01, "Order of checks": parents, write, mkdir, unlink and rmdir, up to 10; then 11, which stands in every order.
--- Assumes nothing: on tables that no call built, and on trees that no listing gives, the checks are read to the letter.
+-- On tables that no call built, and on trees that no listing gives, the checks are read to the letter.
 use mathlib.Core.Bool.{Bool, true, false, cond, not, _&&_, _||_}
 use mathlib.Core.List.{List, [], _∷_}
 use mathlib.Core.Option.{Option, none, some}

@@ -1,5 +1,4 @@
 -- Document 01, "Paths and the published tree": the listing's bytes, its rules, and the tree that it gives.
--- Assumes nothing.
 use mathlib.Core.Bool.{Bool, cond, _&&_, _||_}
 use mathlib.Core.List.{List, [], _∷_}
 use Prim.Native.Nat.{ℕ, zero, suc, _+_}

@@ -1,5 +1,4 @@
 -- Each call on bytes, for every input: the answer, and what it leaves as record, table and work buffer.
--- Assumes nothing.
 use mathlib.Core.Bool.{Bool, cond, _&&_}
 use mathlib.Core.List.{[]}
 use Prim.Native.Nat.{ℕ}

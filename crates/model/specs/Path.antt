@@ -1,5 +1,4 @@
 -- Document 01, "Paths and the published tree": which bytes are a path; ancestors, children, and what lies below a path.
--- Assumes nothing.
 use mathlib.Core.Bool.{Bool, true, false, cond, not, _&&_, _||_}
 use mathlib.Core.List.{List, [], _∷_, map}
 use mathlib.Core.Option.{Option, none, some}

@@ -1,5 +1,4 @@
 -- Document 01, "The list of calls and the plain tree". The plain tree reads neither entries nor record; it begins as the listing's tree (`treeIn`).
--- Assumes nothing.
 use mathlib.Core.Bool.{cond}
 use mathlib.Core.List.{[], _∷_}
 use lib.ListN.{length}

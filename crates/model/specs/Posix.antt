@@ -1,6 +1,6 @@
 -- IEEE Std 1003.1-2017 (POSIX.1-2017): mkdir(), unlink(), rmdir() and rename(), as what a tree shows at each path after the call, and when the call does not
 -- fail. What is quoted is from memory of the standard's text, some of it shortened, and not compared with a copy. Left out: the times of parent directories, and links in a path prefix, which the
--- standard follows and which here are no directories (docs/DIFFERENCES.md). Assumes nothing.
+-- standard follows and which here are no directories (docs/DIFFERENCES.md).
 use mathlib.Core.Path.{_≡_}
 use mathlib.Core.Bool.{true, false, cond}
 use mathlib.Core.List.{List, [], _∷_, _++_}

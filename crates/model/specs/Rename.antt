@@ -1,5 +1,4 @@
 -- Document 01, "Order of checks": rename, with its plan and its walk, and the table that it leaves.
--- Assumes nothing.
 use mathlib.Core.Bool.{Bool, cond, not, _&&_, _||_}
 use mathlib.Core.List.{List, [], _∷_, _++_}
 use mathlib.Core.Option.{Option, none, some}

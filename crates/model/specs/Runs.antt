@@ -1,5 +1,4 @@
 -- Document 01, "The list of calls and the plain tree", and term 3 of the customer: the list of calls, and demand 3 sentence by sentence.
--- Assumes nothing.
 use mathlib.Core.Path.{_≡_}
 use mathlib.Core.Bool.{Bool, true, false, _&&_, _||_}
 use mathlib.Core.List.{List, [], _∷_}

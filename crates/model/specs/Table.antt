@@ -1,5 +1,4 @@
 -- Document 01, "The table and its charge": the table's bytes, its record and its charge.
--- Assumes nothing.
 use mathlib.Core.Bool.{Bool, true, cond, _&&_}
 use mathlib.Core.List.{[], _∷_, _++_}
 use Prim.Native.Nat.{ℕ, zero, suc, _+_, _-_}

@@ -1,5 +1,4 @@
 -- Document 01, "The table and its charge" and "The list of calls and the plain tree": entries, nodes, and what is visible at a path.
--- Assumes nothing.
 use mathlib.Core.Bool.{Bool, true, false}
 use mathlib.Core.List.{[], _∷_}
 use mathlib.Core.Option.{Option, none, some}

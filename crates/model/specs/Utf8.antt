@@ -1,5 +1,4 @@
 -- UTF-8 as the grammar in section 4 of RFC 3629 has it: each row the ranges of the bytes of one kind of character.
--- Assumes nothing.
 use mathlib.Core.Bool.{Bool, true, false, cond, _&&_}
 use mathlib.Core.List.{List, [], _∷_}
 use Prim.Native.Nat.{ℕ}

@@ -1,5 +1,4 @@
 -- What each exported call answers and leaves, for every input. A record that is not four numbers is answered with 1, and all is left as it was.
--- Assumes nothing.
 use mathlib.Core.Bool.{Bool, cond}
 use mathlib.Core.List.{List}
 use Prim.Native.Nat.{ℕ}

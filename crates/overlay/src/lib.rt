@@ -2,7 +2,7 @@
 // Nothing is assumed of what is lent, but that no two of the buffers overlap: any bytes and any numbers can be given. A record that is not
 // four numbers is answered with 1. A refused call leaves every lent buffer, the record too, as it was. The cost is that of the call itself.
 ghost use mathlib.Core.Path.{_≡_};
-ghost use mathlib.Core.Bool.{false, _&&_};
+ghost use mathlib.Core.Bool.{_&&_};
 ghost use Rattle.model.specs.Listing.{isListing};
 ghost use Rattle.model.specs.Table.{isTable};
 ghost use Rattle.model.specs.Calls as calls;

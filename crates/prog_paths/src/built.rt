@@ -1,5 +1,4 @@
 // Vectors that are built: each byte that can't stand alone, long paths, and the proper ancestors of a path.
-// Assumes nothing.
 ghost use Prim.Native.Nat.{_<_};
 use crate::tally::Tally;
 use crate::tally::counted;

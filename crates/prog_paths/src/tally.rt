@@ -1,5 +1,5 @@
 // Vectors are judged, and it is counted how many gave what they must.
-// Assumes nothing. A count would wrap only at 2^64 vectors.
+// A count would wrap only at 2^64 vectors.
 ghost use mathlib.Core.Path.{_≡_};
 ghost use Rattle.model.specs.Utf8.{utf8};
 ghost use Rattle.prog_paths.specs.Tallied.{tallied, agrees, gave};

@@ -1,5 +1,4 @@
 -- Two ascending streams below a, read as one: the table's entries in `own`, and the listing's uncovered records in `part`.
--- Assumes nothing.
 use mathlib.Core.Path.{_≡_}
 use mathlib.Core.Bool.{Bool, true, false}
 use mathlib.Core.List.{List, []}

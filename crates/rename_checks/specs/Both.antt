@@ -1,5 +1,4 @@
 -- rename's checks of source and destination together, a stretch of `renameChecks`; and all before its plan.
--- Assumes nothing.
 use mathlib.Core.Bool.{cond}
 use lib.ListN.{length}
 use Rattle.model.specs.Path.{Path, below}

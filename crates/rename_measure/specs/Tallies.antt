@@ -1,5 +1,4 @@
 -- What is counted of the moved entries: those whose keys fit 512 bytes are measured in the table, the others only charged.
--- Assumes nothing.
 use mathlib.Core.Path.{_≡_}
 use mathlib.Core.Bool.{Bool, true, false, cond, not, _||_}
 use mathlib.Core.Option.{some}

@@ -114,7 +114,7 @@ fn counted(table: &[u8], tally: Tally, destination: &[u8], key: &[u8], from: usi
     let end = moved.len;
     let new = &bytes[..end];
     let next = table_measure::projected(table, place, rec, new, m);
-    let fits = rename_keys::is_short(new);
+    let fits = base_paths::is_short(new);
     let behind = next.place;
     let after = next.rec;
     Tally {
@@ -173,7 +173,7 @@ fn first_move(table: &[u8], rec: model::Record, destination: &[u8], m: u64) -> T
 {
     let begin = table_entries::first_entry(table, rec);
     let next = table_measure::projected(table, begin, rec, destination, m);
-    let fits = rename_keys::is_short(destination);
+    let fits = base_paths::is_short(destination);
     let behind = next.place;
     let after = next.rec;
     Tally {
@@ -339,7 +339,7 @@ fn one_move(table: &[u8], rec: model::Record, destination: &[u8], m: u64) -> Mov
     ensures { λ r. ⌜ Small (r .rec) × (r .extra ≤ 0x4000_0000_0000_0000) ⌝ }
 {
     let after = table_insert::projected_record(table, rec, destination, m);
-    let fits = rename_keys::is_short(destination);
+    let fits = base_paths::is_short(destination);
     Moves {
         rec: after,
         extra: 0,

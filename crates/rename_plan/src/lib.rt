@@ -13,9 +13,9 @@ ghost use Rattle.model.specs.Table.{tableIn, isTable};
 ghost use Rattle.model.specs.Checks.{_then_, limited};
 ghost use Rattle.model.specs.Rename.{ifDirectory, planned, plan, walkFrom};
 ghost use Rattle.model.specs.Rename as rename;
-ghost use Rattle.check_parents.specs.Judged.{checkOf};
+ghost use Rattle.check_judged.specs.Judged.{checkOf};
 ghost use Rattle.rename_walk.specs.Walked.{walkOf};
-use check_parents::Judged;
+use check_judged::Judged;
 use model::Record;
 use model::Refusal;
 

@@ -1,5 +1,4 @@
 -- 11, 12 and 13 of rename, and what is settled by them.
--- Assumes nothing.
 use mathlib.Core.Bool.{cond}
 use Prim.Native.Nat.{ℕ}
 use lib.Dec.{leb}
@@ -12,7 +11,7 @@ use Rattle.model.specs.Checks.{Check, pass, _then_, unless, Memory, charged}
 use Rattle.model.specs.Rename.{carried, moved, keysFit}
 use Rattle.model.specs.Answer.{toldRefusal}
 use Rattle.model.specs.declared.Refusal.the-variants.{Limit, KeyTooLong, NoRoom}
-use Rattle.check_parents.specs.Judged.{asCheck}
+use Rattle.check_judged.specs.Judged.{asCheck}
 use Rattle.rename_measure.specs.declared.Projected.{Projected}
 use Rattle.rename_settle.specs.declared.Settled.{Settled}
 use Rattle.rename_settle.specs.declared.Settled.the-variants.{Done, Refused}

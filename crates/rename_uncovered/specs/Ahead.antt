@@ -1,5 +1,4 @@
 -- A cursor over the uncovered records of a listing's part below a, beside a cursor over the table.
--- Assumes nothing.
 use mathlib.Core.Path.{_≡_}
 use mathlib.Core.Bool.{Bool, true, false, _&&_}
 use mathlib.Core.List.{List}

@@ -12,23 +12,8 @@ ghost use Rattle.model.specs.Listing.{recordEnd};
 ghost use Rattle.model.specs.Table.{tableIn, isTable};
 ghost use Rattle.model.specs.Rename.{uncovered};
 ghost use Rattle.listing_records.specs.Place.{treeAt};
-ghost use Rattle.rename_uncovered.specs.Cover.{Parted, Covering, Following};
+ghost use Rattle.rename_uncovered.specs.Cover.{Covering, Following};
 ghost use Rattle.rename_uncovered.specs.Ahead.{PartBelow, toCome, Ready, Reading, ReadyAt, AheadAt};
-
-// Where the parent of a path ends that has `from` bytes or more: the last slash. One pass back over the path's last component.
-fn parent_end(path: &[u8], from: usize) -> usize
-    requires { ⌜ from < length (now path) ⌝ }
-    ensures { λ r. ⌜ Parted (now (path .entry)) from r ⌝ }
-{
-    let mut i = path.len() - 1;
-    while from < i {
-        if path[i] == b'/' {
-            return i;
-        }
-        i -= 1;
-    }
-    i
-}
 
 // Whether a listed path below a directory of `from` bytes is uncovered, by its own entry and its parent's flag; its flag is then set.
 // Byte order is not tree order, so a parent's flag is kept by its length: all paths between `x` and `x/y` begin with `x` and are longer,
@@ -40,7 +25,7 @@ pub fn cover(flags: &mut [bool; 513], path: &[u8], from: usize, absent: bool) ->
         → from ≡ length a → absent ≡ isNone (lookup t (now (path .entry)))
         → (r ≡ uncovered t a (now (path .entry))) × Covering t a l (now (flags .exit)) (now (path .entry))) ⌝ }
 {
-    let end = parent_end(path, from);
+    let end = base_paths::parent_end(path, from);
     let reached = absent & ((end == from) | flags[end]);
     flags[path.len()] = reached;
     reached

@@ -1,5 +1,4 @@
 -- Stretches of a listing's records, and the directories found in one, entered last first.
--- Assumes nothing.
 use mathlib.Core.Path.{_≡_}
 use mathlib.Core.Bool.{cond}
 use mathlib.Core.List.{[], _∷_, _++_}

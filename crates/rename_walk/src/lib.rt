@@ -4,7 +4,7 @@
 ghost use mathlib.Core.Path.{_≡_};
 ghost use mathlib.Core.Bool.{true, _&&_};
 ghost use mathlib.Core.Option.{some};
-ghost use Prim.Native.Nat.{_+_, _-_, _*_, _≤_, _<_};
+ghost use Prim.Native.Nat.{_+_, _-_, _≤_, _<_};
 ghost use lib.ListN.{length};
 ghost use Rattle.model.specs.Path.{Path, isPath, child};
 ghost use Rattle.model.specs.Map.{lookup, isNone};
@@ -162,7 +162,7 @@ fn bare_child(
     let got = table_entries::get_from(table, place, path);
     let entry = got.entry;
     let from = got.place;
-    let bare = table_below::is_child(dir, path) & table_entries::is_absent(entry);
+    let bare = base_paths::is_child(dir, path) & table_entries::is_absent(entry);
     Bare {
         bare: bare,
         place: from,
@@ -258,7 +258,7 @@ fn seek_below(records: &[u8], place: listing_records::Place, dir: &[u8]) -> list
     while 0 < left {
         let here = listing_records::Place { at: at, left: left };
         let path = listing_records::record_path(records, here);
-        if table_below::is_before_with(path, dir, b'/') {
+        if base_paths::is_before_with(path, dir, b'/') {
             let next = listing_records::next_record(records, here);
             at = next.at;
             left = next.left;
@@ -280,7 +280,7 @@ fn count_below(records: &[u8], place: listing_records::Place, dir: &[u8]) -> u64
     while 0 < left {
         let here = listing_records::Place { at: at, left: left };
         let path = listing_records::record_path(records, here);
-        if listing_records::is_below(dir, path) {
+        if base_paths::is_below(dir, path) {
             let next = listing_records::next_record(records, here);
             at = next.at;
             left = next.left;

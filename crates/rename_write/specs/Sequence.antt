@@ -1,5 +1,4 @@
 -- Stretches one behind the other: what one asks and does, so that two in a row ask and do the same of both together.
--- Assumes nothing.
 use mathlib.Core.Path.{_≡_}
 use mathlib.Core.Bool.{Bool, true, cond}
 use mathlib.Core.List.{[], _∷_, _++_}

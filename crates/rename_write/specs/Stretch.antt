@@ -1,5 +1,4 @@
 -- Stretches of entries with ascending keys that are put into a table one after the other, each entry made of one that rename carries.
--- Assumes nothing.
 use mathlib.Core.Path.{_≡_}
 use mathlib.Core.Bool.{Bool, true, _&&_}
 use mathlib.Core.List.{[], _∷_, _++_}

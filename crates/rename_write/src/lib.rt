@@ -2,7 +2,7 @@
 // Assumes parts of a checked table and of a checked listing, and buffers with room: only this repository's crates call, once all checks passed.
 // A stretch reads the parts and the table once, and writes each byte of the new table once.
 ghost use mathlib.Core.Path.{_≡_};
-ghost use mathlib.Core.Bool.{true, false};
+ghost use mathlib.Core.Bool.{true};
 ghost use mathlib.Core.List.{[], _∷_, _++_};
 ghost use mathlib.Core.Option.{none};
 ghost use Prim.Native.Nat.{_≤_, _<_};
@@ -523,7 +523,7 @@ fn put_ordered<'a>(
         return put_arrivals(work, table, rec, listing, source, destination, whole, merge);
     }
     if base_fields::is_before(source, destination) {
-        if table_below::is_before_with(destination, source, 47) {
+        if base_paths::is_before_with(destination, source, 47) {
             return put_destination_within(
                 work,
                 table,
@@ -537,7 +537,7 @@ fn put_ordered<'a>(
         }
         return put_source_first(work, table, rec, listing, source, destination, whole, merge);
     }
-    if table_below::is_before_with(source, destination, 47) {
+    if base_paths::is_before_with(source, destination, 47) {
         return put_source_within(work, table, rec, listing, source, destination, whole, merge);
     }
     put_destination_first(work, table, rec, listing, source, destination, whole, merge)

@@ -1,5 +1,4 @@
 -- Demand 3 on a script's calls: what the script leaves is what its list of requests leaves, and its mtimes have 64 bits.
--- Assumes nothing.
 use mathlib.Core.Path.{_≡_, refl, ap, ap₂, sym, _∙_, subst, subst⁻¹}
 use mathlib.Core.Bool.{Bool, true, false, cond}
 use mathlib.Core.List.{List, [], _∷_}
@@ -20,8 +19,8 @@ use Rattle.model.proofs.Words.{WordedCall, IsBytes}
 use Rattle.model.proofs.Formed.{bytes-drop, number-below}
 use Rattle.model.proofs.Reached.{WordedCalls}
 use Rattle.model.proofs.Demand3 as demand
-use Rattle.check_parents.specs.Judged.{asCheck, refuses}
-use Rattle.check_parents.proofs.Checked.{refusal-refuses}
+use Rattle.check_judged.specs.Judged.{asCheck, refuses}
+use Rattle.check_judged.proofs.Checked.{refusal-refuses}
 use Rattle.call_answer.specs.Meets.{stored}
 use Rattle.call_values.specs.declared.Kind.{Kind}
 use Rattle.call_values.specs.declared.Kind.the-variants.{Write, Mkdir, Unlink, Rmdir, Rename}

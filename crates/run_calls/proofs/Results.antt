@@ -1,9 +1,8 @@
 -- From what the code found to the result that the definition gives.
--- Assumes nothing.
-use mathlib.Core.Path.{_≡_, refl, ap, ap₂, sym, _∙_, subst, subst⁻¹}
+use mathlib.Core.Path.{_≡_, refl, ap, ap₂, sym, _∙_, subst⁻¹}
 use mathlib.Core.Bool.{Bool, true, false, not}
 use mathlib.Core.List.{_++_}
-use Prim.Native.Nat.{ℕ, _+_, _*_, _≤_}
+use Prim.Native.Nat.{ℕ, _*_, _≤_}
 use native.Mathlib.Nat.{zero-add}
 use lib.Dec.{leb}
 use lib.ListN.{length, drop}

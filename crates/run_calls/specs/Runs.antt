@@ -1,5 +1,4 @@
 -- What a script's calls answer and leave, and demand 3 of document 01 on them.
--- Assumes nothing.
 use mathlib.Core.Path.{_≡_}
 use mathlib.Core.Bool.{cond}
 use mathlib.Core.List.{List, [], _∷_, _++_}

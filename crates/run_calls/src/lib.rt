@@ -1,5 +1,5 @@
 // Running a script: its calls one after another, each answer told as a row of the report.
-// Nothing is assumed: all bytes are taken as script, listing, table, work buffer and report, and any record.
+// All bytes are taken as script, listing, table, work buffer and report, and any record.
 // A run costs the check of the script, and what its calls cost.
 ghost use mathlib.Core.Path.{_≡_};
 ghost use mathlib.Core.Bool.{true};

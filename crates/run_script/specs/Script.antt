@@ -1,5 +1,4 @@
 -- A script: a list of changing calls, each with its limit, as bytes. Which bytes are one, and the calls that stand in it.
--- Assumes nothing.
 use mathlib.Core.Bool.{Bool, cond, _&&_, _||_}
 use mathlib.Core.List.{List, [], _∷_}
 use Prim.Native.Nat.{ℕ, zero, suc, _+_, _/_, _%_}

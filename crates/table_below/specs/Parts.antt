@@ -1,5 +1,4 @@
 -- The entries below a directory, as one part in the middle of a table.
--- Assumes nothing.
 use mathlib.Core.Path.{_≡_}
 use mathlib.Core.Bool.{Bool, true, false, not, _&&_}
 use Prim.Native.Nat.{ℕ, _≤_}

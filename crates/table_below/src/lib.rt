@@ -6,7 +6,7 @@ ghost use mathlib.Core.Bool.{true, not, _&&_};
 ghost use mathlib.Core.List.{[], _∷_, _++_};
 ghost use Prim.Native.Nat.{_+_, _-_, _*_, _≤_, _<_};
 ghost use lib.ListN.{length};
-ghost use Rattle.model.specs.Bytes.{every, before};
+ghost use Rattle.model.specs.Bytes.{every};
 ghost use Rattle.model.specs.Path.{Path, below, child};
 ghost use Rattle.model.specs.Map.{keys};
 ghost use Rattle.model.specs.Table.{keyAt, entryAt, entriesAt, tableIn, isTable};
@@ -21,22 +21,6 @@ pub struct Part {
     pub count: u64,
 }
 
-// Whether a key comes before a directory's path with one byte behind it. With a slash, what is not before it and is before the same with '0' is below.
-pub fn is_before_with(key: &[u8], dir: &[u8], b: u8) -> bool
-    ensures { λ r. ⌜ r ≡ before (now (key .entry)) (now (dir .entry) ++ (b ∷ [])) ⌝ }
-{
-    let n = base_fields::shared(key, dir);
-    if key.len() <= n {
-        return true;
-    }
-    let x = key[n];
-    if n < dir.len() {
-        let y = dir[n];
-        return x < y;
-    }
-    x < b
-}
-
 // The first entry from a place on whose key is not before that.
 fn seek_with(table: &[u8], place: table_entries::Place, dir: &[u8], b: u8) -> table_entries::Place
     requires { ⌜ Standing (now table) (place .left) (place .at) ⌝ }
@@ -48,7 +32,7 @@ fn seek_with(table: &[u8], place: table_entries::Place, dir: &[u8], b: u8) -> ta
         let start = at + 24;
         let to = start + base_fields::le16(table, at) as usize;
         let part = &table[start..to];
-        if is_before_with(part, dir, b) {
+        if base_paths::is_before_with(part, dir, b) {
             at = to + base_fields::le32(table, at + 4) as usize;
             left -= 1;
         } else {
@@ -73,31 +57,6 @@ pub fn below(table: &[u8], rec: model::Record, dir: &[u8]) -> Part
     }
 }
 
-// Whether a path is a child of a directory: the directory's path, a slash, and one component.
-pub fn is_child(dir: &[u8], path: &[u8]) -> bool
-    ensures { λ r. ⌜ r ≡ child (now (dir .entry)) (now (path .entry)) ⌝ }
-{
-    let n = base_fields::shared(dir, path);
-    if n < dir.len() {
-        return false;
-    }
-    if path.len() <= n {
-        return false;
-    }
-    let b = path[n];
-    if b != 47 {
-        return false;
-    }
-    let mut i = n + 1;
-    while i < path.len() {
-        if path[i] == 47 {
-            return false;
-        }
-        i += 1;
-    }
-    true
-}
-
 // Whether the entry at a place is a child of a directory and not deleted.
 fn is_visible_child(part: &[u8], place: table_entries::Place, dir: &[u8]) -> bool
     requires { ⌜ Standing (now part) (place .left) (place .at) ⌝ }
@@ -108,7 +67,7 @@ fn is_visible_child(part: &[u8], place: table_entries::Place, dir: &[u8]) -> boo
     let at = place.at;
     let kind = base_fields::le16(part, at + 2);
     let key = table_entries::entry_key(part, place);
-    let child = is_child(dir, key);
+    let child = base_paths::is_child(dir, key);
     child & (kind != 4)
 }
 

@@ -9,7 +9,7 @@ ghost use Rattle.model.specs.Path.{isPath};
 ghost use Rattle.model.specs.Map.{puts, each};
 ghost use Rattle.model.specs.Tree.{directory};
 ghost use Rattle.model.specs.Table.{encode, padded, recordOf, tableIn, isTable};
-ghost use Rattle.check_parents.specs.Dirs.{endsOf, climbs, prefixes};
+ghost use Rattle.base_paths.specs.Dirs.{endsOf, climbs, prefixes};
 ghost use Rattle.table_insert.specs.Insert.{insertion, ifDone};
 
 // The record as if these directories were put.
@@ -17,7 +17,7 @@ pub fn check_replacements(
     table: &[u8],
     rec: model::Record,
     path: &[u8],
-    dirs: check_parents::Dirs,
+    dirs: base_paths::Dirs,
 ) -> model::Record
     requires { ⌜ isTable (now table) rec ≡ true ⌝ }
     requires { ⌜ isPath (now path) ≡ true ⌝ }
@@ -53,7 +53,7 @@ fn insert_all_unchecked(
     work: &mut [u8],
     rec: model::Record,
     path: &[u8],
-    dirs: check_parents::Dirs,
+    dirs: base_paths::Dirs,
     mtime: u64,
 )
     requires { ⌜ isTable (now table) rec ≡ true ⌝ }
@@ -88,7 +88,7 @@ pub fn insert_all(
     work: &mut [u8],
     rec: model::Record,
     path: &[u8],
-    dirs: check_parents::Dirs,
+    dirs: base_paths::Dirs,
     mtime: u64,
     limit: u64,
 ) -> table_insert::Inserted

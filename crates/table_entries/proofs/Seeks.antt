@@ -1,5 +1,4 @@
 -- The search forward over a table's entries: its invariant, where it ends, and what stands there.
--- Assumes nothing.
 use mathlib.Core.Path.{_≡_, refl, ap, sym, _∙_}
 use mathlib.Core.List.{[]}
 use mathlib.Core.Bool.{Bool, true, false, cond}

@@ -1,5 +1,5 @@
 -- A map whose paths ascend, cut at a path.
--- Assumes nothing: each function is defined on every list.
+-- Each function is defined on every list.
 use mathlib.Core.Bool.{cond}
 use mathlib.Core.List.{[], _∷_}
 use mathlib.Core.Option.{Option, none, some}

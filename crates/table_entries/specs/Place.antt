@@ -1,5 +1,4 @@
 -- Places in a table's bytes: the entries from a place on.
--- Assumes nothing.
 use mathlib.Core.Path.{_≡_}
 use mathlib.Core.Bool.{true}
 use mathlib.Core.List.{[], _++_}

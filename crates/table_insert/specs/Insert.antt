@@ -1,5 +1,4 @@
 -- What inserting answers, and what it leaves.
--- Assumes nothing.
 use mathlib.Core.Bool.{cond}
 use Prim.Native.Nat.{ℕ}
 use lib.Dec.{leb}

@@ -1,5 +1,4 @@
 -- A table changed by one pass over its bytes: entries are put with ascending keys, and what stands between them stays.
--- Assumes nothing.
 use mathlib.Core.Path.{_≡_}
 use mathlib.Core.Bool.{Bool, true, false}
 use mathlib.Core.List.{[], _∷_, _++_}

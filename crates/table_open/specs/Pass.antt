@@ -1,5 +1,4 @@
 -- The rules of a table in one pass: each entry by itself and by the key before it, then the record and the bytes behind the entries.
--- Assumes nothing.
 use mathlib.Core.Bool.{Bool, true, cond, _&&_, _||_}
 use mathlib.Core.List.{[]}
 use Prim.Native.Nat.{ℕ, zero, suc, _+_}

@@ -1,5 +1,5 @@
 // Whether bytes and a record are a table of document 01, in one pass, and opening a buffer as an empty table.
-// Assumes nothing: all bytes and all records are taken.
+// All bytes and all records are taken.
 ghost use mathlib.Core.Path.{_≡_};
 ghost use Prim.Native.Nat.{_+_, _-_, _≤_};
 ghost use lib.ListN.{length, take, drop};

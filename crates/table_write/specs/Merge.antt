@@ -1,5 +1,4 @@
 -- A table written anew into a work buffer, in one pass over the old one.
--- Assumes nothing.
 use mathlib.Core.Path.{_≡_}
 use Prim.Native.Nat.{ℕ}
 use lib.ListN.{length, take}

@@ -1,5 +1,4 @@
 -- A look at a path's prefixes, one after the other: what is visible there, and from where table and listing are searched on.
--- Assumes nothing.
 use mathlib.Core.Path.{_≡_}
 use mathlib.Core.Bool.{true}
 use Prim.Native.Nat.{ℕ, _≤_}

@@ -145,3 +145,23 @@ pub fn visible_at(listing: &[u8], table: &[u8], rec: model::Record, path: &[u8])
     let target = listing_dir::kind_of(listing, path);
     over(entry, target)
 }
+
+// Whether what is visible is a directory.
+pub fn is_directory(visible: Visible) -> bool
+    ensures { λ r. ⌜ r ≡ isDirectory (visibleKind visible) ⌝ }
+{
+    match visible {
+        Visible::Nothing => {
+            return false;
+        }
+        Visible::Directory => {
+            return true;
+        }
+        Visible::File => {
+            return false;
+        }
+        Visible::Link => {
+            return false;
+        }
+    }
+}

@@ -54,7 +54,7 @@ fn listed_without_entry(
             path,
         );
         let entry = got.entry;
-        if table_below::is_child(dir, path) & table_entries::is_absent(entry) {
+        if base_paths::is_child(dir, path) & table_entries::is_absent(entry) {
             return true;
         }
         let next = listing_records::next_record(part, here);

@@ -1,6 +1,5 @@
 -- `base_paths::is_path` meets its contract. The loop's invariant: what the two states ask of the bytes to come is what the definition
 -- asks of all of them. The measure is how many are to come.
--- Assumes nothing.
 use mathlib.Core.Path.{refl}
 use Prim.Native.Nat.{_-_}
 use native.Mathlib.Omega.{arith}

@@ -1,5 +1,4 @@
 -- `rename` meets its contract: refused by its checks, by 11, 12 or 13, or written anew.
--- Assumes nothing.
 use borrow.Author.Needs.{needs}
 use borrow.Author.Tests.{leb-true}
 use lib.ListN.{length}

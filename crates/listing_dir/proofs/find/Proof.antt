@@ -1,6 +1,5 @@
 -- `find` meets its contract: a walk of its MIR, by hand. A `Dir` that one call returns is held in a local and passed to the next, beside the path. All that the proof knows of `Dir::new` and of `Dir::record_at` is that each meets its contract.
 -- The machine value that `Dir::new` returns is stored and passed on as it is. In a local of a body MIR erases the lifetime of the struct's type, so the value is shown to have the type at `erased`.
--- Assumes nothing.
 use mathlib.Core.Path.{_≡_, refl, sym, subst}
 use mathlib.Core.Bool.{true}
 use Prim.Native.Nat.{ℕ}
@@ -49,13 +48,10 @@ use Rattle.listing_dir.proofs.Dir as T
 use Rattle.listing_dir.proofs.Dir.Laws as T′
 use Rattle.listing_dir.proofs.Dir.new as new
 use Rattle.listing_dir.proofs.Dir.new.Symbol as new-def
-use Rattle.listing_dir.proofs.Dir.new.Symbol.{name as #new}
 use Rattle.listing_dir.proofs.Dir.new.Met as new-thm
 use Rattle.listing_dir.proofs.Dir.record_at as record-at
 use Rattle.listing_dir.proofs.Dir.record_at.Symbol as record-at-def
-use Rattle.listing_dir.proofs.Dir.record_at.Symbol.{name as #record-at}
 use Rattle.listing_dir.proofs.Dir.record_at.Met as record-at-thm
-use Rattle.listing_dir.proofs.find.Key.{name as #find}
 use Rattle.listing_dir.proofs.find as f
 use Rattle.listing_dir.proofs.find.Statement as stated
 use Rattle.listing_dir.proofs.find.Code as code

@@ -1,6 +1,5 @@
 -- `kind_of` meets its contract: a walk of its MIR, by hand. A `Dir` that one call returns is held in a local and passed to the next, beside the path. All that the proof knows of `Dir::new` and of `Dir::kind_at` is that each meets its contract.
 -- The machine value that `Dir::new` returns is stored and passed on as it is. In a local of a body MIR erases the lifetime of the struct's type, so the value is shown to have the type at `erased`.
--- Assumes nothing.
 use mathlib.Core.Path.{_≡_, refl, sym, subst}
 use mathlib.Core.Bool.{true}
 use Prim.Native.Nat.{ℕ}
@@ -50,13 +49,10 @@ use Rattle.listing_dir.proofs.Dir as T
 use Rattle.listing_dir.proofs.Dir.Laws as T′
 use Rattle.listing_dir.proofs.Dir.new as new
 use Rattle.listing_dir.proofs.Dir.new.Symbol as new-def
-use Rattle.listing_dir.proofs.Dir.new.Symbol.{name as #new}
 use Rattle.listing_dir.proofs.Dir.new.Met as new-thm
 use Rattle.listing_dir.proofs.Dir.kind_at as kind-at
 use Rattle.listing_dir.proofs.Dir.kind_at.Symbol as kind-at-def
-use Rattle.listing_dir.proofs.Dir.kind_at.Symbol.{name as #kind-at}
 use Rattle.listing_dir.proofs.Dir.kind_at.Met as kind-at-thm
-use Rattle.listing_dir.proofs.kind_of.Key.{name as #kind-of}
 use Rattle.listing_dir.proofs.kind_of as f
 use Rattle.listing_dir.proofs.kind_of.Statement as stated
 use Rattle.listing_dir.proofs.kind_of.Code as code

@@ -1,6 +1,5 @@
 -- `step_once` meets its contract: a walk of its MIR, by hand. The walk that is passed is put in a local, lent by `&mut` for the call of `step` at a lifetime made for the call, comes back, and is returned beside the target.
 -- So whoever holds the walk by value, as a covered loop does, goes through the lent step with no proof of this kind. All that the proof knows of `step` is that it meets its contract.
--- Assumes nothing.
 use mathlib.Core.Path.{refl, ap}
 use Prim.Native.Nat.{ℕ, _<_, _^_}
 use mathlib.Core.List.{[], _∷_, List}
@@ -39,7 +38,7 @@ use denote.Triple.Call.{calls-at}
 use denote.Triple.Entry.{onEntry}
 use denote.Triple.Spec.{Meets, tripleOf}
 use denote.Triple.Table.{entered, cited}
-use denote.Triple.Walked.{says, needs, Stays, stay-none, stay-none-slice, walkOf, AllGo, goes-none, goes-none-slice, Walks as Walked, ends-at, walked, walk-meets}
+use denote.Triple.Walked.{says, needs, Stays, stay-none, stay-none-slice, walkOf, AllGo, goes-none, goes-none-slice, ends-at, walked, walk-meets}
 use denote.Triple.Clauses.{ensured}
 use denote.Exit.{yes}
 use Rattle.listing_records.specs.declared.ComponentWalk.{ComponentWalk}
@@ -57,9 +56,7 @@ use Rattle.listing_walk.proofs.Lent.{val, lent-at, lend, back}
 use Rattle.listing_walk.proofs.Called.{part, Callee, to, Lent, goes, told}
 use Rattle.listing_walk.proofs.step as callee
 use Rattle.listing_walk.proofs.step.Symbol as callee-def
-use Rattle.listing_walk.proofs.step.Symbol.{name as #callee}
 use Rattle.listing_walk.proofs.step.Met as callee-thm
-use Rattle.listing_walk.proofs.step_once.Key.{name as #step-once}
 use Rattle.listing_walk.proofs.step_once as f
 use Rattle.listing_walk.proofs.step_once.Statement as stated
 use Rattle.listing_walk.proofs.step_once.Code as code

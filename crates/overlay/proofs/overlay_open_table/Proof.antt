@@ -1,5 +1,4 @@
 -- `overlay_open_table` meets its contract: the answer of opening, packed, and its record, stored where it is accepted.
--- Assumes nothing.
 use borrow.Author.Needs.{needs}
 use Rattle.overlay.proofs.Leaving.{not-opened, open-fits, open-settled}
 use Rattle.overlay.proofs.overlay_open_table.Statement.{statement}

@@ -1,5 +1,4 @@
 -- `settle` meets its contract: accepted, the record is stored; refused, the four numbers stay.
--- Assumes nothing.
 use borrow.Author.Needs.{needs}
 use mathlib.Core.Path.{_∙_}
 use Rattle.model.specs.Answer.{told}

@@ -1,5 +1,4 @@
 -- `come` meets its contract.
--- Assumes nothing.
 use borrow.Author.Needs.{needs}
 use Rattle.rename_measure.proofs.Foretelling.{come-whole, come-alone}
 use Rattle.rename_measure.proofs.come.Statement.{statement}

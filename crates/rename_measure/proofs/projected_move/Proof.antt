@@ -1,5 +1,4 @@
 -- `projected_move` meets its contract: onto itself by the moves alone, elsewhere by deletions and moves together.
--- Assumes nothing.
 use mathlib.Core.Path.{sym, _∙_}
 use borrow.Author.Needs.{needs}
 use Rattle.rename_measure.proofs.Sources.{length-small}

@@ -1,5 +1,4 @@
 -- `measure` meets its contract: the checks before it give what the measuring asks for, and what that foretells settles 11, 12 and 13.
--- Assumes nothing.
 use borrow.Author.Needs.{needs}
 use lib.ListN.{length}
 use Rattle.model.specs.Listing.{treeIn}

@@ -1,5 +1,4 @@
 -- `settle` meets its contract: the limit first, then the keys, then the room.
--- Assumes nothing.
 use Rattle.rename_settle.proofs.Settling.{over-limit, too-long, no-room, in-all}
 use Rattle.rename_settle.proofs.settle.Statement.{statement}
 use Rattle.rename_settle.proofs.settle.Tie as tie

@@ -1,5 +1,4 @@
 -- `put_departures` meets its contract: the source comes first, and what is below it behind.
--- Assumes nothing.
 use mathlib.Core.List.{[], _∷_}
 use borrow.Author.Needs.{needs}
 use Rattle.model.specs.Listing.{treeIn}

@@ -1,5 +1,4 @@
 -- `put_listed` meets its contract: a directory has no body, and a file's is its path.
--- Assumes nothing.
 use mathlib.Core.Path.{refl}
 use mathlib.Core.List.{[]}
 use borrow.Author.Needs.{needs}

@@ -1,5 +1,4 @@
 -- `put_source` meets its contract: kind 4 without a body is a deleted entry.
--- Assumes nothing.
 use mathlib.Core.Path.{refl}
 use mathlib.Core.List.{[]}
 use borrow.Author.Needs.{needs}

@@ -1,5 +1,4 @@
 -- `run_step` meets its contract: the call that it makes is the step that stands there.
--- Assumes nothing.
 use borrow.Author.Needs.{needs}
 use Rattle.call_answer.specs.Meets.{stored}
 use Rattle.run_calls.proofs.Loops.{step-met}

@@ -1,5 +1,4 @@
 -- `first_at` meets its contract: the first part stands behind the head.
--- Assumes nothing.
 use borrow.Author.Needs.{needs}
 use Rattle.run_script.proofs.Parts.{first-is}
 use Rattle.run_script.proofs.first_at.Statement.{statement}

@@ -1,5 +1,4 @@
 -- `second_at` meets its contract: the second part stands between the first and the end.
--- Assumes nothing.
 use borrow.Author.Needs.{needs}
 use Rattle.run_script.proofs.Parts.{second-is}
 use Rattle.run_script.proofs.second_at.Statement.{statement}
