@@ -12,7 +12,7 @@ use base.Logic.{ent, sep, ex}
 use base.Fml.{Lft, GName, fsep, fat, fdead, fres, flent}
 use prog.Wp.{Heap}
 use ghost.Atoms.{Atoms, sem}
-use types.Kit.{Given, ‵, _⊛_, later, _$_, _∵_, !, qed, by, move, use1, use2, use3, split, fsplit, fjoin, fpick, fpack, frame, await, updating, done}
+use types.Kit.{Given, ‵, _⊛_, later, _$_, _∵_, !, qed, by, move, use1, use2, use3, split, fsplit, fjoin, fpick, fpack, frame, await, updating, now as at-once, done}
 use types.SemTy.{Body}
 use denote.RattleType.{RattleType}
 use denote.Laws.{Is, shows}

@@ -48,10 +48,13 @@ use Rattle.listing_dir.proofs.Dir as T
 use Rattle.listing_dir.proofs.Dir.Laws as T′
 use Rattle.listing_dir.proofs.Dir.new as new
 use Rattle.listing_dir.proofs.Dir.new.Symbol as new-def
+use Rattle.listing_dir.proofs.Dir.new.Symbol.{name as #new}
 use Rattle.listing_dir.proofs.Dir.new.Met as new-thm
 use Rattle.listing_dir.proofs.Dir.record_at as record-at
 use Rattle.listing_dir.proofs.Dir.record_at.Symbol as record-at-def
+use Rattle.listing_dir.proofs.Dir.record_at.Symbol.{name as #record-at}
 use Rattle.listing_dir.proofs.Dir.record_at.Met as record-at-thm
+use Rattle.listing_dir.proofs.find.Key.{name as #find}
 use Rattle.listing_dir.proofs.find as f
 use Rattle.listing_dir.proofs.find.Statement as stated
 use Rattle.listing_dir.proofs.find.Code as code

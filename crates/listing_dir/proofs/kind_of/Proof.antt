@@ -49,10 +49,13 @@ use Rattle.listing_dir.proofs.Dir as T
 use Rattle.listing_dir.proofs.Dir.Laws as T′
 use Rattle.listing_dir.proofs.Dir.new as new
 use Rattle.listing_dir.proofs.Dir.new.Symbol as new-def
+use Rattle.listing_dir.proofs.Dir.new.Symbol.{name as #new}
 use Rattle.listing_dir.proofs.Dir.new.Met as new-thm
 use Rattle.listing_dir.proofs.Dir.kind_at as kind-at
 use Rattle.listing_dir.proofs.Dir.kind_at.Symbol as kind-at-def
+use Rattle.listing_dir.proofs.Dir.kind_at.Symbol.{name as #kind-at}
 use Rattle.listing_dir.proofs.Dir.kind_at.Met as kind-at-thm
+use Rattle.listing_dir.proofs.kind_of.Key.{name as #kind-of}
 use Rattle.listing_dir.proofs.kind_of as f
 use Rattle.listing_dir.proofs.kind_of.Statement as stated
 use Rattle.listing_dir.proofs.kind_of.Code as code

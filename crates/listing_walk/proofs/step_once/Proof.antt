@@ -38,7 +38,7 @@ use denote.Triple.Call.{calls-at}
 use denote.Triple.Entry.{onEntry}
 use denote.Triple.Spec.{Meets, tripleOf}
 use denote.Triple.Table.{entered, cited}
-use denote.Triple.Walked.{says, needs, Stays, stay-none, stay-none-slice, walkOf, AllGo, goes-none, goes-none-slice, ends-at, walked, walk-meets}
+use denote.Triple.Walked.{says, needs, Stays, stay-none, stay-none-slice, walkOf, AllGo, goes-none, goes-none-slice, Walks as Walked, ends-at, walked, walk-meets}
 use denote.Triple.Clauses.{ensured}
 use denote.Exit.{yes}
 use Rattle.listing_records.specs.declared.ComponentWalk.{ComponentWalk}
@@ -56,7 +56,9 @@ use Rattle.listing_walk.proofs.Lent.{val, lent-at, lend, back}
 use Rattle.listing_walk.proofs.Called.{part, Callee, to, Lent, goes, told}
 use Rattle.listing_walk.proofs.step as callee
 use Rattle.listing_walk.proofs.step.Symbol as callee-def
+use Rattle.listing_walk.proofs.step.Symbol.{name as #callee}
 use Rattle.listing_walk.proofs.step.Met as callee-thm
+use Rattle.listing_walk.proofs.step_once.Key.{name as #step-once}
 use Rattle.listing_walk.proofs.step_once as f
 use Rattle.listing_walk.proofs.step_once.Statement as stated
 use Rattle.listing_walk.proofs.step_once.Code as code

@@ -1,7 +1,7 @@
 -- `enter_record` and `enter_stretch` meet their contracts: with each call the levels left fall, or the records of the stretch do.
 use mathlib.Core.Path.{sym, _∙_}
 use mathlib.Core.Option.{some}
-use Prim.Native.Nat.{ℕ, _+_, _*_}
+use Prim.Native.Nat.{ℕ, _+_, _*_, _<_}
 use native.Mathlib.Omega.{arith}
 use borrow.Author.Needs.{needs}
 use borrow.Fn.Kinds.{In}

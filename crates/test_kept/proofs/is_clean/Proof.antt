@@ -1,5 +1,6 @@
 -- `test_kept::is_clean` meets its contract: both tests are the definition's.
 use mathlib.Core.Path.{ap₂}
+use mathlib.Core.Bool.{_&&_}
 use borrow.Author.Needs.{needs}
 use Rattle.test_kept.proofs.is_clean.Statement.{statement}
 use Rattle.test_kept.proofs.is_clean.Tie as tie

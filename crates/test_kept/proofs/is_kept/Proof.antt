@@ -1,5 +1,6 @@
 -- `test_kept::is_kept` meets its contract: the three tests are the definition's.
 use mathlib.Core.Path.{ap₂}
+use mathlib.Core.Bool.{_&&_}
 use borrow.Author.Needs.{needs}
 use Rattle.test_kept.proofs.is_kept.Statement.{statement}
 use Rattle.test_kept.proofs.is_kept.Tie as tie

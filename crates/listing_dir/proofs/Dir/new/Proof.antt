@@ -44,7 +44,9 @@ use Rattle.listing_dir.proofs.Dir as T
 use Rattle.listing_dir.proofs.Dir.Laws as T′
 use Rattle.listing_dir.proofs.count_in as callee
 use Rattle.listing_dir.proofs.count_in.Symbol as callee-def
+use Rattle.listing_dir.proofs.count_in.Symbol.{name as #callee}
 use Rattle.listing_dir.proofs.count_in.Met as callee-thm
+use Rattle.listing_dir.proofs.Dir.new.Key.{name as #new}
 use Rattle.listing_dir.proofs.Dir.new as f
 use Rattle.listing_dir.proofs.Dir.new.Statement as stated
 use Rattle.listing_dir.proofs.Dir.new.Code as code
