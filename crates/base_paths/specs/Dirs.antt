@@ -5,7 +5,7 @@ use Prim.Native.Nat.{ℕ}
 use lib.Dec.{leb, ltb}
 use lib.ListN.{take}
 use Rattle.model.specs.Path.{Path}
-use Rattle.base_paths.specs.declared.ancestors.Dirs.{Dirs}
+use Rattle.base_paths.specs.declared.prefixes.Dirs.{Dirs}
 
 -- the ends that a Dirs holds
 abbrev pub endsOf : Dirs → List ℕ

@@ -1,18 +1,18 @@
 // Paths: whether bytes are one, in one pass, and what is asked of paths. All functions on paths alone stand in this crate.
 // The counterpart of path_security.rs.
-mod ancestors;
 mod names;
+mod prefixes;
 mod relations;
 mod sizes;
 mod utf8;
 
-pub use ancestors::Dirs;
-pub use ancestors::next_ancestor;
-pub use ancestors::parent_end;
-pub use ancestors::with_end;
 use names::Names;
 use names::is_ended;
 use names::next_names;
+pub use prefixes::Dirs;
+pub use prefixes::next_ancestor;
+pub use prefixes::parent_end;
+pub use prefixes::with_end;
 pub use relations::is_before_with;
 pub use relations::is_below;
 pub use relations::is_child;

@@ -15,7 +15,7 @@ pub fn is_below(dir: &[u8], path: &[u8]) -> bool
     }
     if n < path.len() {
         let b = path[n];
-        return b == 47;
+        return b == b'/';
     }
     false
 }
@@ -32,12 +32,12 @@ pub fn is_child(dir: &[u8], path: &[u8]) -> bool
         return false;
     }
     let b = path[n];
-    if b != 47 {
+    if b != b'/' {
         return false;
     }
     let mut i = n + 1;
     while i < path.len() {
-        if path[i] == 47 {
+        if path[i] == b'/' {
             return false;
         }
         i += 1;

@@ -12,7 +12,7 @@ use Rattle.model.specs.Table.{tableIn}
 use Rattle.model.specs.Checks.{Check, pass, makes}
 use Rattle.model.specs.Answer.{toldRefusal}
 use Rattle.model.specs.declared.Record.{Record}
-use Rattle.base_paths.specs.declared.ancestors.Dirs.{Dirs}
+use Rattle.base_paths.specs.declared.prefixes.Dirs.{Dirs}
 use Rattle.check_judged.specs.Judged.{asCheck}
 use Rattle.base_paths.specs.Dirs.{endsOf, climbs, prefixes}
 use Rattle.call_mkdir.specs.declared.Step.{Step}

@@ -91,7 +91,7 @@ fn to_create(listing: &[u8], table: &[u8], rec: Record, path: &[u8], parents: bo
         return check_parents::overlay_dirs_to_create(listing, table, rec, path);
     }
     let judged = check_parents::ensure_parent_exists(listing, table, rec, path, 0);
-    let mut ends: [usize; 32] = [0; 32];
+    let mut ends: [usize; model::DEPTH_MAX] = [0; model::DEPTH_MAX];
     ends[0] = path.len();
     ToCreate {
         judged: judged,
@@ -107,7 +107,7 @@ fn none() -> Dirs
     ensures { λ r. ⌜ endsOf r ≡ [] ⌝ }
 {
     Dirs {
-        ends: [0; 32],
+        ends: [0; model::DEPTH_MAX],
         count: 0,
     }
 }

@@ -54,7 +54,17 @@ pub fn write_bytes(
             };
         }
         Judged::Pass => {
-            let inserted = table_insert::insert(table, work, rec, path, 1, mtime, 0, data, limit);
+            let inserted = table_insert::insert(
+                table,
+                work,
+                rec,
+                path,
+                model::OWN_FILE,
+                mtime,
+                0,
+                data,
+                limit,
+            );
             return call_answer::answered(inserted, rec, data.len() as u64);
         }
     }
@@ -95,7 +105,17 @@ pub fn unlink(
         }
         Judged::Pass => {
             let none = &path[..0];
-            let inserted = table_insert::insert(table, work, rec, path, 4, 0, 0, none, limit);
+            let inserted = table_insert::insert(
+                table,
+                work,
+                rec,
+                path,
+                model::DELETED,
+                0,
+                0,
+                none,
+                limit,
+            );
             return call_answer::answered(inserted, rec, 0);
         }
     }
@@ -136,7 +156,17 @@ pub fn rmdir(
         }
         Judged::Pass => {
             let empty = &path[..0];
-            let inserted = table_insert::insert(table, work, rec, path, 4, 0, 0, empty, limit);
+            let inserted = table_insert::insert(
+                table,
+                work,
+                rec,
+                path,
+                model::DELETED,
+                0,
+                0,
+                empty,
+                limit,
+            );
             return call_answer::answered(inserted, rec, 0);
         }
     }

@@ -119,7 +119,7 @@ pub fn overlay_dirs_to_create(
         → endsOf (r .dirs) ≡ missingEnds (kind (shown (tableIn (now (table .entry)) rec) (treeIn (now (listing .entry))))) (now (path .entry))) ⌝ }
     ensures { λ r. ⌜ (r .dirs .count ≤ 32) × (climbs 0 (length (now (path .entry))) (endsOf (r .dirs)) ≡ true) ⌝ }
 {
-    let none: [usize; 32] = [0; 32];
+    let none: [usize; model::DEPTH_MAX] = [0; model::DEPTH_MAX];
     let mut dirs = Dirs {
         ends: none,
         count: 0,

@@ -11,9 +11,6 @@ ghost use Rattle.model.specs.Listing.{recordAt, ruled, headed, isListing};
 ghost use Rattle.base_fields.specs.Read.{common};
 ghost use Rattle.listing_check.specs.Turn.{fits, formedAlone, Agree, Marked};
 
-// The bytes of a record before its path.
-const RECORD_HEAD: usize = 19;
-
 // Whether the bytes begin with the mark RDL.
 fn is_marked(s: &[u8]) -> bool
     requires { ⌜ 3 ≤ length (now s) ⌝ }
@@ -28,14 +25,14 @@ fn is_marked(s: &[u8]) -> bool
 fn is_headed(s: &[u8]) -> bool
     ensures { λ r. ⌜ r ≡ headed (now (s .entry)) ⌝ }
 {
-    if s.len() < 9 {
+    if s.len() < model::LISTING_HEAD {
         return false;
     }
     if model::MAX_BUFFER < s.len() {
         return false;
     }
     if is_marked(s) {
-        return base_fields::le16(s, 3) == 1;
+        return base_fields::le16(s, 3) == model::LISTING_VERSION;
     }
     false
 }
@@ -48,9 +45,9 @@ fn is_ruled(s: &[u8], at: usize) -> bool
     let kind = s[at + 2];
     let mtime = base_fields::le64(s, at + 3);
     let size = base_fields::le64(s, at + 11);
-    ((kind == 1) & (size == 0))
-        | ((kind == 2) & (size < 0x8000_0000_0000_0000))
-        | ((kind == 3) & (size == 0) & (mtime == 0))
+    ((kind == model::LISTED_DIRECTORY) & (size == 0))
+        | ((kind == model::LISTED_FILE) & (size < model::SIGN))
+        | ((kind == model::LISTED_LINK) & (size == 0) & (mtime == 0))
 }
 
 // Whether a record stands at `at` whose own rules hold.
@@ -58,11 +55,11 @@ fn is_record(s: &[u8], at: usize) -> bool
     requires { ⌜ at ≤ 16777216 ⌝ }
     ensures { λ r. ⌜ r ≡ (fits (now (s .entry)) at && formedAlone (recordAt (now (s .entry)) at)) ⌝ }
 {
-    if s.len() < at + RECORD_HEAD {
+    if s.len() < at + model::RECORD_HEAD {
         return false;
     }
     let n = base_fields::le16(s, at) as usize;
-    let from = at + RECORD_HEAD;
+    let from = at + model::RECORD_HEAD;
     let to = from + n;
     if s.len() < to {
         return false;
@@ -128,14 +125,14 @@ pub fn check(listing: &[u8]) -> bool
         return false;
     }
     let mut flags = [true; 513];
-    let mut left = base_fields::le32(listing, 5);
-    let mut from: usize = 9;
-    let mut at: usize = 9;
+    let mut left = base_fields::le32(listing, model::LISTING_COUNT);
+    let mut from: usize = model::LISTING_HEAD;
+    let mut at: usize = model::LISTING_HEAD;
     while 0 < left {
         if !is_record(listing, at) {
             return false;
         }
-        let start = at + RECORD_HEAD;
+        let start = at + model::RECORD_HEAD;
         let to = start + base_fields::le16(listing, at) as usize;
         let previous = &listing[from..at];
         let path = &listing[start..to];
@@ -143,7 +140,12 @@ pub fn check(listing: &[u8]) -> bool
         if !is_before(previous, path, n) {
             return false;
         }
-        mark(&mut flags, n, to - start, listing[at + 2] == 1);
+        mark(
+            &mut flags,
+            n,
+            to - start,
+            listing[at + 2] == model::LISTED_DIRECTORY,
+        );
         if !is_placed(&flags, path) {
             return false;
         }

@@ -43,8 +43,12 @@ pub fn first_record(listing: &[u8]) -> Place
     ensures { λ r. ⌜ r ≡ record { at = 9; left = recordCount (now (listing .entry)) } ⌝ }
     ensures { λ r. ⌜ Standing (now (listing .entry)) (r .left) (r .at) ⌝ }
 {
-    let count = base_fields::le32(listing, 5);
-    Place { at: 9, left: count }
+    let count = base_fields::le32(listing, model::LISTING_COUNT);
+    let at = model::LISTING_HEAD;
+    Place {
+        at: at,
+        left: count,
+    }
 }
 
 pub fn next_record(listing: &[u8], place: Place) -> Place
@@ -55,7 +59,7 @@ pub fn next_record(listing: &[u8], place: Place) -> Place
 {
     let at = place.at;
     let left = place.left;
-    let to = at + 19 + base_fields::le16(listing, at) as usize;
+    let to = at + model::RECORD_HEAD + base_fields::le16(listing, at) as usize;
     Place {
         at: to,
         left: left - 1,
@@ -68,7 +72,7 @@ pub fn record_path(listing: &[u8], place: Place) -> &[u8]
     ensures { λ r. ⌜ now r ≡ recordAt (now (listing .entry)) (place .at) .path ⌝ }
 {
     let at = place.at;
-    let start = at + 19;
+    let start = at + model::RECORD_HEAD;
     let to = start + base_fields::le16(listing, at) as usize;
     &listing[start..to]
 }
@@ -81,7 +85,7 @@ fn seek(listing: &[u8], path: &[u8], from: usize, count: u64) -> Place
     let mut left = count;
     let mut at = from;
     while 0 < left {
-        let start = at + 19;
+        let start = at + model::RECORD_HEAD;
         let to = start + base_fields::le16(listing, at) as usize;
         let part = &listing[start..to];
         if base_fields::is_before(part, path) {
@@ -101,10 +105,10 @@ pub fn node_at(listing: &[u8], at: usize) -> Found
 {
     let kind = listing[at + 2];
     let mtime = base_fields::le64(listing, at + 3);
-    if kind == 1 {
+    if kind == model::LISTED_DIRECTORY {
         return Found::Directory(mtime);
     }
-    if kind == 2 {
+    if kind == model::LISTED_FILE {
         let size = base_fields::le64(listing, at + 11);
         return Found::File(mtime, size);
     }
@@ -119,7 +123,7 @@ fn found_at(listing: &[u8], path: &[u8], at: usize, left: u64) -> Found
     if left == 0 {
         return Found::Absent;
     }
-    let start = at + 19;
+    let start = at + model::RECORD_HEAD;
     let to = start + base_fields::le16(listing, at) as usize;
     let part = &listing[start..to];
     if base_fields::is_same(part, path) {
@@ -133,7 +137,7 @@ pub fn find_in(listing: &[u8], count: u64, path: &[u8]) -> Found
     requires { ⌜ (isListing (now listing) ≡ true) × (count ≡ recordCount (now listing)) ⌝ }
     ensures { λ r. ⌜ r ≡ foundOf (lookup (treeIn (now (listing .entry))) (now (path .entry))) ⌝ }
 {
-    let place = seek(listing, path, 9, count);
+    let place = seek(listing, path, model::LISTING_HEAD, count);
     found_at(listing, path, place.at, place.left)
 }
 
@@ -149,12 +153,12 @@ pub fn below(listing: &[u8], dir: &[u8]) -> Part
     requires { ⌜ isListing (now listing) ≡ true ⌝ }
     ensures { λ r. ⌜ PartOf (now (listing .entry)) (now (dir .entry)) (r .from) (r .to) (r .count) ⌝ }
 {
-    let mut left = base_fields::le32(listing, 5);
-    let mut from: usize = 9;
-    let mut at: usize = 9;
+    let mut left = base_fields::le32(listing, model::LISTING_COUNT);
+    let mut from: usize = model::LISTING_HEAD;
+    let mut at: usize = model::LISTING_HEAD;
     let mut n: u64 = 0;
     while 0 < left {
-        let start = at + 19;
+        let start = at + model::RECORD_HEAD;
         let to = start + base_fields::le16(listing, at) as usize;
         let part = &listing[start..to];
         left -= 1;
@@ -238,9 +242,9 @@ impl ComponentWalk {
         requires { ⌜ isListing (now listing) ≡ true ⌝ }
         ensures { λ r. ⌜ ((p : Path) → Walks (now (listing .entry)) p r 0) ⌝ }
     {
-        let left = base_fields::le32(listing, 5);
+        let left = base_fields::le32(listing, model::LISTING_COUNT);
         ComponentWalk {
-            at: 9,
+            at: model::LISTING_HEAD,
             left: left,
             exhausted: false,
         }

@@ -50,6 +50,37 @@ pub const MAX_BUFFER: usize = 16_777_216;
 
 pub const MAX_ENTRY_SIZE: u64 = 4_096;
 
+// The listing: its version, where its count stands, where its records begin, and the bytes of a record before its path.
+pub const LISTING_VERSION: u64 = 1;
+
+pub const LISTING_COUNT: usize = 5;
+
+pub const LISTING_HEAD: usize = 9;
+
+pub const RECORD_HEAD: usize = 19;
+
+// A record's "kind (8 bits: 1 directory, 2 file, 3 link)".
+pub const LISTED_DIRECTORY: u8 = 1;
+
+pub const LISTED_FILE: u8 = 2;
+
+pub const LISTED_LINK: u8 = 3;
+
+// The bytes of an entry before its key.
+pub const ENTRY_HEAD: usize = 24;
+
+// An entry's "kind (16 bits: 1 own file, 2 reference to a listed file, 3 directory, 4 deleted)".
+pub const OWN_FILE: u64 = 1;
+
+pub const REFERENCE: u64 = 2;
+
+pub const DIRECTORY: u64 = 3;
+
+pub const DELETED: u64 = 4;
+
+// A signed size is at least 0 exactly if its 64 bits, read as a number without a sign, are below this.
+pub const SIGN: u64 = 0x8000_0000_0000_0000;
+
 // A path's bytes and components, and a component's bytes. Names of the Rust, where the first two are larger.
 pub const PATH_MAX: usize = 512;
 

@@ -37,13 +37,13 @@ fn with_node(sums: Sums, found: Found, len: u64) -> Sums
     match found {
         Found::Directory(_) => {
             return Sums {
-                sum: sums.sum + (3 * len + 512),
+                sum: sums.sum + (3 * len + model::REAL_DESCENDANT_MEMORY_USAGE),
                 links: sums.links,
             };
         }
         Found::File(_, _) => {
             return Sums {
-                sum: sums.sum + (2 * len + 512),
+                sum: sums.sum + (2 * len + model::REAL_DESCENDANT_MEMORY_USAGE),
                 links: sums.links,
             };
         }

@@ -36,28 +36,28 @@ fn listed_fields(found: listing_records::Found) -> Fields
     match found {
         listing_records::Found::Directory(mtime) => {
             return Fields {
-                kind: 3,
+                kind: model::DIRECTORY,
                 mtime: mtime,
                 size: 0,
             };
         }
         listing_records::Found::File(mtime, size) => {
             return Fields {
-                kind: 2,
+                kind: model::REFERENCE,
                 mtime: mtime,
                 size: size,
             };
         }
         listing_records::Found::Link => {
             return Fields {
-                kind: 4,
+                kind: model::DELETED,
                 mtime: 0,
                 size: 0,
             };
         }
         listing_records::Found::Absent => {
             return Fields {
-                kind: 4,
+                kind: model::DELETED,
                 mtime: 0,
                 size: 0,
             };
@@ -114,7 +114,7 @@ pub fn item_fields(own: &[u8], part: &[u8], stream: Stream, head: Head) -> Field
         }
         Head::End => {
             return Fields {
-                kind: 4,
+                kind: model::DELETED,
                 mtime: 0,
                 size: 0,
             };

@@ -7,7 +7,7 @@ ghost use lib.ListN.{length, take, drop};
 
 // `format!` of the Rust becomes this: the first `len` of 512 bytes.
 pub struct Key {
-    pub bytes: [u8; 512],
+    pub bytes: [u8; model::PATH_MAX],
     pub len: usize,
 }
 
@@ -30,7 +30,7 @@ pub fn moved_key(destination: &[u8], path: &[u8], from: usize) -> Key
     ensures { λ r. ⌜ take (r .len) (r .bytes) ≡ now (destination .entry) ++ drop from (now (path .entry)) ⌝ }
     ensures { λ r. ⌜ r .len ≡ length (now (destination .entry)) + (length (now (path .entry)) - from) ⌝ }
 {
-    let mut bytes: [u8; 512] = [0; 512];
+    let mut bytes: [u8; model::PATH_MAX] = [0; model::PATH_MAX];
     let tail = &path[from..];
     let len = destination.len() + tail.len();
     compose(&mut bytes, destination, tail);

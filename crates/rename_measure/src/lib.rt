@@ -101,11 +101,11 @@ fn counted(table: &[u8], tally: Tally, destination: &[u8], key: &[u8], from: usi
     let n = destination.len() + (key.len() - from);
     let place = tally.place;
     let rec = tally.rec;
-    if 512 < n {
+    if model::PATH_MAX < n {
         return Tally {
             place: place,
             rec: rec,
-            extra: tally.extra + 256 + n as u64 + rec.entry_size + m,
+            extra: tally.extra + model::ENTRY_MEMORY_USAGE + n as u64 + rec.entry_size + m,
             long: true,
         };
     }

@@ -73,10 +73,10 @@ fn visit_from(total: u64, found: listing_records::Found, len: u64, budget: u64) 
 {
     match found {
         listing_records::Found::Directory(_) => {
-            return added(total, 3 * len + 512, budget);
+            return added(total, 3 * len + model::REAL_DESCENDANT_MEMORY_USAGE, budget);
         }
         listing_records::Found::File(_, _) => {
-            return added(total, 2 * len + 512, budget);
+            return added(total, 2 * len + model::REAL_DESCENDANT_MEMORY_USAGE, budget);
         }
         listing_records::Found::Link => {
             return Walked::AtLink;

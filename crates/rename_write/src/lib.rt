@@ -43,7 +43,7 @@ fn put_deletion<'a>(
         (deletion (itemAt (now (own .entry)) (now (part .entry)) stream head)) ⌝ }
 {
     let key = rename_items::item_key(own, part, stream, head);
-    table_write::put_next(work, table, merge, key, 4, 0, 0, &key[..0])
+    table_write::put_next(work, table, merge, key, model::DELETED, 0, 0, &key[..0])
 }
 
 // A deleted entry at each key below the source that rename carries.
@@ -169,7 +169,16 @@ fn put_source(work: &mut [u8], table: &[u8], source: &[u8], merge: Merge) -> Mer
     requires { ⌜ Fits (now table) (now work) ((now source, deleted) ∷ []) merge ⌝ }
     ensures { λ r. ⌜ AllPut (now (table .entry)) (now (work .entry)) (now (work .exit)) ((now (source .entry), deleted) ∷ []) merge r ⌝ }
 {
-    table_write::put_next(work, table, merge, source, 4, 0, 0, &source[..0])
+    table_write::put_next(
+        work,
+        table,
+        merge,
+        source,
+        model::DELETED,
+        0,
+        0,
+        &source[..0],
+    )
 }
 
 // A deleted entry at each key below the source, if that is a directory.
@@ -311,14 +320,23 @@ fn put_listed(
                 table,
                 merge,
                 destination,
-                3,
+                model::DIRECTORY,
                 mtime,
                 0,
                 &source[..0],
             );
         }
         listing_records::Found::File(mtime, size) => {
-            return table_write::put_next(work, table, merge, destination, 2, mtime, size, source);
+            return table_write::put_next(
+                work,
+                table,
+                merge,
+                destination,
+                model::REFERENCE,
+                mtime,
+                size,
+                source,
+            );
         }
         listing_records::Found::Link => {
             return put_source(work, table, destination, merge);
@@ -523,7 +541,7 @@ fn put_ordered<'a>(
         return put_arrivals(work, table, rec, listing, source, destination, whole, merge);
     }
     if base_fields::is_before(source, destination) {
-        if base_paths::is_before_with(destination, source, 47) {
+        if base_paths::is_before_with(destination, source, b'/') {
             return put_destination_within(
                 work,
                 table,
@@ -537,7 +555,7 @@ fn put_ordered<'a>(
         }
         return put_source_first(work, table, rec, listing, source, destination, whole, merge);
     }
-    if base_paths::is_before_with(source, destination, 47) {
+    if base_paths::is_before_with(source, destination, b'/') {
         return put_source_within(work, table, rec, listing, source, destination, whole, merge);
     }
     put_destination_first(work, table, rec, listing, source, destination, whole, merge)

@@ -19,9 +19,7 @@ ghost use Rattle.run_calls.specs.Runs.{requestOf, requests, rowBytes, ra
 use model::Answer;
 use model::Answered;
 use model::Record;
-
-// The bytes of a row of the report.
-const ROW_SIZE: usize = 32;
+use run_script::ROW_SIZE;
 
 // What running a script gives: the record after its last call, or why it is not run.
 pub enum Ran {

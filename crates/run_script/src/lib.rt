@@ -15,6 +15,22 @@ pub const SCRIPT_HEAD: usize = 8;
 
 const STEP_HEAD: usize = 24;
 
+// The bytes of a report's row, which a run writes for each step.
+pub const ROW_SIZE: usize = 32;
+
+// The kinds of steps, and the number behind the last.
+const WRITE: u64 = 1;
+
+const MKDIR: u64 = 2;
+
+const UNLINK: u64 = 3;
+
+const RMDIR: u64 = 4;
+
+const RENAME: u64 = 5;
+
+const KIND_END: u64 = 6;
+
 fn wide(b: u8) -> u64
     ensures { λ r. ⌜ (r ≡ b) × (r < 256) ⌝ }
 {
@@ -25,10 +41,10 @@ fn wide(b: u8) -> u64
 fn is_ruled(kind: u64, flags: u64, second: u64, mtime: u64) -> bool
     ensures { λ r. ⌜ r ≡ ruled kind flags second mtime ⌝ }
 {
-    ((0 < kind) & (kind < 6))
-        & (((flags == 0) | ((kind == 2) & (flags < 4)))
-            & (((second == 0) | ((kind == 1) | (kind == 5)))
-                & ((mtime == 0) | ((kind == 1) | (kind == 2)))))
+    ((0 < kind) & (kind < KIND_END))
+        & (((flags == 0) | ((kind == MKDIR) & (flags < 4)))
+            & (((second == 0) | ((kind == WRITE) | (kind == RENAME)))
+                & ((mtime == 0) | ((kind == WRITE) | (kind == MKDIR)))))
 }
 
 // Whether the bytes begin with a mark and a count.
@@ -108,16 +124,16 @@ pub fn check(script: &[u8]) -> bool
 fn kind_of(kind: u64) -> Kind
     ensures { λ r. ⌜ r ≡ kindOf kind ⌝ }
 {
-    if kind == 1 {
+    if kind == WRITE {
         return Kind::Write;
     }
-    if kind == 2 {
+    if kind == MKDIR {
         return Kind::Mkdir;
     }
-    if kind == 3 {
+    if kind == UNLINK {
         return Kind::Unlink;
     }
-    if kind == 4 {
+    if kind == RMDIR {
         return Kind::Rmdir;
     }
     Kind::Rename
@@ -166,5 +182,5 @@ pub fn has_rows(script: &[u8], len: usize) -> bool
     ensures { λ r. ⌜ r ≡ leb (32 * stepCount (now (script .entry))) len ⌝ }
 {
     let count = base_fields::le32(script, 4);
-    32 * count <= len as u64
+    ROW_SIZE as u64 * count <= len as u64
 }

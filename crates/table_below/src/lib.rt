@@ -29,7 +29,7 @@ fn seek_with(table: &[u8], place: table_entries::Place, dir: &[u8], b: u8) -> ta
     let mut at = place.at;
     let mut left = place.left;
     while 0 < left {
-        let start = at + 24;
+        let start = at + model::ENTRY_HEAD;
         let to = start + base_fields::le16(table, at) as usize;
         let part = &table[start..to];
         if base_paths::is_before_with(part, dir, b) {
@@ -48,8 +48,8 @@ pub fn below(table: &[u8], rec: model::Record, dir: &[u8]) -> Part
     ensures { λ r. ⌜ PartOf (now (table .entry)) (tableIn (now (table .entry)) rec) (now (dir .entry)) (r .from) (r .to) (r .count) ⌝ }
 {
     let first = table_entries::first_entry(table, rec);
-    let start = seek_with(table, first, dir, 47);
-    let end = seek_with(table, start, dir, 48);
+    let start = seek_with(table, first, dir, b'/');
+    let end = seek_with(table, start, dir, b'0');
     Part {
         from: start.at,
         to: end.at,
@@ -68,7 +68,7 @@ fn is_visible_child(part: &[u8], place: table_entries::Place, dir: &[u8]) -> boo
     let kind = base_fields::le16(part, at + 2);
     let key = table_entries::entry_key(part, place);
     let child = base_paths::is_child(dir, key);
-    child & (kind != 4)
+    child & (kind != model::DELETED)
 }
 
 // Whether some entry of a part is a child of the directory and not deleted.
@@ -115,7 +115,7 @@ pub fn plan_sum(part: &[u8], count: u64, from: u64, to: u64) -> u64
         let n = base_fields::le16(part, at);
         let m = base_fields::le32(part, at + 4);
         sum += plan_of(n, from, to);
-        at = at + 24 + n as usize + m as usize;
+        at = at + model::ENTRY_HEAD + n as usize + m as usize;
         left -= 1;
     }
     sum

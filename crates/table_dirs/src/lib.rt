@@ -75,7 +75,16 @@ fn insert_all_unchecked(
     let mut i: usize = 0;
     while i < count {
         let end = ends[i];
-        merge = table_write::put_next(work, table, merge, &path[..end], 3, mtime, 0, &path[..0]);
+        merge = table_write::put_next(
+            work,
+            table,
+            merge,
+            &path[..end],
+            model::DIRECTORY,
+            mtime,
+            0,
+            &path[..0],
+        );
         i += 1;
     }
     let used = rec.used as usize;

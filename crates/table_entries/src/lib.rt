@@ -98,7 +98,7 @@ pub fn next_entry(table: &[u8], place: Place) -> Place
     let n = base_fields::le16(table, at) as usize;
     let m = base_fields::le32(table, at + 4) as usize;
     Place {
-        at: at + 24 + n + m,
+        at: at + model::ENTRY_HEAD + n + m,
         left: left - 1,
     }
 }
@@ -110,7 +110,7 @@ pub fn entry_key(table: &[u8], place: Place) -> &[u8]
     ensures { λ r. ⌜ now r ≡ keyAt (now (table .entry)) (place .at) ⌝ }
 {
     let at = place.at;
-    let start = at + 24;
+    let start = at + model::ENTRY_HEAD;
     let to = start + base_fields::le16(table, at) as usize;
     &table[start..to]
 }
@@ -121,7 +121,7 @@ pub fn entry_body(table: &[u8], place: Place) -> &[u8]
     ensures { λ r. ⌜ now r ≡ bodyOf (entryAt (now (table .entry)) (place .at)) ⌝ }
 {
     let at = place.at;
-    let key = at + 24;
+    let key = at + model::ENTRY_HEAD;
     let body = key + base_fields::le16(table, at) as usize;
     let to = body + base_fields::le32(table, at + 4) as usize;
     &table[body..to]
@@ -154,8 +154,8 @@ pub fn entry_at(table: &[u8], place: Place) -> OverlayEntry
     let n = base_fields::le16(table, at);
     let kind = base_fields::le16(table, at + 2);
     let len = base_fields::le32(table, at + 4);
-    let body = at as u64 + 24 + n;
-    if kind == 1 {
+    let body = at as u64 + model::ENTRY_HEAD as u64 + n;
+    if kind == model::OWN_FILE {
         let mtime = mtime_at(table, at);
         return OverlayEntry::File {
             mtime: mtime,
@@ -163,7 +163,7 @@ pub fn entry_at(table: &[u8], place: Place) -> OverlayEntry
             len: len,
         };
     }
-    if kind == 2 {
+    if kind == model::REFERENCE {
         let mtime = mtime_at(table, at);
         let size = base_fields::le64(table, at + 16);
         return OverlayEntry::RealFileRef {
@@ -173,7 +173,7 @@ pub fn entry_at(table: &[u8], place: Place) -> OverlayEntry
             len: len,
         };
     }
-    if kind == 3 {
+    if kind == model::DIRECTORY {
         let mtime = mtime_at(table, at);
         return OverlayEntry::Directory { mtime: mtime };
     }
@@ -188,7 +188,7 @@ pub fn seek(table: &[u8], place: Place, key: &[u8]) -> Place
     let mut at = place.at;
     let mut left = place.left;
     while 0 < left {
-        let start = at + 24;
+        let start = at + model::ENTRY_HEAD;
         let to = start + base_fields::le16(table, at) as usize;
         let part = &table[start..to];
         if base_fields::is_before(part, key) {

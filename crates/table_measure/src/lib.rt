@@ -55,7 +55,7 @@ fn with_entry(rec: model::Record, n: u64, m: u64) -> model::Record
 {
     let e = rec.entry_size;
     model::Record {
-        used: rec.used + 24 + n + m,
+        used: rec.used + model::ENTRY_HEAD as u64 + n + m,
         count: rec.count + 1,
         charge: rec.charge + model::ENTRY_MEMORY_USAGE + n + e + m,
         entry_size: e,

@@ -18,7 +18,7 @@ fn without(rec: model::Record, bytes: u64) -> model::Record
         return rec;
     }
     let e = rec.entry_size;
-    let cost = model::ENTRY_MEMORY_USAGE - 24 + e + bytes;
+    let cost = model::ENTRY_MEMORY_USAGE - model::ENTRY_HEAD as u64 + e + bytes;
     model::Record {
         used: rec.used - bytes,
         count: rec.count - 1,

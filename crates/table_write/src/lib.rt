@@ -58,8 +58,8 @@ pub fn put_entry(
     let n = key.len();
     put_sizes(work, at, n as u64, kind, body.len() as u64);
     put_times(work, at + 8, mtime, size);
-    base_fields::copy_in(work, at + 24, key);
-    base_fields::copy_in(work, at + 24 + n, body);
+    base_fields::copy_in(work, at + model::ENTRY_HEAD, key);
+    base_fields::copy_in(work, at + model::ENTRY_HEAD + n, body);
 }
 
 // What stays up to this key, then the entry; the old entry with this key, if any, is passed over.
@@ -97,7 +97,7 @@ pub fn put_next(
     Merge {
         at: next.at,
         left: next.left,
-        out: here + 24 + key.len() + body.len(),
+        out: here + model::ENTRY_HEAD + key.len() + body.len(),
     }
 }
 

@@ -1,6 +1,6 @@
 -- `is_before_with` meets its contract: the bytes in common, and what stands behind them, decide.
 use borrow.Author.Needs.{needs}
-use Rattle.base_paths.proofs.Relations.{with-over, with-apart, with-next}
+use Rattle.base_paths.proofs.Related.{with-over, with-apart, with-next}
 use Rattle.base_paths.proofs.relations.is_before_with.Statement.{statement}
 use Rattle.base_paths.proofs.relations.is_before_with.Tie as tie
 

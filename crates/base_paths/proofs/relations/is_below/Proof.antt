@@ -1,7 +1,7 @@
 -- `is_below` meets its contract: the directory's bytes are all in common, and a slash follows.
 use native.Mathlib.Omega.{arith}
 use borrow.Author.Needs.{needs}
-use Rattle.base_paths.proofs.Relations.{below-apart, below-over, below-next}
+use Rattle.base_paths.proofs.Related.{below-apart, below-over, below-next}
 use Rattle.base_paths.proofs.relations.is_below.Statement.{statement}
 use Rattle.base_paths.proofs.relations.is_below.Tie as tie
 

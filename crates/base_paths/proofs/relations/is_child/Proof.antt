@@ -5,7 +5,7 @@ use native.Mathlib.Omega.{arith}
 use borrow.Author.Needs.{needs}
 use lib.ListN.{length, drop}
 use Rattle.model.specs.Path.{slashless, child}
-use Rattle.base_paths.proofs.Relations.{child-apart, child-over, child-other, child-slash, slash-here, slash-on, slash-none}
+use Rattle.base_paths.proofs.Related.{child-apart, child-over, child-other, child-slash, slash-here, slash-on, slash-none}
 use Rattle.base_paths.proofs.relations.is_child.Statement.{statement}
 use Rattle.base_paths.proofs.relations.is_child.Tie as tie
 

@@ -2,17 +2,17 @@
 use mathlib.Core.Path.{refl}
 use borrow.Author.Needs.{needs}
 use Rattle.base_paths.proofs.Parents.{Back, back-start, back-found, back-on, back-end}
-use Rattle.base_paths.proofs.ancestors.parent_end.Statement.{statement}
-use Rattle.base_paths.proofs.ancestors.parent_end.Tie as tie
+use Rattle.base_paths.proofs.prefixes.parent_end.Statement.{statement}
+use Rattle.base_paths.proofs.prefixes.parent_end.Tie as tie
 
 abbrev Inv-loop : tie.InvT-loop
-Inv-loop path from i₀ i = Back path from i
+Inv-loop path from end₀ end = Back path from end
 
 abbrev μ-loop : tie.MeasureT-loop
-μ-loop path from i₀ i = i
+μ-loop path from end₀ end = end
 
-sub-i : tie.Need-sub-i Inv-loop μ-loop
-sub-i c = search needs
+sub-end : tie.Need-sub-end Inv-loop μ-loop
+sub-end c = search needs
 
 loop-holds : tie.Need-loop-holds Inv-loop μ-loop
 loop-holds c = back-start _ _ _ (search needs) refl
@@ -23,8 +23,8 @@ shared-slice-read-if1 c = c .before .before .loop .inv .high
 returns : tie.Need-returns Inv-loop μ-loop
 returns c = back-found _ _ _ (c .before .before .before .loop .inv) (c .if1 .taken)
 
-sub-i-2 : tie.Need-sub-i-2 Inv-loop μ-loop
-sub-i-2 c = search needs
+sub-end-2 : tie.Need-sub-end-2 Inv-loop μ-loop
+sub-end-2 c = search needs
 
 loop-less : tie.Need-loop-less Inv-loop μ-loop
 loop-less c = search needs
@@ -41,11 +41,11 @@ parent-end-spec =
     (tie.spec
     Inv-loop
     μ-loop
-    sub-i
+    sub-end
     loop-holds
     shared-slice-read-if1
     returns
-    sub-i-2
+    sub-end-2
     loop-less
     loop-again
     returns-2)

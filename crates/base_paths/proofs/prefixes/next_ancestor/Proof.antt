@@ -6,8 +6,8 @@ use lib.ListN.{length}
 use borrow.Author.Needs.{needs}
 use Rattle.base_paths.specs.Ancestors.{nextSlash}
 use Rattle.base_paths.proofs.Ancestors.{next-here, next-past, next-over}
-use Rattle.base_paths.proofs.ancestors.next_ancestor.Statement.{statement}
-use Rattle.base_paths.proofs.ancestors.next_ancestor.Tie as tie
+use Rattle.base_paths.proofs.prefixes.next_ancestor.Statement.{statement}
+use Rattle.base_paths.proofs.prefixes.next_ancestor.Tie as tie
 
 abbrev Inv-loop : tie.InvT-loop
 Inv-loop path from i₀ i = (from ≤ i) × (i ≤ length path) × (nextSlash path i ≡ nextSlash path from)

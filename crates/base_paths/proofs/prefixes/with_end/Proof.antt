@@ -2,8 +2,8 @@
 use mathlib.Core.Path.{refl}
 use borrow.Author.Needs.{needs}
 use Rattle.base_paths.proofs.Ends.{take-set}
-use Rattle.base_paths.proofs.ancestors.with_end.Statement.{statement}
-use Rattle.base_paths.proofs.ancestors.with_end.Tie as tie
+use Rattle.base_paths.proofs.prefixes.with_end.Statement.{statement}
+use Rattle.base_paths.proofs.prefixes.with_end.Tie as tie
 
 mul-ends : tie.Need-mul-ends
 mul-ends c = search needs

@@ -6,9 +6,9 @@ ghost use lib.ListN.{length};
 ghost use Rattle.base_paths.specs.Ancestors.{nextSlash, Parted};
 ghost use Rattle.base_paths.specs.Dirs.{endsOf};
 
-// Directories to make, by where each ends in the path: the first `count` of `ends`, from the top. A path has at most 32 components.
+// Some of the directories on the way to a path, by where each ends in it: the first `count` of `ends`, from the top.
 pub struct Dirs {
-    pub ends: [usize; 32],
+    pub ends: [usize; model::DEPTH_MAX],
     pub count: usize,
 }
 
@@ -48,12 +48,12 @@ pub fn parent_end(path: &[u8], from: usize) -> usize
     requires { ⌜ from < length (now path) ⌝ }
     ensures { λ r. ⌜ Parted (now (path .entry)) from r ⌝ }
 {
-    let mut i = path.len() - 1;
-    while from < i {
-        if path[i] == b'/' {
-            return i;
+    let mut end = path.len() - 1;
+    while from < end {
+        if path[end] == b'/' {
+            return end;
         }
-        i -= 1;
+        end -= 1;
     }
-    i
+    end
 }
