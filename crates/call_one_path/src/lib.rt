@@ -16,7 +16,10 @@ ghost use Rattle.call_answer.specs.Meets.{requested, stored, Meets};
 use check_judged::Judged;
 use model::Answer;
 use model::Answered;
+use model::DELETED;
+use model::OWN_FILE;
 use model::Record;
+use table_insert::insert;
 
 // 1 to 8 for write.
 fn judge_write(listing: &[u8], table: &[u8], rec: Record, room: usize, path: &[u8]) -> Judged
@@ -54,17 +57,7 @@ pub fn write_bytes(
             };
         }
         Judged::Pass => {
-            let inserted = table_insert::insert(
-                table,
-                work,
-                rec,
-                path,
-                model::OWN_FILE,
-                mtime,
-                0,
-                data,
-                limit,
-            );
+            let inserted = insert(table, work, rec, path, OWN_FILE, mtime, 0, data, limit);
             return call_answer::answered(inserted, rec, data.len() as u64);
         }
     }
@@ -105,17 +98,7 @@ pub fn unlink(
         }
         Judged::Pass => {
             let none = &path[..0];
-            let inserted = table_insert::insert(
-                table,
-                work,
-                rec,
-                path,
-                model::DELETED,
-                0,
-                0,
-                none,
-                limit,
-            );
+            let inserted = insert(table, work, rec, path, DELETED, 0, 0, none, limit);
             return call_answer::answered(inserted, rec, 0);
         }
     }
@@ -156,17 +139,7 @@ pub fn rmdir(
         }
         Judged::Pass => {
             let empty = &path[..0];
-            let inserted = table_insert::insert(
-                table,
-                work,
-                rec,
-                path,
-                model::DELETED,
-                0,
-                0,
-                empty,
-                limit,
-            );
+            let inserted = insert(table, work, rec, path, DELETED, 0, 0, empty, limit);
             return call_answer::answered(inserted, rec, 0);
         }
     }

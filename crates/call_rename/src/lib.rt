@@ -111,7 +111,7 @@ pub fn rename(
         Judged::Pass => {
             let visible = view_at::visible_at(listing, table, rec, source);
             let whole = view_at::is_directory(visible);
-            let settled = rename_settle::measure(
+            let settled = rename_settle::last_checks(
                 listing,
                 table,
                 rec,

@@ -28,6 +28,6 @@ seekFrom s p zero at = record { at = at; left = 0 }
 seekFrom s p (suc n) at = cond (before (recordAt s at .path) p) (seekFrom s p n (recordEnd s at)) (record { at = at; left = suc n })
 
 -- the node of the first of them, if that has the path p
-abbrev pub firstAt : Bytes → Path → ℕ → ℕ → Option Node
-firstAt s p zero at = none
-firstAt s p (suc n) at = cond (same (recordAt s at .path) p) (some (nodeOf (recordAt s at))) none
+abbrev pub nodeIf : Bytes → Path → ℕ → ℕ → Option Node
+nodeIf s p zero at = none
+nodeIf s p (suc n) at = cond (same (recordAt s at .path) p) (some (nodeOf (recordAt s at))) none

@@ -11,7 +11,7 @@ ghost use Rattle.model.specs.Map.{lookup};
 ghost use Rattle.model.specs.Tree.{kind, isDirectory};
 ghost use Rattle.model.specs.Listing.{recordAt, recordEnd, recordCount, nodeOf, treeIn, isListing};
 ghost use Rattle.listing_records.specs.Found.{foundOf, foundKind, targetKind};
-ghost use Rattle.listing_records.specs.Place.{Standing, seekFrom, firstAt};
+ghost use Rattle.listing_records.specs.Place.{Standing, seekFrom, nodeIf};
 ghost use Rattle.listing_records.specs.Parts.{PartOf};
 ghost use Rattle.listing_records.specs.Walk.{Walks};
 
@@ -118,7 +118,7 @@ pub fn node_at(listing: &[u8], at: usize) -> Found
 // The node of the first of the `left` records from `at` on, if that has this path.
 fn found_at(listing: &[u8], path: &[u8], at: usize, left: u64) -> Found
     requires { ⌜ Standing (now listing) left at ⌝ }
-    ensures { λ r. ⌜ r ≡ foundOf (firstAt (now (listing .entry)) (now (path .entry)) left at) ⌝ }
+    ensures { λ r. ⌜ r ≡ foundOf (nodeIf (now (listing .entry)) (now (path .entry)) left at) ⌝ }
 {
     if left == 0 {
         return Found::Absent;

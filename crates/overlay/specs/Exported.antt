@@ -16,20 +16,20 @@ abbrev pub isFour : List ℕ → Bool
 isFour s = eqb (length s) 4
 
 -- the answer, and the record, the table and the work buffer after it
-pub record Left : Type 0 where
+pub record CallLeft : Type 0 where
   pub answer : ℕ
   pub rec : List ℕ
   pub table : Bytes
   pub work : Bytes
 
-abbrev pub left : ℕ → List ℕ → Bytes → Bytes → Left
+abbrev pub left : ℕ → List ℕ → Bytes → Bytes → CallLeft
 left a n t w = record { answer = a; rec = n; table = t; work = w }
 
-abbrev pub leaves : Outcome → Left
+abbrev pub leaves : Outcome → CallLeft
 leaves o = left (packed (o .reply)) (numbers (o .store .rec)) (o .store .table) (o .work)
 
 -- a changing call on the table t with the record n
-unfoldable pub called : Bytes → Request → Bytes → List ℕ → Left
+unfoldable pub called : Bytes → Request → Bytes → List ℕ → CallLeft
 called listing q t n = cond (isFour n) (leaves (outcome listing q (stored t (recordIn n)))) (left (packed (refused 1 0 0)) n t (q .work))
 
 -- a query, and opening

@@ -30,7 +30,7 @@ pub extern "C" fn overlay_open_table(table: &mut [u8], rec: &mut [u64], entry_si
         return MALFORMED;
     }
     let answered = table_open::open(table, entry_size);
-    overlay_packed::settle(rec, answered)
+    overlay_packed::store_and_pack(rec, answered)
 }
 
 // Whether bytes are a listing; whether bytes and a record are a table.
@@ -115,7 +115,7 @@ pub extern "C" fn overlay_write_bytes(
         data,
         limit,
     );
-    overlay_packed::settle(rec, answered)
+    overlay_packed::store_and_pack(rec, answered)
 }
 
 // A directory with these mtime bits at the path; with the flag parents, at its missing ancestors too.
@@ -149,7 +149,7 @@ pub extern "C" fn overlay_mkdir(
         mtime,
         limit,
     );
-    overlay_packed::settle(rec, answered)
+    overlay_packed::store_and_pack(rec, answered)
 }
 
 // The path shows nothing from now on.
@@ -170,7 +170,7 @@ pub extern "C" fn overlay_unlink(
     }
     let before = overlay_packed::record_in(&*rec);
     let answered = call_one_path::unlink(listing, table, before, work, path, limit);
-    overlay_packed::settle(rec, answered)
+    overlay_packed::store_and_pack(rec, answered)
 }
 
 // The same for an empty directory.
@@ -191,7 +191,7 @@ pub extern "C" fn overlay_rmdir(
     }
     let before = overlay_packed::record_in(&*rec);
     let answered = call_one_path::rmdir(listing, table, before, work, path, limit);
-    overlay_packed::settle(rec, answered)
+    overlay_packed::store_and_pack(rec, answered)
 }
 
 // What is visible at the source, and below it, moves to the destination.
@@ -214,5 +214,5 @@ pub extern "C" fn overlay_rename(
     }
     let before = overlay_packed::record_in(&*rec);
     let answered = call_rename::rename(listing, table, before, work, source, destination, limit);
-    overlay_packed::settle(rec, answered)
+    overlay_packed::store_and_pack(rec, answered)
 }

@@ -78,7 +78,7 @@ fn is_accepted(answer: Answer) -> bool
 }
 
 // The answer in one number. The record is stored where the call is accepted, and nowhere else.
-pub fn settle(rec: &mut [u64], answered: Answered) -> u64
+pub fn store_and_pack(rec: &mut [u64], answered: Answered) -> u64
     requires { ⌜ length (now rec) ≡ 4 ⌝ }
     requires { ⌜ Fits (told (answered .answer)) ⌝ }
     ensures { λ r. ⌜ r ≡ packed (told (answered .answer)) ⌝ }

@@ -122,7 +122,7 @@ pub fn sum_reached(listing: &[u8], table: &[u8], rec: Record, source: &[u8]) -> 
     sum_uncovered(&mut flags, part, listed.count, table, rec, source)
 }
 
-// The walk by its sums. Where a link is reached it ends there, if nothing that it adds takes it above the budget. Where none is, it comes to the whole
+// The walk by its sums. The Rust's function of this name collects what the walk finds; here nothing is collected, and the sum decides. Where a link is reached it ends there, if nothing that it adds takes it above the budget. Where none is, it comes to the whole
 // sum, or goes above the budget with its last addition at the latest.
 pub fn collect_real_descendants(
     listing: &[u8],

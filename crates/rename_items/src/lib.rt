@@ -12,6 +12,9 @@ ghost use Rattle.listing_records.specs.Found.{foundOf, foundKind};
 ghost use Rattle.listing_records.specs.Place as listing;
 ghost use Rattle.table_entries.specs.Place.{Standing};
 ghost use Rattle.rename_carried.specs.Streams.{Next, itemAt, remaining};
+use model::DELETED;
+use model::DIRECTORY;
+use model::REFERENCE;
 use rename_carried::Head;
 use rename_carried::Stream;
 use table_entries::Fields;
@@ -36,28 +39,28 @@ fn listed_fields(found: listing_records::Found) -> Fields
     match found {
         listing_records::Found::Directory(mtime) => {
             return Fields {
-                kind: model::DIRECTORY,
+                kind: DIRECTORY,
                 mtime: mtime,
                 size: 0,
             };
         }
         listing_records::Found::File(mtime, size) => {
             return Fields {
-                kind: model::REFERENCE,
+                kind: REFERENCE,
                 mtime: mtime,
                 size: size,
             };
         }
         listing_records::Found::Link => {
             return Fields {
-                kind: model::DELETED,
+                kind: DELETED,
                 mtime: 0,
                 size: 0,
             };
         }
         listing_records::Found::Absent => {
             return Fields {
-                kind: model::DELETED,
+                kind: DELETED,
                 mtime: 0,
                 size: 0,
             };
@@ -114,7 +117,7 @@ pub fn item_fields(own: &[u8], part: &[u8], stream: Stream, head: Head) -> Field
         }
         Head::End => {
             return Fields {
-                kind: model::DELETED,
+                kind: DELETED,
                 mtime: 0,
                 size: 0,
             };

@@ -50,17 +50,17 @@ pub record Source (t : Table) (l : Tree) (a : Path) (whole : Bool) : Type 0 wher
   pub top : lookup (puts t (mapped asEntry (only (uncovered t a) l))) a ≡ some entry
   pub is : kind (shown t l) a ≡ cond whole aDirectory aFile
 
--- the record before, with what `gone` and `m` each add to it
+-- the record before, with what `deletions` and `moves` each add to it
 abbrev pub combined : Record → Record → Moves → Projected
-combined r gone m = record {
+combined r deletions moves = record {
   rec = record {
-    used = gone .used + m .rec .used - r .used;
-    count = gone .count + m .rec .count - r .count;
-    charge = gone .charge + m .rec .charge - r .charge;
+    used = deletions .used + moves .rec .used - r .used;
+    count = deletions .count + moves .rec .count - r .count;
+    charge = deletions .charge + moves .rec .charge - r .charge;
     «entry_size» = r .«entry_size»;
   };
-  charge = gone .charge + m .rec .charge - r .charge + m .extra;
-  long = m .long;
+  charge = deletions .charge + moves .rec .charge - r .charge + moves .extra;
+  long = moves .long;
 }
 
 -- r tells the charge that rename leaves, whether a moved key is too long, and, if none is, the record

@@ -232,7 +232,7 @@ pub fn measure_moves<'a>(
 }
 
 // The source and all that is carried from below it deleted.
-fn gone_below<'a>(
+fn deletions_below<'a>(
     listing: &'a [u8],
     table: &'a [u8],
     rec: model::Record,
@@ -308,7 +308,7 @@ fn moves_below<'a>(
 }
 
 // What is carried deleted: a file alone, a directory with all below it.
-fn gone<'a>(
+fn all_deletions<'a>(
     listing: &'a [u8],
     table: &'a [u8],
     rec: model::Record,
@@ -325,7 +325,7 @@ fn gone<'a>(
     ensures { λ r. ⌜ Small r ⌝ }
 {
     if whole {
-        return gone_below(listing, table, rec, source);
+        return deletions_below(listing, table, rec, source);
     }
     table_insert::projected_record(table, rec, source, 0)
 }
@@ -348,7 +348,7 @@ fn one_move(table: &[u8], rec: model::Record, destination: &[u8], m: u64) -> Mov
 }
 
 // What is carried moved.
-fn come<'a>(
+fn all_moves<'a>(
     listing: &'a [u8],
     table: &'a [u8],
     rec: model::Record,
@@ -374,17 +374,17 @@ fn come<'a>(
 }
 
 // Deletions and moves together, since they have no key in common.
-fn together(rec: model::Record, gone: model::Record, moves: Moves) -> Projected
-    requires { ⌜ Small gone × Small (moves .rec) × (moves .extra ≤ 0x4000_0000_0000_0000) ⌝ }
-    requires { ⌜ (rec .used ≤ gone .used + moves .rec .used) × (rec .count ≤ gone .count + moves .rec .count)
-        × (rec .charge ≤ gone .charge + moves .rec .charge) ⌝ }
-    ensures { λ r. ⌜ r ≡ combined rec gone moves ⌝ }
+fn together(rec: model::Record, deletions: model::Record, moves: Moves) -> Projected
+    requires { ⌜ Small deletions × Small (moves .rec) × (moves .extra ≤ 0x4000_0000_0000_0000) ⌝ }
+    requires { ⌜ (rec .used ≤ deletions .used + moves .rec .used) × (rec .count ≤ deletions .count + moves .rec .count)
+        × (rec .charge ≤ deletions .charge + moves .rec .charge) ⌝ }
+    ensures { λ r. ⌜ r ≡ combined rec deletions moves ⌝ }
 {
     let after = moves.rec;
-    let charge = gone.charge + after.charge - rec.charge;
+    let charge = deletions.charge + after.charge - rec.charge;
     let sums = model::Record {
-        used: gone.used + after.used - rec.used,
-        count: gone.count + after.count - rec.count,
+        used: deletions.used + after.used - rec.used,
+        count: deletions.count + after.count - rec.count,
         charge: charge,
         entry_size: rec.entry_size,
     };
@@ -416,7 +416,7 @@ pub fn projected_move<'a>(
     ensures { λ r. ⌜ Foretold (rec .«entry_size») (tableIn (now (table .entry)) rec) (treeIn (now (listing .entry))) (now (source .entry))
         (now (destination .entry)) r ⌝ }
 {
-    let moves = come(listing, table, rec, source, destination, whole, first_len);
+    let moves = all_moves(listing, table, rec, source, destination, whole, first_len);
     let after = moves.rec;
     if base_fields::is_same(source, destination) {
         return Projected {
@@ -425,6 +425,6 @@ pub fn projected_move<'a>(
             long: moves.long,
         };
     }
-    let deletions = gone(listing, table, rec, source, whole);
+    let deletions = all_deletions(listing, table, rec, source, whole);
     together(rec, deletions, moves)
 }

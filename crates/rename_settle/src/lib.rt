@@ -67,7 +67,7 @@ fn first_len(listing: &[u8], table: &[u8], rec: Record, source: &[u8]) -> u64
 }
 
 // 11, 12 and 13, for a table of `room` bytes.
-fn settle(projected: Projected, limit: u64, room: u64) -> Settled
+fn settled_by(projected: Projected, limit: u64, room: u64) -> Settled
     ensures { λ r. ⌜ r ≡ settledOf projected limit room ⌝ }
 {
     let after = projected.rec;
@@ -85,7 +85,7 @@ fn settle(projected: Projected, limit: u64, room: u64) -> Settled
 }
 
 // What the call is refused with by 11, 12 and 13, or the record that it leaves, once all checks before these passed.
-pub fn measure<'a>(
+pub fn last_checks<'a>(
     listing: &'a [u8],
     table: &'a [u8],
     rec: Record,
@@ -114,5 +114,5 @@ pub fn measure<'a>(
         whole,
         len,
     );
-    settle(projected, limit, table.len() as u64)
+    settled_by(projected, limit, table.len() as u64)
 }

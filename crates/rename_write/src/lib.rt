@@ -20,6 +20,9 @@ ghost use Rattle.rename_uncovered.specs.Ahead.{PartBelow};
 ghost use Rattle.rename_carried.specs.Streams.{remaining, Next, itemAt};
 ghost use Rattle.rename_write.specs.Stretch.{deletion, move, movable, turned, Movables, Room, Put, Puttable, PutAll};
 ghost use Rattle.rename_write.specs.Sequence.{Fits, AllPut, lower, topOf, top, departures, arrivals, ordered};
+use model::DELETED;
+use model::DIRECTORY;
+use model::REFERENCE;
 use rename_carried::Head;
 use rename_carried::Stream;
 use table_write::Merge;
@@ -43,7 +46,7 @@ fn put_deletion<'a>(
         (deletion (itemAt (now (own .entry)) (now (part .entry)) stream head)) ⌝ }
 {
     let key = rename_items::item_key(own, part, stream, head);
-    table_write::put_next(work, table, merge, key, model::DELETED, 0, 0, &key[..0])
+    table_write::put_next(work, table, merge, key, DELETED, 0, 0, &key[..0])
 }
 
 // A deleted entry at each key below the source that rename carries.
@@ -165,20 +168,11 @@ pub fn put_moves<'a>(
 }
 
 // A deleted entry at the source itself.
-fn put_source(work: &mut [u8], table: &[u8], source: &[u8], merge: Merge) -> Merge
+fn put_source_deletion(work: &mut [u8], table: &[u8], source: &[u8], merge: Merge) -> Merge
     requires { ⌜ Fits (now table) (now work) ((now source, deleted) ∷ []) merge ⌝ }
     ensures { λ r. ⌜ AllPut (now (table .entry)) (now (work .entry)) (now (work .exit)) ((now (source .entry), deleted) ∷ []) merge r ⌝ }
 {
-    table_write::put_next(
-        work,
-        table,
-        merge,
-        source,
-        model::DELETED,
-        0,
-        0,
-        &source[..0],
-    )
+    table_write::put_next(work, table, merge, source, DELETED, 0, 0, &source[..0])
 }
 
 // A deleted entry at each key below the source, if that is a directory.
@@ -320,7 +314,7 @@ fn put_listed(
                 table,
                 merge,
                 destination,
-                model::DIRECTORY,
+                DIRECTORY,
                 mtime,
                 0,
                 &source[..0],
@@ -332,17 +326,17 @@ fn put_listed(
                 table,
                 merge,
                 destination,
-                model::REFERENCE,
+                REFERENCE,
                 mtime,
                 size,
                 source,
             );
         }
         listing_records::Found::Link => {
-            return put_source(work, table, destination, merge);
+            return put_source_deletion(work, table, destination, merge);
         }
         listing_records::Found::Absent => {
-            return put_source(work, table, destination, merge);
+            return put_source_deletion(work, table, destination, merge);
         }
     }
 }
@@ -389,7 +383,7 @@ fn put_departures<'a>(
     ensures { λ r. ⌜ AllPut (now (table .entry)) (now (work .entry)) (now (work .exit)) (departures whole (tableIn (now (table .entry)) rec) (treeIn
         (now (listing .entry))) (now (source .entry))) merge r ⌝ }
 {
-    let next = put_source(work, table, source, merge);
+    let next = put_source_deletion(work, table, source, merge);
     put_lower_deletions(work, table, rec, listing, source, whole, next)
 }
 
@@ -484,7 +478,7 @@ fn put_destination_within<'a>(
         (now (table .entry)) rec) (treeIn (now (listing .entry))) (now (source .entry)) (now (destination .entry)) ++ turned deletion (lower whole
         (tableIn (now (table .entry)) rec) (treeIn (now (listing .entry))) (now (source .entry))))) merge r ⌝ }
 {
-    let first = put_source(work, table, source, merge);
+    let first = put_source_deletion(work, table, source, merge);
     let next = put_arrivals(work, table, rec, listing, source, destination, whole, first);
     put_lower_deletions(work, table, rec, listing, source, whole, next)
 }

@@ -25,7 +25,7 @@ use Rattle.call_answer.specs.Meets.{stored}
 use Rattle.call_values.specs.declared.Kind.{Kind}
 use Rattle.call_values.specs.declared.Kind.the-variants.{Write, Mkdir, Unlink, Rmdir, Rename}
 use Rattle.call_values.specs.Values.{callBy}
-use Rattle.run_script.specs.Script.{Step, firstAt, secondAt, stepEnd, kindOf, kindAt, orderAt, stepAt, stepsFrom, stepCount, stepsIn}
+use Rattle.run_script.specs.Script.{Step, firstPart, secondPart, stepEnd, stepKind, kindAt, orderAt, stepAt, stepsFrom, stepCount, stepsIn}
 use Rattle.run_calls.specs.Runs.{requestOf, requests, leftAfter, Result, ranOn, asNew, ifOpened, ranNew, Gives, Holds}
 use Rattle.run_calls.specs.declared.Ran.{Ran}
 use Rattle.run_calls.specs.declared.RanNew.{RanNew}
@@ -43,9 +43,9 @@ ran-after listing (x ∷ xs) s work p =
 
 module _ (script : Bytes) (b : IsBytes script) where
   worded : (at : ℕ) → WordedCall (stepAt script at .call)
-  worded at = go (kindOf (kindAt script at))
+  worded at = go (stepKind (kindAt script at))
     where
-      go : (k : Kind) → WordedCall (callBy k (orderAt script at) (firstAt script at) (secondAt script at))
+      go : (k : Kind) → WordedCall (callBy k (orderAt script at) (firstPart script at) (secondPart script at))
       go Write = number-below 8 (drop (at + 8) script) (bytes-drop (at + 8) script b)
       go Mkdir = number-below 8 (drop (at + 8) script) (bytes-drop (at + 8) script b)
       go Unlink = tt

@@ -35,12 +35,12 @@ pub record Told : Type 0 where
   pub charge : ℕ
 
 -- the store and the work buffer that a list of steps leaves, and what each of its calls answered
-pub record Left : Type 0 where
+pub record RunLeft : Type 0 where
   pub store : Store
   pub work : Bytes
   pub told : List Told
 
-abbrev pub leftAfter : Bytes → List Step → Store → Bytes → Left
+abbrev pub leftAfter : Bytes → List Step → Store → Bytes → RunLeft
 leftAfter listing [] s work = record { store = s; work = work; told = [] }
 leftAfter listing (x ∷ xs) s work =
     let o = outcome listing (requestOf x work) s in
@@ -63,7 +63,7 @@ pub record Result (A : Type 0) : Type 0 where
   pub report : Bytes
 
 -- a report has the rows, then the bytes that stood there
-abbrev pub done : Left → Bytes → Result Ran
+abbrev pub done : RunLeft → Bytes → Result Ran
 done l report = record {
   answer = ran.Done (l .store .rec);
   table = l .store .table;
@@ -113,7 +113,7 @@ pub record Holds (listing : Bytes) (x : State) (calls : List Request) (s : Store
   pub leaves : after listing calls x .store ≡ s
 
 -- steps that are made: the table with its record, the work buffer, and their rows, from the report's start on
-pub record Finished (x : Left) (report : Bytes) (r : Record) (table′ work′ report′ : Bytes) : Type 0 where
+pub record Finished (x : RunLeft) (report : Bytes) (r : Record) (table′ work′ report′ : Bytes) : Type 0 where
   pub store : stored table′ r ≡ x .store
   pub buffer : work′ ≡ x .work
   pub rows-in : report′ ≡ overwritten report 0 (rows (x .told))

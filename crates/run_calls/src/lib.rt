@@ -69,8 +69,8 @@ fn run_step(
         (stored (now (table .entry)) rec)) r (now (table .exit)) (now (work .exit)) ⌝ }
 {
     let order = run_script::order_at(script, at);
-    let first = run_script::first_at(script, at);
-    let second = run_script::second_at(script, at);
+    let first = run_script::first_part(script, at);
+    let second = run_script::second_part(script, at);
     call_order::make(listing, table, rec, work, first, second, order)
 }
 

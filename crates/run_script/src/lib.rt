@@ -6,7 +6,7 @@ ghost use mathlib.Core.Bool.{_&&_};
 ghost use Prim.Native.Nat.{_+_, _*_, _≤_, _<_};
 ghost use lib.Dec.{leb};
 ghost use lib.ListN.{length};
-ghost use Rattle.run_script.specs.Script.{ruled, fits, headed, marked, firstAt, secondAt, stepEnd, orderAt, stepCount, isScript, kindOf};
+ghost use Rattle.run_script.specs.Script.{ruled, fits, headed, marked, firstPart, secondPart, stepEnd, orderAt, stepCount, isScript, stepKind};
 use call_values::Kind;
 use call_values::Order;
 
@@ -122,7 +122,7 @@ pub fn check(script: &[u8]) -> bool
 }
 
 fn kind_of(kind: u64) -> Kind
-    ensures { λ r. ⌜ r ≡ kindOf kind ⌝ }
+    ensures { λ r. ⌜ r ≡ stepKind kind ⌝ }
 {
     if kind == WRITE {
         return Kind::Write;
@@ -158,18 +158,18 @@ pub fn order_at(script: &[u8], at: usize) -> Order
 }
 
 // The step's first part; then its second.
-pub fn first_at(script: &[u8], at: usize) -> &[u8]
+pub fn first_part(script: &[u8], at: usize) -> &[u8]
     requires { ⌜ (at + 24 ≤ length (now script)) × (stepEnd (now script) at ≤ length (now script)) ⌝ }
-    ensures { λ r. ⌜ now r ≡ firstAt (now (script .entry)) at ⌝ }
+    ensures { λ r. ⌜ now r ≡ firstPart (now (script .entry)) at ⌝ }
 {
     let from = at + STEP_HEAD;
     let to = from + base_fields::le16(script, at + 2) as usize;
     &script[from..to]
 }
 
-pub fn second_at(script: &[u8], at: usize) -> &[u8]
+pub fn second_part(script: &[u8], at: usize) -> &[u8]
     requires { ⌜ (at + 24 ≤ length (now script)) × (stepEnd (now script) at ≤ length (now script)) ⌝ }
-    ensures { λ r. ⌜ now r ≡ secondAt (now (script .entry)) at ⌝ }
+    ensures { λ r. ⌜ now r ≡ secondPart (now (script .entry)) at ⌝ }
 {
     let from = at + STEP_HEAD + base_fields::le16(script, at + 2) as usize;
     let to = end_of(script, at);

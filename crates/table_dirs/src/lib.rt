@@ -11,8 +11,9 @@ ghost use Rattle.model.specs.Tree.{directory};
 ghost use Rattle.model.specs.Table.{encode, padded, recordOf, tableIn, isTable};
 ghost use Rattle.base_paths.specs.Dirs.{endsOf, climbs, prefixes};
 ghost use Rattle.table_insert.specs.Insert.{insertion, ifDone};
+use model::DIRECTORY;
 
-// The record as if these directories were put.
+// The record as if these directories were put. The Rust's function of this name compares the charge with the limit; here `insert_all` does.
 pub fn check_replacements(
     table: &[u8],
     rec: model::Record,
@@ -80,7 +81,7 @@ fn insert_all_unchecked(
             table,
             merge,
             &path[..end],
-            model::DIRECTORY,
+            DIRECTORY,
             mtime,
             0,
             &path[..0],

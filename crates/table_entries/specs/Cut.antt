@@ -28,6 +28,6 @@ module _ {A : Type 0} where
   behind k m = unlessFirst k (since k m)
 
   -- the value of the first, if that has the path k
-  abbrev pub firstAt : Path → Map A → Option A
-  firstAt k [] = none
-  firstAt k (x ∷ xs) = cond (same (x .0) k) (some (x .1)) none
+  abbrev pub firstIf : Path → Map A → Option A
+  firstIf k [] = none
+  firstIf k (x ∷ xs) = cond (same (x .0) k) (some (x .1)) none

@@ -12,7 +12,7 @@ ghost use Rattle.model.specs.Map.{isNone, lookup};
 ghost use Rattle.model.specs.Tree.{Entry};
 ghost use Rattle.model.specs.Table.{typeOf, mtimeOf, sizeOf, bodyOf, keyAt, entryAt, entryEnd, entriesAt, tableIn, isTable};
 ghost use Rattle.table_entries.specs.Place.{Standing, Sought};
-ghost use Rattle.table_entries.specs.Cut.{firstAt};
+ghost use Rattle.table_entries.specs.Cut.{firstIf};
 ghost use Rattle.table_entries.specs.Said.{said, saidOf};
 
 // What the table has at a path. A file's content and a reference's listed path stay in the table: `len` bytes from `at` on.
@@ -204,7 +204,7 @@ pub fn seek(table: &[u8], place: Place, key: &[u8]) -> Place
 // The entry at a place, if it has this key.
 fn entry_if(table: &[u8], place: Place, key: &[u8]) -> OverlayEntry
     requires { ⌜ Standing (now table) (place .left) (place .at) ⌝ }
-    ensures { λ r. ⌜ saidOf (now (table .entry)) r ≡ said (firstAt (now (key .entry)) (entriesAt (now (table .entry)) (place .left) (place .at))) ⌝ }
+    ensures { λ r. ⌜ saidOf (now (table .entry)) r ≡ said (firstIf (now (key .entry)) (entriesAt (now (table .entry)) (place .left) (place .at))) ⌝ }
 {
     let left = place.left;
     if left == 0 {

@@ -1,8 +1,8 @@
--- `first_at` meets its contract: the first part stands behind the head.
+-- `first_part` meets its contract: the first part stands behind the head.
 use borrow.Author.Needs.{needs}
 use Rattle.run_script.proofs.Parts.{first-is}
-use Rattle.run_script.proofs.first_at.Statement.{statement}
-use Rattle.run_script.proofs.first_at.Tie as tie
+use Rattle.run_script.proofs.first_part.Statement.{statement}
+use Rattle.run_script.proofs.first_part.Tie as tie
 
 add-from : tie.Need-add-from
 add-from c = search needs
@@ -31,8 +31,8 @@ returns c =
     let n = c .before .le16 in
     first-is (a .script .now) (a .at) (n .result) (n .ensures .0)
 
-pub first-at-spec : {M : Type 1} → statement M
-first-at-spec =
+pub first-part-spec : {M : Type 1} → statement M
+first-part-spec =
     tie.close
     (tie.spec
     add-from

@@ -1,10 +1,10 @@
--- `settle` meets its contract: accepted, the record is stored; refused, the four numbers stay.
+-- `store_and_pack` meets its contract: accepted, the record is stored; refused, the four numbers stay.
 use borrow.Author.Needs.{needs}
 use mathlib.Core.Path.{_∙_}
 use Rattle.model.specs.Answer.{told}
 use Rattle.overlay_packed.proofs.Packing.{if-accepted, if-refused}
-use Rattle.overlay_packed.proofs.settle.Statement.{statement}
-use Rattle.overlay_packed.proofs.settle.Tie as tie
+use Rattle.overlay_packed.proofs.store_and_pack.Statement.{statement}
+use Rattle.overlay_packed.proofs.store_and_pack.Tie as tie
 
 is-accepted-requires : tie.Need-is-accepted-requires
 is-accepted-requires c κs = search needs
@@ -34,8 +34,8 @@ returns-2 c =
     let d = c .before .before .is-accepted in
     (c .pack-answer2 .ensures, if-refused (told (a .answered .answer)) (d .result) (d .ensures) (c .before .if1 .left) _ _)
 
-pub settle-spec : {M : Type 1} → statement M
-settle-spec =
+pub store-and-pack-spec : {M : Type 1} → statement M
+store-and-pack-spec =
     tie.close
     (tie.spec
     is-accepted-requires

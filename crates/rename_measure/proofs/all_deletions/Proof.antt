@@ -1,22 +1,22 @@
--- `gone` meets its contract.
+-- `all_deletions` meets its contract.
 use mathlib.Core.Path.{refl}
 use native.Mathlib.Omega.{arith}
 use borrow.Author.Needs.{needs}
 use Rattle.model.specs.Tree.{deleted}
-use Rattle.rename_measure.proofs.Foretelling.{not-first, small-put, gone-whole, gone-alone}
-use Rattle.rename_measure.proofs.gone.Statement.{statement}
-use Rattle.rename_measure.proofs.gone.Tie as tie
+use Rattle.rename_measure.proofs.Foretelling.{not-first, small-put, deletions-whole, deletions-alone}
+use Rattle.rename_measure.proofs.all_deletions.Statement.{statement}
+use Rattle.rename_measure.proofs.all_deletions.Tie as tie
 
-gone-below-requires : tie.Need-gone-below-requires
-gone-below-requires c κs = search needs
+deletions-below-requires : tie.Need-deletions-below-requires
+deletions-below-requires c κs = search needs
 
 returns : tie.Need-returns
 returns c =
     let e = c .before .before .before .before .before in
     let a = e .args in
     let p = e .pre in
-    let g = c .gone-below in (
-      gone-whole (a .table .now) (a .listing .now) (a .rec) (p .1 .0) (p .0) (a .source .now) (a .whole) (p .1 .1 .1) (c .before .if1 .taken)
+    let g = c .deletions-below in (
+      deletions-whole (a .table .now) (a .listing .now) (a .rec) (p .1 .0) (p .0) (a .source .now) (a .whole) (p .1 .1 .1) (c .before .if1 .taken)
           (g .result) (g .ensures .0),
       g .ensures .1,
     )
@@ -33,10 +33,10 @@ returns-2 c =
     let a = e .args in
     let p = e .pre in
     let g = c .projected-record in (
-      gone-alone (a .table .now) (a .listing .now) (a .rec) (p .1 .0) (p .0) (a .source .now) (a .whole) (p .1 .1 .1) (c .before .if1 .left)
+      deletions-alone (a .table .now) (a .listing .now) (a .rec) (p .1 .0) (p .0) (a .source .now) (a .whole) (p .1 .1 .1) (c .before .if1 .left)
           (g .result) (g .ensures deleted refl),
       small-put (a .table .now) (a .rec) (p .1 .0) (a .source .now) deleted (p .1 .1 .0 .1) (omega arith) (g .result) (g .ensures deleted refl),
     )
 
-pub gone-spec : {M : Type 1} → statement M
-gone-spec = tie.close (tie.spec gone-below-requires returns projected-record-requires returns-2)
+pub all-deletions-spec : {M : Type 1} → statement M
+all-deletions-spec = tie.close (tie.spec deletions-below-requires returns projected-record-requires returns-2)

@@ -1,4 +1,4 @@
--- `measure` meets its contract: the checks before it give what the measuring asks for, and what that foretells settles 11, 12 and 13.
+-- `last_checks` meets its contract: the checks before it give what the measuring asks for, and what that foretells settles 11, 12 and 13.
 use borrow.Author.Needs.{needs}
 use lib.ListN.{length}
 use Rattle.model.specs.Listing.{treeIn}
@@ -7,8 +7,8 @@ use Rattle.model.proofs.Codec.{path-short}
 use Rattle.rename_checks.proofs.Passed.{apart-paths}
 use Rattle.rename_measure.proofs.Sources.{not-same}
 use Rattle.rename_settle.proofs.Settling.{settled-check, settled-record, top-length, not-roots, source-of}
-use Rattle.rename_settle.proofs.measure.Statement.{statement}
-use Rattle.rename_settle.proofs.measure.Tie as tie
+use Rattle.rename_settle.proofs.last_checks.Statement.{statement}
+use Rattle.rename_settle.proofs.last_checks.Tie as tie
 
 first-len-requires : tie.Need-first-len-requires
 first-len-requires c κs = search needs
@@ -41,8 +41,8 @@ projected-move-requires c κs =
       ),
     )
 
-settle-requires : tie.Need-settle-requires
-settle-requires c κs = search needs
+settled-by-requires : tie.Need-settled-by-requires
+settled-by-requires c κs = search needs
 
 returns : tie.Need-returns
 returns c =
@@ -51,13 +51,13 @@ returns c =
     let t = tableIn s (a .rec) in
     let l = treeIn (a .listing .now) in
     let m = c .before .projected-move in
-    let x = c .settle in (
+    let x = c .settled-by in (
       settled-check (a .rec .«entry_size») t l (a .source .now) (a .destination .now) (m .result) (m .ensures) (a .limit) (length s) (x .result)
           (x .ensures),
       settled-record (a .rec .«entry_size») t l (a .source .now) (a .destination .now) (m .result) (m .ensures) (a .limit) (length s) (x .result)
           (x .ensures),
     )
 
-pub measure-spec : {M : Type 1} → statement M
-measure-spec =
-    tie.close (tie.spec first-len-requires projected-move-requires settle-requires returns)
+pub last-checks-spec : {M : Type 1} → statement M
+last-checks-spec =
+    tie.close (tie.spec first-len-requires projected-move-requires settled-by-requires returns)

@@ -1,8 +1,8 @@
--- `second_at` meets its contract: the second part stands between the first and the end.
+-- `second_part` meets its contract: the second part stands between the first and the end.
 use borrow.Author.Needs.{needs}
 use Rattle.run_script.proofs.Parts.{second-is}
-use Rattle.run_script.proofs.second_at.Statement.{statement}
-use Rattle.run_script.proofs.second_at.Tie as tie
+use Rattle.run_script.proofs.second_part.Statement.{statement}
+use Rattle.run_script.proofs.second_part.Tie as tie
 
 add-from : tie.Need-add-from
 add-from c = search needs
@@ -35,8 +35,8 @@ returns c =
     let e = c .before .end-of in
     second-is (a .script .now) (a .at) (n .result) (n .ensures .0) (e .result) (e .ensures)
 
-pub second-at-spec : {M : Type 1} → statement M
-second-at-spec =
+pub second-part-spec : {M : Type 1} → statement M
+second-part-spec =
     tie.close
     (tie.spec
     add-from

@@ -1,8 +1,8 @@
--- `come` meets its contract.
+-- `all_moves` meets its contract.
 use borrow.Author.Needs.{needs}
-use Rattle.rename_measure.proofs.Foretelling.{come-whole, come-alone}
-use Rattle.rename_measure.proofs.come.Statement.{statement}
-use Rattle.rename_measure.proofs.come.Tie as tie
+use Rattle.rename_measure.proofs.Foretelling.{moves-whole, moves-alone}
+use Rattle.rename_measure.proofs.all_moves.Statement.{statement}
+use Rattle.rename_measure.proofs.all_moves.Tie as tie
 
 moves-below-requires : tie.Need-moves-below-requires
 moves-below-requires c κs = search needs
@@ -13,7 +13,7 @@ returns c =
     let a = e .args in
     let p = e .pre in
     let g = c .moves-below in (
-      come-whole (a .table .now) (a .listing .now) (a .rec) (p .1 .0) (p .0) (a .source .now) (a .whole) (p .1 .1 .1 .0) (c .before .if1 .taken)
+      moves-whole (a .table .now) (a .listing .now) (a .rec) (p .1 .0) (p .0) (a .source .now) (a .whole) (p .1 .1 .1 .0) (c .before .if1 .taken)
           (a .destination .now) (a .first-len) (p .1 .1 .1 .1) (g .result) (g .ensures .0),
       g .ensures .1,
     )
@@ -27,10 +27,10 @@ returns-2 c =
     let a = e .args in
     let p = e .pre in
     let g = c .one-move in (
-      come-alone (a .table .now) (a .listing .now) (a .rec) (p .1 .0) (p .0) (a .source .now) (a .whole) (p .1 .1 .1 .0) (c .before .if1 .left)
+      moves-alone (a .table .now) (a .listing .now) (a .rec) (p .1 .0) (p .0) (a .source .now) (a .whole) (p .1 .1 .1 .0) (c .before .if1 .left)
           (a .destination .now) (a .first-len) (p .1 .1 .1 .1) (g .result) (g .ensures .0 (a .source .now)),
       g .ensures .1,
     )
 
-pub come-spec : {M : Type 1} → statement M
-come-spec = tie.close (tie.spec moves-below-requires returns one-move-requires returns-2)
+pub all-moves-spec : {M : Type 1} → statement M
+all-moves-spec = tie.close (tie.spec moves-below-requires returns one-move-requires returns-2)

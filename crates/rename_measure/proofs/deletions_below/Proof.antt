@@ -1,10 +1,10 @@
--- `gone_below` meets its contract.
+-- `deletions_below` meets its contract.
 use borrow.Author.Needs.{needs}
 use Rattle.model.specs.Listing.{treeIn}
 use Rattle.rename_uncovered.proofs.Belows.{part-below}
 use Rattle.rename_carried.proofs.Items.{part-of-listing}
-use Rattle.rename_measure.proofs.gone_below.Statement.{statement}
-use Rattle.rename_measure.proofs.gone_below.Tie as tie
+use Rattle.rename_measure.proofs.deletions_below.Statement.{statement}
+use Rattle.rename_measure.proofs.deletions_below.Tie as tie
 
 below-requires : tie.Need-below-requires
 below-requires c κs = search needs
@@ -62,8 +62,8 @@ returns c =
     let x = part-of-listing (a .listing .now) (a .source .now) (l .result .from) (l .result .to) (l .result .count) (e .pre .0) (l .ensures) in
     (d .ensures .0 (treeIn (a .listing .now)) (x .0) (x .1), d .ensures .1)
 
-pub gone-below-spec : {M : Type 1} → statement M
-gone-below-spec =
+pub deletions-below-spec : {M : Type 1} → statement M
+deletions-below-spec =
     tie.close
     (tie.spec
     below-requires

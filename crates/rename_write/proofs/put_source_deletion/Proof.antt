@@ -1,12 +1,12 @@
--- `put_source` meets its contract: kind 4 without a body is a deleted entry.
+-- `put_source_deletion` meets its contract: kind 4 without a body is a deleted entry.
 use mathlib.Core.Path.{refl}
 use mathlib.Core.List.{[]}
 use borrow.Author.Needs.{needs}
 use Rattle.model.specs.Tree.{deleted}
 use Rattle.rename_write.proofs.Items.{room-of, deleted-written}
 use Rattle.rename_write.proofs.Sequences.{one-room, one-put}
-use Rattle.rename_write.proofs.put_source.Statement.{statement}
-use Rattle.rename_write.proofs.put_source.Tie as tie
+use Rattle.rename_write.proofs.put_source_deletion.Statement.{statement}
+use Rattle.rename_write.proofs.put_source_deletion.Tie as tie
 
 slice-aggregate-put-next : tie.Need-slice-aggregate-put-next
 slice-aggregate-put-next c = search needs
@@ -28,5 +28,5 @@ returns c =
     one-put (a .table .now) (a .work .now) (p .last .0) (a .merge) (p .result) (a .source .now, deleted)
     (record { merged = p .ensures .0; long = p .ensures .1 .0; end = p .ensures .1 .1 })
 
-pub put-source-spec : {M : Type 1} → statement M
-put-source-spec = tie.close (tie.spec slice-aggregate-put-next put-next-requires same-length returns)
+pub put-source-deletion-spec : {M : Type 1} → statement M
+put-source-deletion-spec = tie.close (tie.spec slice-aggregate-put-next put-next-requires same-length returns)
