@@ -1,4 +1,5 @@
--- The proper ancestors of a path by the places of its slashes, and those from a place on: what a cursor that moves forward finds.
+-- The proper ancestors of a path by the places of its slashes, and those from a place on: what a cursor that moves
+-- forward finds.
 use mathlib.Core.Path.{_≡_}
 use mathlib.Core.Bool.{false}
 use mathlib.Core.List.{List, [], _∷_, map}
@@ -30,7 +31,8 @@ nextSlash p i = firstOr (length p) (slashesFrom p i)
 abbrev pub ancestorsFrom : Path → ℕ → List Path
 ancestorsFrom p i = map (λ (k : ℕ). take k p) (slashesFrom p i)
 
--- behind place i no slash stands in p, and i is `from` or a slash stands there: p's parent ends at i, if it has `from` bytes or more
+-- behind place i no slash stands in p, and i is `from` or a slash stands there: p's parent ends at i, if it has `from`
+-- bytes or more
 pub record Parted (p : Path) (from i : ℕ) : Type 0 where
   pub low : from ≤ i
   pub high : i < length p

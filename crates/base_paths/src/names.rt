@@ -1,5 +1,5 @@
-// The components of a path, a byte at a time: whether those that were read are in order, and the bytes of the one that is being read.
-// Assumes of a state only that it counts fewer than 512 bytes and components, as many as a path has.
+// The components of a path, a byte at a time: whether those that were read are in order, and the bytes of the one that
+// is being read. Assumes of a state only that it counts fewer than 512 bytes and components, as many as a path has.
 ghost use mathlib.Core.Path.{_≡_};
 ghost use mathlib.Core.List.{List, _∷_};
 ghost use Prim.Native.Nat.{ℕ, _+_, _≤_, _<_};

@@ -43,7 +43,8 @@ pub fn next_ancestor(path: &[u8], from: usize) -> usize
     path.len()
 }
 
-// Where the parent of a path ends that has `from` bytes or more: the last slash. One pass back over the path's last component.
+// Where the parent of a path ends that has `from` bytes or more: the last slash. One pass back over the path's last
+// component.
 pub fn parent_end(path: &[u8], from: usize) -> usize
     requires { ⌜ from < length (now path) ⌝ }
     ensures { λ r. ⌜ Parted (now (path .entry)) from r ⌝ }

@@ -5,7 +5,8 @@ ghost use mathlib.Core.List.{[], _∷_, _++_};
 ghost use Rattle.model.specs.Bytes.{before};
 ghost use Rattle.model.specs.Path.{below, child};
 
-// Whether a path lies below a directory: its bytes, then a slash. Nothing is so below the root, since no path begins with a slash.
+// Whether a path lies below a directory: its bytes, then a slash. Nothing is so below the root, since no path begins
+// with a slash.
 pub fn is_below(dir: &[u8], path: &[u8]) -> bool
     ensures { λ r. ⌜ r ≡ below (now (dir .entry)) (now (path .entry)) ⌝ }
 {
@@ -45,7 +46,8 @@ pub fn is_child(dir: &[u8], path: &[u8]) -> bool
     true
 }
 
-// Whether a key comes before a directory's path with one byte behind it. With a slash, what is not before it and is before the same with '0' is below.
+// Whether a key comes before a directory's path with one byte behind it. With a slash, what is not before it and is
+// before the same with '0' is below.
 pub fn is_before_with(key: &[u8], dir: &[u8], b: u8) -> bool
     ensures { λ r. ⌜ r ≡ before (now (key .entry)) (now (dir .entry) ++ (b ∷ [])) ⌝ }
 {

@@ -7,8 +7,8 @@ ghost use Rattle.model.specs.Utf8.{rows, afterIn, characters};
 ghost use Rattle.base_paths.specs.Classes.{rowIn};
 ghost use Rattle.base_paths.specs.Scan.{pending};
 
-// The class of each byte: the number of the row of RFC 3629's grammar that begins with it, in the order UTF8-1, UTF8-2, UTF8-3 (four rows),
-// UTF8-4 (three); 9 where no character begins with it.
+// The class of each byte: the number of the row of RFC 3629's grammar that begins with it, in the order UTF8-1, UTF8-2,
+// UTF8-3 (four rows), UTF8-4 (three); 9 where no character begins with it.
 const CLASS: [u8; 256] = [
     // 00 to 7F: UTF8-1
     0,

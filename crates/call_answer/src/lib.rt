@@ -1,4 +1,5 @@
-// How a call is answered once an insertion was tried; specs/ has what it is for a call to meet the outcome that the definition gives.
+// How a call is answered once an insertion was tried; specs/ has what it is for a call to meet the outcome that the
+// definition gives.
 ghost use mathlib.Core.Path.{_≡_};
 ghost use Rattle.call_answer.specs.Meets.{answeredOf};
 use check_judged::Judged;

@@ -1,6 +1,6 @@
-// The calls of document 01 that change one entry: write_bytes, unlink and rmdir of overlay.rs.
-// Any bytes can be given as listing, table, work buffer, path and data, and any numbers as record, mtime and limit.
-// A refused call leaves all as it was; an accepted one leaves the work buffer all 0. Each is a constant number of passes over what it is lent.
+// The calls of document 01 that change one entry: write_bytes, unlink and rmdir of overlay.rs. Any bytes can be given
+// as listing, table, work buffer, path and data, and any numbers as record, mtime and limit. A refused call leaves all
+// as it was; an accepted one leaves the work buffer all 0. Each is a constant number of passes over what it is lent.
 ghost use mathlib.Core.Path.{_≡_};
 ghost use mathlib.Core.Bool.{_&&_};
 ghost use lib.Dec.{leb};
@@ -25,7 +25,8 @@ use table_insert::insert;
 fn judge_write(listing: &[u8], table: &[u8], rec: Record, room: usize, path: &[u8]) -> Judged
     ensures { λ r. ⌜ checkOf r ≡ ((unless 1 (isTable (now (table .entry)) rec && leb (length (now (table .entry))) room)
         then unless 2 (isListing (now (listing .entry))) then form 0 (now (path .entry)))
-        then writeChecks (shown (tableIn (now (table .entry)) rec) (treeIn (now (listing .entry)))) (now (path .entry))) ⌝ }
+        then writeChecks (shown (tableIn (now (table .entry)) rec) (treeIn (now (listing .entry))))
+        (now (path .entry))) ⌝ }
 {
     let ready = check_lent::ready(listing, table, rec, room, path);
     if check_judged::is_refused(ready) {
@@ -45,7 +46,8 @@ pub fn write_bytes(
     data: &[u8],
     limit: u64,
 ) -> Answered
-    ensures { λ r. ⌜ Meets (outcome (now (listing .entry)) (requested (calls.write (now (path .entry)) mtime (now («data» .entry))) limit
+    ensures { λ r. ⌜ Meets (outcome (now (listing .entry)) (requested
+        (calls.write (now (path .entry)) mtime (now («data» .entry))) limit
         (now (work .entry))) (stored (now (table .entry)) rec)) r (now (table .exit)) (now (work .exit)) ⌝ }
 {
     let judged = judge_write(listing, table, rec, work.len(), path);
@@ -85,7 +87,8 @@ pub fn unlink(
     path: &[u8],
     limit: u64,
 ) -> Answered
-    ensures { λ r. ⌜ Meets (outcome (now (listing .entry)) (requested (calls.unlink (now (path .entry))) limit (now (work .entry)))
+    ensures { λ r. ⌜ Meets (outcome (now (listing .entry)) (requested (calls.unlink (now (path .entry))) limit
+        (now (work .entry)))
         (stored (now (table .entry)) rec)) r (now (table .exit)) (now (work .exit)) ⌝ }
 {
     let judged = judge_unlink(listing, table, rec, work.len(), path);
@@ -126,7 +129,8 @@ pub fn rmdir(
     path: &[u8],
     limit: u64,
 ) -> Answered
-    ensures { λ r. ⌜ Meets (outcome (now (listing .entry)) (requested (calls.rmdir (now (path .entry))) limit (now (work .entry)))
+    ensures { λ r. ⌜ Meets (outcome (now (listing .entry)) (requested (calls.rmdir (now (path .entry))) limit
+        (now (work .entry)))
         (stored (now (table .entry)) rec)) r (now (table .exit)) (now (work .exit)) ⌝ }
 {
     let judged = judge_rmdir(listing, table, rec, work.len(), path);

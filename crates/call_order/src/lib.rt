@@ -9,7 +9,8 @@ use call_values::Order;
 use model::Answered;
 use model::Record;
 
-// Makes the call. `first` is its path, a rename's source; `second` is a write's data and a rename's destination, and no other call looks at it.
+// Makes the call. `first` is its path, a rename's source; `second` is a write's data and a rename's destination, and no
+// other call looks at it.
 pub fn make(
     listing: &[u8],
     table: &mut [u8],
@@ -19,7 +20,8 @@ pub fn make(
     second: &[u8],
     order: Order,
 ) -> Answered
-    ensures { λ r. ⌜ Meets (outcome (now (listing .entry)) (requested (callOf order (now (first .entry)) (now (second .entry))) (order .limit)
+    ensures { λ r. ⌜ Meets (outcome (now (listing .entry)) (requested
+        (callOf order (now (first .entry)) (now (second .entry))) (order .limit)
         (now (work .entry))) (stored (now (table .entry)) rec)) r (now (table .exit)) (now (work .exit)) ⌝ }
 {
     let kind = order.kind;

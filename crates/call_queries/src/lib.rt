@@ -87,7 +87,8 @@ fn is_a_dir(visible: Visible) -> Finding
 }
 
 pub fn exists(listing: &[u8], table: &[u8], rec: Record, path: &[u8]) -> Finding
-    ensures { λ r. ⌜ toldFinding r ≡ ask calls.exists (now (listing .entry)) (now (path .entry)) (stored (now (table .entry)) rec) ⌝ }
+    ensures { λ r. ⌜ toldFinding r ≡ ask calls.exists (now (listing .entry)) (now (path .entry))
+        (stored (now (table .entry)) rec) ⌝ }
 {
     let judged = check_lent::ready(listing, table, rec, table.len(), path);
     if check_judged::is_refused(judged) {
@@ -98,7 +99,8 @@ pub fn exists(listing: &[u8], table: &[u8], rec: Record, path: &[u8]) -> Finding
 }
 
 pub fn is_file(listing: &[u8], table: &[u8], rec: Record, path: &[u8]) -> Finding
-    ensures { λ r. ⌜ toldFinding r ≡ ask calls.isFile (now (listing .entry)) (now (path .entry)) (stored (now (table .entry)) rec) ⌝ }
+    ensures { λ r. ⌜ toldFinding r ≡ ask calls.isFile (now (listing .entry)) (now (path .entry))
+        (stored (now (table .entry)) rec) ⌝ }
 {
     let judged = check_lent::ready(listing, table, rec, table.len(), path);
     if check_judged::is_refused(judged) {
@@ -109,7 +111,8 @@ pub fn is_file(listing: &[u8], table: &[u8], rec: Record, path: &[u8]) -> Findin
 }
 
 pub fn is_dir(listing: &[u8], table: &[u8], rec: Record, path: &[u8]) -> Finding
-    ensures { λ r. ⌜ toldFinding r ≡ ask calls.isDir (now (listing .entry)) (now (path .entry)) (stored (now (table .entry)) rec) ⌝ }
+    ensures { λ r. ⌜ toldFinding r ≡ ask calls.isDir (now (listing .entry)) (now (path .entry))
+        (stored (now (table .entry)) rec) ⌝ }
 {
     let judged = check_lent::ready(listing, table, rec, table.len(), path);
     if check_judged::is_refused(judged) {

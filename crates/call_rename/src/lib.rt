@@ -1,8 +1,8 @@
-// rename of overlay.rs: a file, or a directory with all that is below it, from one path to another.
-// Any bytes can be given as listing, table, work buffer and paths, and any numbers as record and limit.
-// A refused call leaves all as it was: nothing is written before 13 is decided. An accepted one leaves the work buffer all 0.
-// It is a constant number of passes over what it is lent, but where it is refused for a link below the source or for the walk's budget, both being there
-// (rename_walk).
+// rename of overlay.rs: a file, or a directory with all that is below it, from one path to another. Any bytes can be
+// given as listing, table, work buffer and paths, and any numbers as record and limit. A refused call leaves all as it
+// was: nothing is written before 13 is decided. An accepted one leaves the work buffer all 0. It is a constant number
+// of passes over what it is lent, but where it is refused for a link below the source or for the walk's budget, both
+// being there (rename_walk).
 ghost use mathlib.Core.Path.{_≡_};
 ghost use mathlib.Core.Bool.{true};
 ghost use Rattle.model.specs.Path.{isPath};
@@ -30,7 +30,8 @@ fn ready(
     source: &[u8],
     destination: &[u8],
 ) -> Judged
-    ensures { λ r. ⌜ checkOf r ≡ firstChecks (now (listing .entry)) (now (table .entry)) rec room (now (source .entry)) (now (destination .entry)) ⌝ }
+    ensures { λ r. ⌜ checkOf r ≡ firstChecks (now (listing .entry)) (now (table .entry)) rec room (now (source .entry))
+        (now (destination .entry)) ⌝ }
 {
     let from = check_lent::ready(listing, table, rec, room, source);
     if check_judged::is_refused(from) {
@@ -71,8 +72,10 @@ fn judge(
     destination: &[u8],
     limit: u64,
 ) -> Judged
-    ensures { λ r. ⌜ checkOf r ≡ (firstChecks (now (listing .entry)) (now (table .entry)) rec room (now (source .entry)) (now (destination .entry))
-        then earlyChecks (tableIn (now (table .entry)) rec) (treeIn (now (listing .entry))) (now (source .entry)) (now (destination .entry))
+    ensures { λ r. ⌜ checkOf r ≡ (firstChecks (now (listing .entry)) (now (table .entry)) rec room (now (source .entry))
+        (now (destination .entry))
+        then earlyChecks (tableIn (now (table .entry)) rec) (treeIn (now (listing .entry))) (now (source .entry))
+        (now (destination .entry))
         then directoryChecks (limited (rec .«entry_size») limit) (tableIn (now (table .entry)) rec)
         (treeIn (now (listing .entry))) (now (source .entry)) (now (destination .entry))) ⌝ }
 {
@@ -87,7 +90,8 @@ fn judge(
     plan_directory(listing, table, rec, source, destination, limit)
 }
 
-// What is at the source stands at the destination from now on, a directory with all that is below it; accepted, it answers 0.
+// What is at the source stands at the destination from now on, a directory with all that is below it; accepted, it
+// answers 0.
 pub fn rename(
     listing: &[u8],
     table: &mut [u8],
@@ -97,7 +101,8 @@ pub fn rename(
     destination: &[u8],
     limit: u64,
 ) -> Answered
-    ensures { λ r. ⌜ Meets (outcome (now (listing .entry)) (requested (calls.rename (now (source .entry)) (now (destination .entry))) limit
+    ensures { λ r. ⌜ Meets (outcome (now (listing .entry)) (requested
+        (calls.rename (now (source .entry)) (now (destination .entry))) limit
         (now (work .entry))) (stored (now (table .entry)) rec)) r (now (table .exit)) (now (work .exit)) ⌝ }
 {
     let judged = judge(listing, table, rec, work.len(), source, destination, limit);

@@ -13,7 +13,8 @@ pub enum Kind {
     Rename,
 }
 
-// What a call takes beside its paths and data. The flags are mkdir's, and the mtime is write's and mkdir's; the other calls take no notice of them.
+// What a call takes beside its paths and data. The flags are mkdir's, and the mtime is write's and mkdir's; the other
+// calls take no notice of them.
 pub struct Order {
     pub kind: Kind,
     pub parents: bool,

@@ -9,7 +9,8 @@ ghost use Rattle.model.specs.Map.{lookup};
 ghost use Rattle.model.specs.Tree.{shown, kind};
 ghost use Rattle.model.specs.Listing.{treeIn, isListing};
 ghost use Rattle.model.specs.Table.{tableIn, isTable};
-ghost use Rattle.model.specs.Checks.{_then_, parentChecks, writeAt, writeChecks, unlinkAt, unlinkChecks, rmdirAt, rmdirEntry, rmdirChecks, noVisibleChild};
+ghost use Rattle.model.specs.Checks.{_then_, parentChecks, writeAt, writeChecks, unlinkAt, unlinkChecks, rmdirAt};
+ghost use Rattle.model.specs.Checks.{rmdirEntry, rmdirChecks, noVisibleChild};
 ghost use Rattle.view_at.specs.Sight.{visibleKind};
 ghost use Rattle.check_judged.specs.Judged.{checkOf};
 use check_judged::Judged;
@@ -42,7 +43,8 @@ pub fn write_checks(listing: &[u8], table: &[u8], rec: model::Record, path: &[u8
     requires { ⌜ isListing (now listing) ≡ true ⌝ }
     requires { ⌜ isTable (now table) rec ≡ true ⌝ }
     requires { ⌜ isPath (now path) ≡ true ⌝ }
-    ensures { λ r. ⌜ checkOf r ≡ writeChecks (shown (tableIn (now (table .entry)) rec) (treeIn (now (listing .entry)))) (now (path .entry)) ⌝ }
+    ensures { λ r. ⌜ checkOf r ≡ writeChecks (shown (tableIn (now (table .entry)) rec) (treeIn (now (listing .entry))))
+        (now (path .entry)) ⌝ }
 {
     let parents = check_parents::ensure_parent_exists(listing, table, rec, path, 0);
     if check_judged::is_refused(parents) {
@@ -77,7 +79,8 @@ fn unlink_listed(listing: &[u8], table: &[u8], rec: model::Record, path: &[u8]) 
     requires { ⌜ isListing (now listing) ≡ true ⌝ }
     requires { ⌜ isTable (now table) rec ≡ true ⌝ }
     requires { ⌜ isPath (now path) ≡ true ⌝ }
-    ensures { λ r. ⌜ checkOf r ≡ (parentChecks 0 (shown (tableIn (now (table .entry)) rec) (treeIn (now (listing .entry)))) (now (path .entry))
+    ensures { λ r. ⌜ checkOf r ≡ (parentChecks 0 (shown (tableIn (now (table .entry)) rec)
+        (treeIn (now (listing .entry)))) (now (path .entry))
         then unlinkAt (length (now (path .entry))) (kind (shown (tableIn (now (table .entry)) rec)
         (treeIn (now (listing .entry)))) (now (path .entry)))) ⌝ }
 {
@@ -94,7 +97,8 @@ pub fn unlink_checks(listing: &[u8], table: &[u8], rec: model::Record, path: &[u
     requires { ⌜ isListing (now listing) ≡ true ⌝ }
     requires { ⌜ isTable (now table) rec ≡ true ⌝ }
     requires { ⌜ isPath (now path) ≡ true ⌝ }
-    ensures { λ r. ⌜ checkOf r ≡ unlinkChecks (tableIn (now (table .entry)) rec) (treeIn (now (listing .entry))) (now (path .entry)) ⌝ }
+    ensures { λ r. ⌜ checkOf r ≡ unlinkChecks (tableIn (now (table .entry)) rec) (treeIn (now (listing .entry)))
+        (now (path .entry)) ⌝ }
 {
     let entry = table_entries::get(table, rec, path);
     match entry {
@@ -146,7 +150,8 @@ fn rmdir_listed(listing: &[u8], table: &[u8], rec: model::Record, path: &[u8]) -
     requires { ⌜ isListing (now listing) ≡ true ⌝ }
     requires { ⌜ isTable (now table) rec ≡ true ⌝ }
     requires { ⌜ isPath (now path) ≡ true ⌝ }
-    ensures { λ r. ⌜ checkOf r ≡ (parentChecks 0 (shown (tableIn (now (table .entry)) rec) (treeIn (now (listing .entry)))) (now (path .entry))
+    ensures { λ r. ⌜ checkOf r ≡ (parentChecks 0 (shown (tableIn (now (table .entry)) rec)
+        (treeIn (now (listing .entry)))) (now (path .entry))
         then rmdirAt (length (now (path .entry))) (kind (shown (tableIn (now (table .entry)) rec)
         (treeIn (now (listing .entry)))) (now (path .entry)))) ⌝ }
 {
@@ -163,7 +168,8 @@ fn rmdir_entry(listing: &[u8], table: &[u8], rec: model::Record, path: &[u8]) ->
     requires { ⌜ isListing (now listing) ≡ true ⌝ }
     requires { ⌜ isTable (now table) rec ≡ true ⌝ }
     requires { ⌜ isPath (now path) ≡ true ⌝ }
-    ensures { λ r. ⌜ checkOf r ≡ rmdirEntry (length (now (path .entry))) (lookup (tableIn (now (table .entry)) rec) (now (path .entry))) (parentChecks 0
+    ensures { λ r. ⌜ checkOf r ≡ rmdirEntry (length (now (path .entry)))
+        (lookup (tableIn (now (table .entry)) rec) (now (path .entry))) (parentChecks 0
         (shown (tableIn (now (table .entry)) rec) (treeIn (now (listing .entry)))) (now (path .entry))
         then rmdirAt (length (now (path .entry))) (kind (shown (tableIn (now (table .entry)) rec)
         (treeIn (now (listing .entry)))) (now (path .entry)))) ⌝ }
@@ -204,7 +210,8 @@ pub fn check_empty(
 ) -> Judged
     requires { ⌜ isListing (now listing) ≡ true ⌝ }
     requires { ⌜ isTable (now table) rec ≡ true ⌝ }
-    ensures { λ r. ⌜ checkOf r ≡ noVisibleChild which (tableIn (now (table .entry)) rec) (treeIn (now (listing .entry))) (now (path .entry)) ⌝ }
+    ensures { λ r. ⌜ checkOf r ≡ noVisibleChild which (tableIn (now (table .entry)) rec) (treeIn (now (listing .entry)))
+        (now (path .entry)) ⌝ }
 {
     if view_children::has_visible_children(listing, table, rec, path) {
         return Judged::Refused(Refusal::NotEmpty(which, path.len() as u64));
@@ -217,7 +224,8 @@ pub fn rmdir_checks(listing: &[u8], table: &[u8], rec: model::Record, path: &[u8
     requires { ⌜ isListing (now listing) ≡ true ⌝ }
     requires { ⌜ isTable (now table) rec ≡ true ⌝ }
     requires { ⌜ isPath (now path) ≡ true ⌝ }
-    ensures { λ r. ⌜ checkOf r ≡ rmdirChecks (tableIn (now (table .entry)) rec) (treeIn (now (listing .entry))) (now (path .entry)) ⌝ }
+    ensures { λ r. ⌜ checkOf r ≡ rmdirChecks (tableIn (now (table .entry)) rec) (treeIn (now (listing .entry)))
+        (now (path .entry)) ⌝ }
 {
     if path.len() == 0 {
         return Judged::Refused(Refusal::LinkOrRoot(0, 0));

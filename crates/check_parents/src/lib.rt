@@ -1,6 +1,6 @@
-// Whether a path's parents are visible directories (`ensure_parent_exists`), and which of them mkdir with parents has to make
-// (`overlay_dirs_to_create` of overlay.rs). Assumes a listing, a table and a path that were checked: only this repository's crates call.
-// Both go from the top down once: all looks together read table and listing once.
+// Whether a path's parents are visible directories (`ensure_parent_exists`), and which of them mkdir with parents has
+// to make (`overlay_dirs_to_create` of overlay.rs). Assumes a listing, a table and a path that were checked: only this
+// repository's crates call. Both go from the top down once: all looks together read table and listing once.
 ghost use mathlib.Core.Path.{_≡_};
 ghost use mathlib.Core.Bool.{true, not};
 ghost use mathlib.Core.List.{_++_, []};
@@ -55,7 +55,8 @@ pub fn ensure_parent_exists(
     requires { ⌜ isListing (now listing) ≡ true ⌝ }
     requires { ⌜ isTable (now table) rec ≡ true ⌝ }
     requires { ⌜ isPath (now path) ≡ true ⌝ }
-    ensures { λ r. ⌜ checkOf r ≡ parentChecks which (shown (tableIn (now (table .entry)) rec) (treeIn (now (listing .entry)))) (now (path .entry)) ⌝ }
+    ensures { λ r. ⌜ checkOf r ≡ parentChecks which (shown (tableIn (now (table .entry)) rec)
+        (treeIn (now (listing .entry)))) (now (path .entry)) ⌝ }
 {
     let mut sight = view_at::begin(listing, table, rec);
     let mut at = base_paths::next_ancestor(path, 0);
@@ -103,7 +104,8 @@ fn with_ancestor(dirs: Dirs, visible: Visible, end: usize) -> Dirs
     base_paths::with_end(dirs, end)
 }
 
-// What mkdir with parents has to make where the path itself shows nothing: the missing ancestors, from the top, and the path.
+// What mkdir with parents has to make where the path itself shows nothing: the missing ancestors, from the top, and the
+// path.
 pub fn overlay_dirs_to_create(
     listing: &[u8],
     table: &[u8],
@@ -113,10 +115,12 @@ pub fn overlay_dirs_to_create(
     requires { ⌜ isListing (now listing) ≡ true ⌝ }
     requires { ⌜ isTable (now table) rec ≡ true ⌝ }
     requires { ⌜ (isPath (now path) ≡ true) × (0 < length (now path)) ⌝ }
-    ensures { λ r. ⌜ checkOf (r .judged) ≡ ancestorsIn (length (now (path .entry))) (kind (shown (tableIn (now (table .entry)) rec)
+    ensures { λ r. ⌜ checkOf (r .judged) ≡ ancestorsIn (length (now (path .entry)))
+        (kind (shown (tableIn (now (table .entry)) rec)
         (treeIn (now (listing .entry))))) (ancestors (now (path .entry))) ⌝ }
     ensures { λ r. ⌜ (checkOf (r .judged) ≡ pass
-        → endsOf (r .dirs) ≡ missingEnds (kind (shown (tableIn (now (table .entry)) rec) (treeIn (now (listing .entry))))) (now (path .entry))) ⌝ }
+        → endsOf (r .dirs) ≡ missingEnds (kind (shown (tableIn (now (table .entry)) rec)
+        (treeIn (now (listing .entry))))) (now (path .entry))) ⌝ }
     ensures { λ r. ⌜ (r .dirs .count ≤ 32) × (climbs 0 (length (now (path .entry))) (endsOf (r .dirs)) ≡ true) ⌝ }
 {
     let none: [usize; model::DEPTH_MAX] = [0; model::DEPTH_MAX];

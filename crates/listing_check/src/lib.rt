@@ -87,7 +87,8 @@ fn is_before(a: &[u8], b: &[u8], n: usize) -> bool
     n < b.len()
 }
 
-// Sets the flags for a path of `len` bytes that has its first n in common with the path before it: what is shorter keeps its flag.
+// Sets the flags for a path of `len` bytes that has its first n in common with the path before it: what is shorter
+// keeps its flag.
 fn mark(flags: &mut [bool; 513], n: usize, len: usize, directory: bool)
     requires { ⌜ (n < len) × (len ≤ 512) × (length (now flags) ≡ 513) ⌝ }
     ensures { λ _. ⌜ Marked (now (flags .entry)) (now (flags .exit)) n len directory ⌝ }
@@ -103,7 +104,8 @@ fn mark(flags: &mut [bool; 513], n: usize, len: usize, directory: bool)
 // Whether the flag is set at each slash.
 fn is_placed(flags: &[bool; 513], path: &[u8]) -> bool
     requires { ⌜ length (now path) ≤ 512 ⌝ }
-    ensures { λ r. ⌜ ((f : Path → Bool) → Agree (now (flags .entry)) (now (path .entry)) f → r ≡ every f (ancestors (now (path .entry)))) ⌝ }
+    ensures { λ r. ⌜ ((f : Path → Bool) → Agree (now (flags .entry)) (now (path .entry)) f
+        → r ≡ every f (ancestors (now (path .entry)))) ⌝ }
 {
     let mut i = 0;
     while i < path.len() {
@@ -115,9 +117,9 @@ fn is_placed(flags: &[bool; 513], path: &[u8]) -> bool
     true
 }
 
-// Whether the bytes are a listing. The records are read once, from the first to the last, and each costs a fixed number of passes over
-// its own path, so that the time is linear in the listing's bytes. The k-th flag says whether the first k bytes of the path just read
-// are listed as a directory: the root is, and every other flag is set before it is read.
+// Whether the bytes are a listing. The records are read once, from the first to the last, and each costs a fixed number
+// of passes over its own path, so that the time is linear in the listing's bytes. The k-th flag says whether the first
+// k bytes of the path just read are listed as a directory: the root is, and every other flag is set before it is read.
 pub fn check(listing: &[u8]) -> bool
     ensures { λ r. ⌜ r ≡ isListing (now (listing .entry)) ⌝ }
 {

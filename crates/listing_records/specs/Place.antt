@@ -25,7 +25,8 @@ pub record Standing (s : Bytes) (n at : ℕ) : Type 0 where
 -- the place of the first of them whose path is not before p
 abbrev pub seekFrom : Bytes → Path → ℕ → ℕ → Place
 seekFrom s p zero at = record { at = at; left = 0 }
-seekFrom s p (suc n) at = cond (before (recordAt s at .path) p) (seekFrom s p n (recordEnd s at)) (record { at = at; left = suc n })
+seekFrom s p (suc n) at = cond (before (recordAt s at .path) p) (seekFrom s p n (recordEnd s at))
+    (record { at = at; left = suc n })
 
 -- the node of the first of them, if that has the path p
 abbrev pub nodeIf : Bytes → Path → ℕ → ℕ → Option Node

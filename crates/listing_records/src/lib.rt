@@ -148,7 +148,8 @@ pub struct Part {
     pub count: u64,
 }
 
-// The records below a directory: one part in the middle, since their paths ascend. It ends at the first record behind them.
+// The records below a directory: one part in the middle, since their paths ascend. It ends at the first record behind
+// them.
 pub fn below(listing: &[u8], dir: &[u8]) -> Part
     requires { ⌜ isListing (now listing) ≡ true ⌝ }
     ensures { λ r. ⌜ PartOf (now (listing .entry)) (now (dir .entry)) (r .from) (r .to) (r .count) ⌝ }
@@ -224,8 +225,8 @@ pub fn is_dir(target: RealTarget) -> bool
     }
 }
 
-// A walk down a path, a component a step: `left` records stand from `at` on, and all before them are before every prefix to come.
-// Exhausted once a component is no directory: nothing below one is listed.
+// A walk down a path, a component a step: `left` records stand from `at` on, and all before them are before every
+// prefix to come. Exhausted once a component is no directory: nothing below one is listed.
 pub struct ComponentWalk {
     pub at: usize,
     pub left: u64,
@@ -250,14 +251,16 @@ impl ComponentWalk {
         }
     }
 
-    // What is listed at the path's first `end` bytes, where a component ends. The search goes on from where the last step's ended,
-    // since the prefixes of a path ascend: all the steps over one path together read the listing once. An exhausted walk reads nothing.
+    // What is listed at the path's first `end` bytes, where a component ends. The search goes on from where the last
+    // step's ended, since the prefixes of a path ascend: all the steps over one path together read the listing once. An
+    // exhausted walk reads nothing.
     pub fn step(self, listing: &[u8], path: &[u8], end: usize) -> Stepped
         requires { ⌜ isListing (now listing) ≡ true ⌝ }
         requires { ⌜ Walks (now listing) (now path) self end ⌝ }
         requires { ⌜ (0 < end) × (end ≤ length (now path)) ⌝ }
         requires { ⌜ endsHere (drop end (now path)) ≡ true ⌝ }
-        ensures { λ r. ⌜ targetKind (r .target) ≡ kind (lookup (treeIn (now (listing .entry)))) (take end (now (path .entry))) ⌝ }
+        ensures { λ r. ⌜ targetKind (r .target) ≡ kind (lookup (treeIn (now (listing .entry))))
+            (take end (now (path .entry))) ⌝ }
         ensures { λ r. ⌜ r .walk .exhausted ≡ not (isDirectory (targetKind (r .target))) ⌝ }
         ensures { λ r. ⌜ (self .exhausted ≡ true → r .walk ≡ self) ⌝ }
         ensures { λ r. ⌜ Walks (now (listing .entry)) (now (path .entry)) (r .walk) (end + 1) ⌝ }

@@ -50,7 +50,8 @@ abbrev pub ancestors : Path → List Path
 ancestors [] = []
 ancestors (b ∷ s) = let r = map (λ (q : Path). b ∷ q) (ancestors s) in cond (eqb b 47) ([] ∷ r) r
 
--- "below means from `a/` up to, not including, `a0`": k is p, a slash, and whatever follows. No path in form is so below the root.
+-- "below means from `a/` up to, not including, `a0`": k is p, a slash, and whatever follows. No path in form is so
+-- below the root.
 abbrev pub below : Path → Path → Bool
 below [] [] = false
 below [] (c ∷ k) = eqb c 47

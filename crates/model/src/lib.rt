@@ -1,5 +1,6 @@
-// What the calls answer, the record that a caller keeps beside a table, and the numbers of document 01, as declared types and constants.
-// No function stands here: what each case of an answer says, in 01's numbers, is defined in specs/Answer.antt.
+// What the calls answer, the record that a caller keeps beside a table, and the numbers of document 01, as declared
+// types and constants. No function stands here: what each case of an answer says, in 01's numbers, is defined in
+// specs/Answer.antt.
 
 // "The record by value holds bytes used, count, charge and E".
 pub struct Record {
@@ -9,7 +10,8 @@ pub struct Record {
     pub entry_size: u64,
 }
 
-// Document 01, "Turning a call down", row by row: a path is 0 (only, or source) or 1 (destination), and comes before a length.
+// Document 01, "Turning a call down", row by row: a path is 0 (only, or source) or 1 (destination), and comes before a
+// length.
 pub enum Refusal {
     MalformedTable,
     MalformedListing,
@@ -88,7 +90,8 @@ pub const DEPTH_MAX: usize = 32;
 
 pub const NAME_MAX: usize = 255;
 
-// What an entry is charged beside its key, its entry size and its body; what the walk adds beside a path's length. Names of the Rust.
+// What an entry is charged beside its key, its entry size and its body; what the walk adds beside a path's length.
+// Names of the Rust.
 pub const ENTRY_MEMORY_USAGE: u64 = 256;
 
 pub const REAL_DESCENDANT_MEMORY_USAGE: u64 = 512;

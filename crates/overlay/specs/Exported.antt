@@ -1,4 +1,5 @@
--- What each exported call answers and leaves, for every input. A record that is not four numbers is answered with 1, and all is left as it was.
+-- What each exported call answers and leaves, for every input. A record that is not four numbers is answered with 1,
+-- and all is left as it was.
 use mathlib.Core.Bool.{Bool, cond}
 use mathlib.Core.List.{List}
 use Prim.Native.Nat.{ℕ}
@@ -30,7 +31,8 @@ leaves o = left (packed (o .reply)) (numbers (o .store .rec)) (o .store .table) 
 
 -- a changing call on the table t with the record n
 unfoldable pub called : Bytes → Request → Bytes → List ℕ → CallLeft
-called listing q t n = cond (isFour n) (leaves (outcome listing q (stored t (recordIn n)))) (left (packed (refused 1 0 0)) n t (q .work))
+called listing q t n = cond (isFour n) (leaves (outcome listing q (stored t (recordIn n))))
+    (left (packed (refused 1 0 0)) n t (q .work))
 
 -- a query, and opening
 abbrev pub asked : Query → Bytes → Path → Bytes → List ℕ → Reply

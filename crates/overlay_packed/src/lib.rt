@@ -11,7 +11,8 @@ use model::Answered;
 use model::Finding;
 use model::Record;
 
-// An answer's number stands in the lowest 8 bits, its path in the next 8, its length or value above: what one of each counts.
+// An answer's number stands in the lowest 8 bits, its path in the next 8, its length or value above: what one of each
+// counts.
 const PATH_UNIT: u64 = 256;
 
 const VALUE_UNIT: u64 = 65_536;
@@ -82,7 +83,8 @@ pub fn store_and_pack(rec: &mut [u64], answered: Answered) -> u64
     requires { ⌜ length (now rec) ≡ 4 ⌝ }
     requires { ⌜ Fits (told (answered .answer)) ⌝ }
     ensures { λ r. ⌜ r ≡ packed (told (answered .answer)) ⌝ }
-    ensures { λ _. ⌜ now (rec .exit) ≡ ifAccepted (told (answered .answer)) (numbers (answered .«record»)) (now (rec .entry)) ⌝ }
+    ensures { λ _. ⌜ now (rec .exit) ≡ ifAccepted (told (answered .answer)) (numbers (answered .«record»))
+        (now (rec .entry)) ⌝ }
 {
     let answer = answered.answer;
     let after = answered.record;

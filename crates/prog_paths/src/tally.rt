@@ -60,7 +60,8 @@ fn agrees(a: bool, b: bool) -> bool
     !b
 }
 
-// s must be a path, or must not; and where it is a text, which has no byte that a path forbids, it must be UTF-8, or must not, too.
+// s must be a path, or must not; and where it is a text, which has no byte that a path forbids, it must be UTF-8, or
+// must not, too.
 pub fn one(t: Tally, s: &[u8], text: bool, must: bool) -> Tally
     ensures { λ r. ⌜ r ≡ tallied t (gave (now (s .entry)) text must) ⌝ }
 {

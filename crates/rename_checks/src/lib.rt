@@ -68,7 +68,8 @@ pub fn check_destination(listing: &[u8], table: &[u8], rec: Record, path: &[u8])
     requires { ⌜ isListing (now listing) ≡ true ⌝ }
     requires { ⌜ isTable (now table) rec ≡ true ⌝ }
     requires { ⌜ isPath (now path) ≡ true ⌝ }
-    ensures { λ r. ⌜ checkOf r ≡ (parentChecks 1 (shown (tableIn (now (table .entry)) rec) (treeIn (now (listing .entry)))) (now (path .entry))
+    ensures { λ r. ⌜ checkOf r ≡ (parentChecks 1 (shown (tableIn (now (table .entry)) rec)
+        (treeIn (now (listing .entry)))) (now (path .entry))
         then notLink 1 (length (now (path .entry))) (kind (shown (tableIn (now (table .entry)) rec)
         (treeIn (now (listing .entry)))) (now (path .entry)))) ⌝ }
 {
@@ -113,7 +114,8 @@ pub fn check_source(listing: &[u8], table: &[u8], rec: Record, path: &[u8]) -> J
     requires { ⌜ isListing (now listing) ≡ true ⌝ }
     requires { ⌜ isTable (now table) rec ≡ true ⌝ }
     requires { ⌜ isPath (now path) ≡ true ⌝ }
-    ensures { λ r. ⌜ checkOf r ≡ (parentChecks 0 (shown (tableIn (now (table .entry)) rec) (treeIn (now (listing .entry)))) (now (path .entry))
+    ensures { λ r. ⌜ checkOf r ≡ (parentChecks 0 (shown (tableIn (now (table .entry)) rec)
+        (treeIn (now (listing .entry)))) (now (path .entry))
         then notDeleted (length (now (path .entry))) (lookup (tableIn (now (table .entry)) rec) (now (path .entry)))
         then notLink 0 (length (now (path .entry))) (kind (shown (tableIn (now (table .entry)) rec)
         (treeIn (now (listing .entry)))) (now (path .entry)))) ⌝ }
@@ -169,7 +171,8 @@ fn reject_rename_onto_nonempty_dir(
 ) -> Judged
     requires { ⌜ isListing (now listing) ≡ true ⌝ }
     requires { ⌜ isTable (now table) rec ≡ true ⌝ }
-    ensures { λ r. ⌜ checkOf r ≡ ifDirectory (visibleKind source) (ifDirectory (visibleKind destination) (noVisibleChild 1 (tableIn (now (table .entry)) rec)
+    ensures { λ r. ⌜ checkOf r ≡ ifDirectory (visibleKind source)
+        (ifDirectory (visibleKind destination) (noVisibleChild 1 (tableIn (now (table .entry)) rec)
         (treeIn (now (listing .entry))) (now (path .entry)))) ⌝ }
 {
     if !view_at::is_directory(source) {
@@ -183,7 +186,8 @@ fn reject_rename_onto_nonempty_dir(
 
 // 10 for a destination below the source.
 fn reject_below(source: &[u8], destination: &[u8]) -> Judged
-    ensures { λ r. ⌜ checkOf r ≡ cond (below (now (source .entry)) (now (destination .entry))) (refuse 10 0 (length (now (source .entry)))) pass ⌝ }
+    ensures { λ r. ⌜ checkOf r ≡ cond (below (now (source .entry)) (now (destination .entry)))
+        (refuse 10 0 (length (now (source .entry)))) pass ⌝ }
 {
     if base_paths::is_below(source, destination) {
         return Judged::Refused(Refusal::BelowSource(source.len() as u64));

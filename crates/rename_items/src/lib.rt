@@ -1,6 +1,6 @@
-// Key, stored fields and body of the item that comes next in what rename carries: an entry of the table, or a listed node as an entry.
-// Assumes a stream over parts of a checked table and of a checked listing: only this repository's crates call.
-// Each function reads the item's head alone; keys and bodies are parts of the slices that are lent.
+// Key, stored fields and body of the item that comes next in what rename carries: an entry of the table, or a listed
+// node as an entry. Assumes a stream over parts of a checked table and of a checked listing: only this repository's
+// crates call. Each function reads the item's head alone; keys and bodies are parts of the slices that are lent.
 ghost use mathlib.Core.Path.{_≡_};
 ghost use mathlib.Core.Option.{some};
 ghost use Prim.Native.Nat.{_<_};
@@ -31,10 +31,12 @@ fn is_file(found: listing_records::Found) -> bool
     }
 }
 
-// A listed node's fields as an entry: a directory, a file as a reference to its path; a link, at which the walk has ended, as a deleted one.
+// A listed node's fields as an entry: a directory, a file as a reference to its path; a link, at which the walk has
+// ended, as a deleted one.
 fn listed_fields(found: listing_records::Found) -> Fields
     ensures { λ r. ⌜ ((q : ListingRecord) → found ≡ foundOf (some (nodeOf q))
-        → (r .kind ≡ typeOf (asEntry (nodeOf q))) × (r .mtime ≡ mtimeOf (asEntry (nodeOf q))) × (r .size ≡ sizeOf (asEntry (nodeOf q)))) ⌝ }
+        → (r .kind ≡ typeOf (asEntry (nodeOf q))) × (r .mtime ≡ mtimeOf (asEntry (nodeOf q)))
+        × (r .size ≡ sizeOf (asEntry (nodeOf q)))) ⌝ }
 {
     match found {
         listing_records::Found::Directory(mtime) => {

@@ -1,5 +1,5 @@
-// A moved key: the destination standing where the source stood. Composing is one pass over the key, and a copy of 512 bytes.
-// Assumes that what is composed has room: only this repository's crates call.
+// A moved key: the destination standing where the source stood. Composing is one pass over the key, and a copy of 512
+// bytes. Assumes that what is composed has room: only this repository's crates call.
 ghost use mathlib.Core.Path.{_≡_};
 ghost use mathlib.Core.List.{_++_};
 ghost use Prim.Native.Nat.{_+_, _-_, _≤_};

@@ -1,1 +1,2 @@
-// Laws of the table that rename leaves; no function stands here. proofs/ has what moves, in which order it is put, and the record then.
+// Laws of the table that rename leaves; no function stands here. proofs/ has what moves, in which order it is put, and
+// the record then.

@@ -1,4 +1,5 @@
--- What is counted of the moved entries: those whose keys fit 512 bytes are measured in the table, the others only charged.
+-- What is counted of the moved entries: those whose keys fit 512 bytes are measured in the table, the others only
+-- charged.
 use mathlib.Core.Path.{_≡_}
 use mathlib.Core.Bool.{Bool, true, false, cond, not, _||_}
 use mathlib.Core.Option.{some}
@@ -27,7 +28,8 @@ far q = not (near q)
 -- in y one entry more is counted than in x, with the key k and m bytes of body
 pub record Counted (s : Bytes) (k : Path) (m : ℕ) (x y : Tally) : Type 0 where
   pub measured : near k ≡ true → (t : Table) (j : Path) (v : Entry)
-      → Measured s t j (x .place .left) (x .place .at) (x .rec .«entry_size») (x .rec) → before j k ≡ true → length (bodyOf v) ≡ m
+      → Measured s t j (x .place .left) (x .place .at) (x .rec .«entry_size») (x .rec) → before j k ≡ true
+      → length (bodyOf v) ≡ m
       → Measured s (put k v t) k (y .place .left) (y .place .at) (x .rec .«entry_size») (y .rec)
   pub kept : near k ≡ true → y .extra ≡ x .extra
   pub passed : near k ≡ false → (y .place ≡ x .place) × (y .rec ≡ x .rec)

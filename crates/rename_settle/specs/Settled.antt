@@ -19,12 +19,14 @@ use Rattle.rename_settle.specs.declared.Settled.the-variants.{Done, Refu
 -- "11; 12", and 13 for a table of n bytes
 abbrev pub lastChecks : Memory → ℕ → Table → Tree → Path → Path → Check
 lastChecks m n t l a b =
-    charged m (moved t l a b) then keysFit m (rekey a b (carried t l a)) then unless 13 (leb (length (encode (moved t l a b))) n)
+    charged m (moved t l a b) then keysFit m (rekey a b (carried t l a))
+    then unless 13 (leb (length (encode (moved t l a b))) n)
 
 -- the same, by what was measured
 abbrev pub settledOf : Projected → ℕ → ℕ → Settled
 settledOf p limit n =
-    cond (leb (p .charge) limit) (cond (p .long) (Refused KeyTooLong) (cond (leb (p .rec .used) n) (Done (p .rec)) (Refused NoRoom))) (Refused Limit)
+    cond (leb (p .charge) limit) (cond (p .long) (Refused KeyTooLong)
+    (cond (leb (p .rec .used) n) (Done (p .rec)) (Refused NoRoom))) (Refused Limit)
 
 abbrev pub settledCheck : Settled → Check
 settledCheck (Done r) = pass

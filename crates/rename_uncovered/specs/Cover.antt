@@ -1,5 +1,5 @@
--- The flags of the one pass over a listing's part below a: at k, whether the first k bytes of the path just read are uncovered.
--- Only flags of listed paths are asked for, so the others may say anything, and none is ever cleared.
+-- The flags of the one pass over a listing's part below a: at k, whether the first k bytes of the path just read are
+-- uncovered. Only flags of listed paths are asked for, so the others may say anything, and none is ever cleared.
 use mathlib.Core.Path.{_≡_}
 use mathlib.Core.Bool.{Bool, true, false}
 use mathlib.Core.List.{List}
@@ -16,7 +16,8 @@ use Rattle.model.specs.Rename.{uncovered}
 pub record Covering (t : Table) (a : Path) (l : Tree) (f : List Bool) (p : Path) : Type 0 where
   pub flag : (k : ℕ) → k ≤ length p → isNone (lookup l (take k p)) ≡ false → getD f k false ≡ uncovered t a (take k p)
 
--- the path q is read behind p: it lies below a, nothing listed is between p and q, and every path between a and q is listed
+-- the path q is read behind p: it lies below a, nothing listed is between p and q, and every path between a and q is
+-- listed
 pub record Following (a : Path) (l : Tree) (p q : Path) : Type 0 where
   pub under : below a q ≡ true
   pub after : before p q ≡ true

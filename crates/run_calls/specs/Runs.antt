@@ -45,7 +45,12 @@ leftAfter listing [] s work = record { store = s; work = work; told = [] }
 leftAfter listing (x ∷ xs) s work =
     let o = outcome listing (requestOf x work) s in
     let l = leftAfter listing xs (o .store) (o .work) in
-    record { store = l .store; work = l .work; told = record { reply = o .reply; charge = o .store .rec .charge } ∷ l .told }
+    record {
+      store = l .store;
+      work = l .work;
+      told = record { reply = o .reply; charge = o .store .rec .charge }
+          ∷ l .told;
+    }
 
 -- a call's row in the report: number, path, length or value, and the charge, 64 bits each
 unfoldable pub rowBytes : Row → ℕ → Bytes

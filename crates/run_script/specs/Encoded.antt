@@ -1,5 +1,5 @@
--- The script that a list of calls, each with its limit, is written as; `stepsIn` of Script.antt reads the list again. And which steps can be written:
--- those whose numbers fit their fields.
+-- The script that a list of calls, each with its limit, is written as; `stepsIn` of Script.antt reads the list again.
+-- And which steps can be written: those whose numbers fit their fields.
 use mathlib.Core.Bool.{Bool, cond, _&&_}
 use mathlib.Core.List.{List, [], _∷_, _++_}
 use Prim.Native.Nat.{ℕ, _+_}

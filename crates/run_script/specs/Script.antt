@@ -1,4 +1,5 @@
--- A script: a list of changing calls, each with its limit, as bytes. Which bytes are one, and the calls that stand in it.
+-- A script: a list of changing calls, each with its limit, as bytes. Which bytes are one, and the calls that stand in
+-- it.
 use mathlib.Core.Bool.{Bool, cond, _&&_, _||_}
 use mathlib.Core.List.{List, [], _∷_}
 use Prim.Native.Nat.{ℕ, zero, suc, _+_, _/_, _%_}
@@ -16,8 +17,8 @@ pub record Step : Type 0 where
   pub call : Call
   pub limit : ℕ
 
--- A step: kind (8 bits), flags (8 bits), length of the first part (16 bits), length of the second part (32 bits), mtime bits (64), limit (64), then the
--- two parts.
+-- A step: kind (8 bits), flags (8 bits), length of the first part (16 bits), length of the second part (32 bits), mtime
+-- bits (64), limit (64), then the two parts.
 abbrev pub kindAt : Bytes → ℕ → ℕ
 kindAt s at = getD s at 0
 
@@ -75,7 +76,8 @@ stepCount s = numberAt s 4 4
 abbrev pub stepsIn : Bytes → List Step
 stepsIn s = stepsFrom s (stepCount s) 8
 
--- a kind k from 1 to 5; flags f only in mkdir; a second part, of m bytes, only in write and rename; mtime bits t only in write and mkdir
+-- a kind k from 1 to 5; flags f only in mkdir; a second part, of m bytes, only in write and rename; mtime bits t only
+-- in write and mkdir
 unfoldable pub ruled : ℕ → ℕ → ℕ → ℕ → Bool
 ruled k f m t =
     (ltb 0 k && ltb k 6)

@@ -1,12 +1,13 @@
-// Scripts: lists of changing calls as bytes, which of them are well-formed, and what stands in a step.
-// The check takes any bytes; what reads a step asks that its head stands there, or the whole step: only this repository's crates call it.
-// A check is one pass over the script's steps.
+// Scripts: lists of changing calls as bytes, which of them are well-formed, and what stands in a step. The check takes
+// any bytes; what reads a step asks that its head stands there, or the whole step: only this repository's crates call
+// it. A check is one pass over the script's steps.
 ghost use mathlib.Core.Path.{_≡_};
 ghost use mathlib.Core.Bool.{_&&_};
 ghost use Prim.Native.Nat.{_+_, _*_, _≤_, _<_};
 ghost use lib.Dec.{leb};
 ghost use lib.ListN.{length};
-ghost use Rattle.run_script.specs.Script.{ruled, fits, headed, marked, firstPart, secondPart, stepEnd, orderAt, stepCount, isScript, stepKind};
+ghost use Rattle.run_script.specs.Script.{ruled, fits, headed, marked, firstPart, secondPart, stepEnd, orderAt};
+ghost use Rattle.run_script.specs.Script.{stepCount, isScript, stepKind};
 use call_values::Kind;
 use call_values::Order;
 
@@ -17,6 +18,8 @@ const STEP_HEAD: usize = 24;
 
 // The bytes of a report's row, which a run writes for each step.
 pub const ROW_SIZE: usize = 32;
+
+const ROW_BYTES: u64 = ROW_SIZE as u64;
 
 // The kinds of steps, and the number behind the last.
 const WRITE: u64 = 1;
@@ -102,7 +105,8 @@ fn is_step(script: &[u8], at: usize) -> bool
     is_headed(script, at)
 }
 
-// Whether the bytes are a script. What does not stand there ends the pass, so the time is linear in the bytes, whatever is counted.
+// Whether the bytes are a script. What does not stand there ends the pass, so the time is linear in the bytes, whatever
+// is counted.
 pub fn check(script: &[u8]) -> bool
     ensures { λ r. ⌜ r ≡ isScript (now (script .entry)) ⌝ }
 {
@@ -182,5 +186,5 @@ pub fn has_rows(script: &[u8], len: usize) -> bool
     ensures { λ r. ⌜ r ≡ leb (32 * stepCount (now (script .entry))) len ⌝ }
 {
     let count = base_fields::le32(script, 4);
-    ROW_SIZE as u64 * count <= len as u64
+    ROW_BYTES * count <= len as u64
 }

@@ -1,6 +1,7 @@
-// The entries below a directory as one part in the middle of a table (`prefix_iter` of overlay_state.rs), and what is asked of such a part.
-// Assumes a table that agrees with its record, and parts that `below` gave: only this repository's crates call, after a check.
-// `below` reads the heads and keys up to the part's end, the others those of the part.
+// The entries below a directory as one part in the middle of a table (`prefix_iter` of overlay_state.rs), and what is
+// asked of such a part. Assumes a table that agrees with its record, and parts that `below` gave: only this
+// repository's crates call, after a check. `below` reads the heads and keys up to the part's end, the others those of
+// the part.
 ghost use mathlib.Core.Path.{_≡_};
 ghost use mathlib.Core.Bool.{true, not, _&&_};
 ghost use mathlib.Core.List.{[], _∷_, _++_};
@@ -24,7 +25,8 @@ pub struct Part {
 // The first entry from a place on whose key is not before that.
 fn seek_with(table: &[u8], place: table_entries::Place, dir: &[u8], b: u8) -> table_entries::Place
     requires { ⌜ Standing (now table) (place .left) (place .at) ⌝ }
-    ensures { λ r. ⌜ Sought (now (table .entry)) (now (dir .entry) ++ (b ∷ [])) (place .left) (place .at) (r .left) (r .at) ⌝ }
+    ensures { λ r. ⌜ Sought (now (table .entry)) (now (dir .entry) ++ (b ∷ [])) (place .left) (place .at) (r .left)
+        (r .at) ⌝ }
 {
     let mut at = place.at;
     let mut left = place.left;
@@ -42,10 +44,12 @@ fn seek_with(table: &[u8], place: table_entries::Place, dir: &[u8], b: u8) -> ta
     table_entries::Place { at: at, left: left }
 }
 
-// The entries below a directory: from its path with a slash up to, not including, its path with '0', the byte behind the slash.
+// The entries below a directory: from its path with a slash up to, not including, its path with '0', the byte behind
+// the slash.
 pub fn below(table: &[u8], rec: model::Record, dir: &[u8]) -> Part
     requires { ⌜ isTable (now table) rec ≡ true ⌝ }
-    ensures { λ r. ⌜ PartOf (now (table .entry)) (tableIn (now (table .entry)) rec) (now (dir .entry)) (r .from) (r .to) (r .count) ⌝ }
+    ensures { λ r. ⌜ PartOf (now (table .entry)) (tableIn (now (table .entry)) rec) (now (dir .entry)) (r .from) (r .to)
+        (r .count) ⌝ }
 {
     let first = table_entries::first_entry(table, rec);
     let start = seek_with(table, first, dir, b'/');
@@ -61,7 +65,8 @@ pub fn below(table: &[u8], rec: model::Record, dir: &[u8]) -> Part
 fn is_visible_child(part: &[u8], place: table_entries::Place, dir: &[u8]) -> bool
     requires { ⌜ Standing (now part) (place .left) (place .at) ⌝ }
     requires { ⌜ 0 < place .left ⌝ }
-    ensures { λ r. ⌜ r ≡ (child (now (dir .entry)) (keyAt (now (part .entry)) (place .at)) && not (isDeleted (entryAt (now (part .entry))
+    ensures { λ r. ⌜ r ≡ (child (now (dir .entry)) (keyAt (now (part .entry)) (place .at))
+        && not (isDeleted (entryAt (now (part .entry))
         (place .at)))) ⌝ }
 {
     let at = place.at;
@@ -90,7 +95,8 @@ pub fn has_visible_child(part: &[u8], count: u64, dir: &[u8]) -> bool
     false
 }
 
-// What moving one key of n bytes may take. A key below a path of `from` bytes is longer than that; of a shorter one nothing is asked.
+// What moving one key of n bytes may take. A key below a path of `from` bytes is longer than that; of a shorter one
+// nothing is asked.
 fn plan_of(n: u64, from: u64, to: u64) -> u64
     requires { ⌜ (n ≤ 512) × (to ≤ 512) ⌝ }
     ensures { λ r. ⌜ (from ≤ n → r ≡ 2 * n + (to + (n - from)) + 256) × (r ≤ 2304) ⌝ }
@@ -101,11 +107,13 @@ fn plan_of(n: u64, from: u64, to: u64) -> u64
     2 * n + (to + (n - from)) + model::ENTRY_MEMORY_USAGE
 }
 
-// The plan's sum over a part: what moving its keys from below a path of `from` bytes to below one of `to` bytes may take.
+// The plan's sum over a part: what moving its keys from below a path of `from` bytes to below one of `to` bytes may
+// take.
 pub fn plan_sum(part: &[u8], count: u64, from: u64, to: u64) -> u64
     requires { ⌜ Standing (now part) count 0 ⌝ }
     requires { ⌜ (from ≤ 512) × (to ≤ 512) ⌝ }
-    ensures { λ r. ⌜ ((a b : Path) → length a ≡ from → length b ≡ to → every (below a) (keys (entriesAt (now (part .entry)) count 0)) ≡ true
+    ensures { λ r. ⌜ ((a b : Path) → length a ≡ from → length b ≡ to
+        → every (below a) (keys (entriesAt (now (part .entry)) count 0)) ≡ true
         → r ≡ planned a b (entriesAt (now (part .entry)) count 0)) ⌝ }
 {
     let mut at = 0;

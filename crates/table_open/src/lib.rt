@@ -116,9 +116,10 @@ fn is_in_order(table: &[u8], at: usize, from: usize, to: usize) -> bool
     is_behind(table, at, from, to)
 }
 
-// Whether the bytes are a table and the record is its own. The entries are read once, from the first to the last, and each costs a fixed
-// number of passes over its key and, in a reference, its body; then the bytes behind them are read once. So the time is linear in the
-// table's bytes, whatever the record counts: an entry that does not stand there ends the pass.
+// Whether the bytes are a table and the record is its own. The entries are read once, from the first to the last, and
+// each costs a fixed number of passes over its key and, in a reference, its body; then the bytes behind them are read
+// once. So the time is linear in the table's bytes, whatever the record counts: an entry that does not stand there ends
+// the pass.
 pub fn check(table: &[u8], rec: model::Record) -> bool
     ensures { λ b. ⌜ b ≡ isTable (now (table .entry)) rec ⌝ }
 {
@@ -126,7 +127,8 @@ pub fn check(table: &[u8], rec: model::Record) -> bool
     if !is_sized(entry_size, table.len()) {
         return false;
     }
-    // The key before the entry at `at` stands from `from` up to `to`. At first that is the empty one, and so no key is empty.
+    // The key before the entry at `at` stands from `from` up to `to`. At first that is the empty one, and so no key is
+    // empty.
     let mut left = rec.count;
     let mut at: usize = 0;
     let mut from: usize = 0;
@@ -147,7 +149,8 @@ pub fn check(table: &[u8], rec: model::Record) -> bool
     (at as u64 == rec.used) & (charge == rec.charge) & base_fields::all_zero(table, at)
 }
 
-// Makes the buffer an empty table for entries of this size, and gives its record. What is too large is refused, and nothing changes.
+// Makes the buffer an empty table for entries of this size, and gives its record. What is too large is refused, and
+// nothing changes.
 pub fn open(buffer: &mut [u8], entry_size: u64) -> model::Answered
     ensures { λ r. ⌜ told (r .answer) ≡ opened «entry_size» (now (buffer .entry)) .reply ⌝ }
     ensures { λ r. ⌜ r .«record» ≡ opened «entry_size» (now (buffer .entry)) .store .rec ⌝ }
