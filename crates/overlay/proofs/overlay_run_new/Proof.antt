@@ -1,5 +1,8 @@
 -- `overlay_run_new` meets its contract: what the run gives, in one number and four; where the number is 0, it is done.
 use borrow.Author.Needs.{needs}
+use Rattle.model.specs.Runs.{State, begin}
+use Rattle.run_script.specs.Script.{stepsIn}
+use Rattle.run_calls.specs.Runs.{requests}
 use Rattle.overlay.proofs.Running.{not-run-new, not-done, new-settled, done-holds}
 use Rattle.overlay.proofs.overlay_run_new.Statement.{statement}
 use Rattle.overlay.proofs.overlay_run_new.Tie as tie
@@ -32,10 +35,11 @@ returns-2 c =
     let a = c .before .before .before .before .before .before .before .before .before .before .before .before .before .before .before .before .before .before .before .before .before .args in
     let f = c .before .before .before .before .before .before .before .before .before .before .before .before .before .before .if1 .left in
     let u = c .before .before .before .before .before .before .before .before .before .before .run-new in
-    let s = c .before .before .store-and-pack-run in (
+    let s = c .before .before .store-and-pack-run in
+    let x : State = begin (a .listing .now) (a .entry-size) (a .table .now) in (
       new-settled (a .listing .now) (a .entry-size) (a .table .now) (a .rec .now) (a .work .now) (a .script .now) (a .report .now) f
           (u .result) _ _ _ (u .ensures .0) (s .result) _ (s .ensures .0) (s .ensures .1),
-      done-holds (a .listing .now) _ _ _ _ _ (u .result) (s .result) _ (s .ensures .0) (s .ensures .1) (u .ensures .1),
+      done-holds (a .listing .now) x (requests (a .listing .now) (stepsIn (a .script .now)) (x .store) (a .work .now)) _ _ _ (u .result) (s .result) _ (s .ensures .0) (s .ensures .1) (u .ensures .1),
     )
 
 pub overlay-run-new-spec : {M : Type 1} → statement M
