@@ -1,7 +1,7 @@
 //! Replays the vectors of calls.jsonl and worked.jsonl against the library: every answer, record, table and work buffer
-//! must be as they say. The rows of docs/WORKED-CALLS.md must be those of worked.jsonl. With the name of a file it
-//! replays that one alone; with `--rows` it prints the rows of worked.jsonl. It says what it compared, and ends with
-//! status 1 at the first difference.
+//! must be as they say. The rows of docs/WORKED-CALLS.md must be those of worked.jsonl, and docs/DEFINITION.md may cite no
+//! other. With the name of a file it replays that one alone; with `--rows` it prints the rows of worked.jsonl. It says
+//! what it compared, and ends with status 1 at the first difference.
 mod json;
 mod sha256;
 mod worked;
@@ -149,7 +149,8 @@ fn worked_rows(file: &str) -> Result<Rows, String> {
 }
 
 fn compare() -> Result<(), String> {
-    let (calls, worked, page) = (beside("calls.jsonl"), beside("worked.jsonl"), beside("../../docs/WORKED-CALLS.md"));
+    let (calls, worked) = (beside("calls.jsonl"), beside("worked.jsonl"));
+    let (page, definition) = (beside("../../docs/WORKED-CALLS.md"), beside("../../docs/DEFINITION.md"));
     match env::args().nth(1).as_deref() {
         Some("--rows") => worked_rows(&worked)?.print(),
         Some(file) => replay_file(file)?,
@@ -158,6 +159,7 @@ fn compare() -> Result<(), String> {
             replay_file(&worked)?;
             let rows = worked_rows(&worked)?;
             rows.stand_in(&read(&page)?).map_err(|error| format!("{page}: {error}"))?;
+            rows.cited_in(&read(&definition)?).map_err(|error| format!("{definition}: {error}"))?;
             println!("worked calls: {} rows, in the page as in the vectors", rows.len());
         }
     }

@@ -334,6 +334,19 @@ impl Rows {
         }
     }
 
+    /// The rows that another page cites are there.
+    pub fn cited_in(&self, page: &str) -> Result<(), String> {
+        let part = |c: char| c.is_ascii_alphanumeric() || "_-".contains(c);
+        for word in page.split(|c| !part(c)) {
+            let Some((op, number)) = word.rsplit_once('-') else { continue };
+            let is_id = CAN_GIVE.iter().any(|(name, _)| *name == op) && number.bytes().all(|b| b.is_ascii_digit());
+            if is_id && !self.rows.contains_key(word) {
+                return Err(format!("no row is {word}"));
+            }
+        }
+        Ok(())
+    }
+
     pub fn len(&self) -> usize {
         self.rows.len()
     }
@@ -388,6 +401,8 @@ mod tests {
         let more = page.replace(ROW, &format!("{ROW}\n{}", ROW.replace("unlink-1", "unlink-2")));
         assert!(rows.stand_in(&more).unwrap_err().contains("no vector"));
         assert!(rows.stand_in(&page.replace(ROW, &format!("{ROW}\n{ROW}"))).unwrap_err().contains("twice"));
+        assert_eq!(rows.cited_in("An unlink (unlink-1) or a read-only write-up."), Ok(()));
+        assert!(rows.cited_in("(rename-7, unlink-1)").unwrap_err().contains("rename-7"));
         assert!(rows.covers().unwrap_err().contains("no row has"));
         assert!(rows.read(&parse(CALLS).unwrap()).unwrap_err().contains("two rows"));
     }
