@@ -1,7 +1,7 @@
-// rename's walk in its order: asked only where a link is reached and the budget is exceeded too, since there the one
-// that comes first is the answer. Assumes a listing and a table that were checked, and a path: only this repository's
-// crates call. A record or an entry is passed a few times at each of 32 levels, once for each of 20 halvings there, and
-// for each directory whose path it begins with.
+// rename's walk: a directory's listed children without an entry are visited in ascending order, then the directories
+// among them entered, the last found first. A stretch of records is entered by halves, the second first, since a listing
+// can only be read forward. Assumes a listing and a table that were checked, and a path: only this repository's crates
+// call. A record or an entry is passed a few times at each of 32 levels, once for each of 20 halvings there.
 ghost use mathlib.Core.Path.{_≡_};
 ghost use mathlib.Core.Bool.{true, _&&_};
 ghost use mathlib.Core.Option.{some};
@@ -21,6 +21,8 @@ ghost use Rattle.table_entries.specs.Place.{Standing, Sought};
 ghost use Rattle.table_entries.specs.Cut.{since};
 ghost use Rattle.rename_walk.specs.Walked.{walkOf, ended};
 ghost use Rattle.rename_walk.specs.Stretch.{endAfter, slashed, lead, Under, Halved, entered};
+use base_budget::MemoryBudget;
+use base_budget::Shrunk;
 
 // What the walk comes to: a sum, or its end above the budget or at a link.
 pub enum Walked {
@@ -55,23 +57,23 @@ pub struct Seen {
 }
 
 // A cost added to a sum. It is compared with what the budget leaves, so that no addition can overflow.
-fn added(total: u64, cost: u64, budget: u64) -> Walked
-    ensures { λ r. ⌜ walkOf r ≡ inBudget (some budget) (total + cost) ⌝ }
+fn added(total: u64, cost: u64, budget: MemoryBudget) -> Walked
+    ensures { λ r. ⌜ walkOf r ≡ inBudget (some (budget .available)) (total + cost) ⌝ }
 {
-    if budget < total {
+    let Shrunk::Left(rest) = budget.shrink(total) else {
         return Walked::OverBudget;
+    };
+    if rest.check(cost) {
+        return Walked::Sum(total + cost);
     }
-    if budget - total < cost {
-        return Walked::OverBudget;
-    }
-    Walked::Sum(total + cost)
+    Walked::OverBudget
 }
 
 // One node visited, at a path of `len` bytes: a link ends the walk. A listed node is never absent.
-fn visit_from(total: u64, found: listing_records::Found, len: u64, budget: u64) -> Walked
+fn visit_from(total: u64, found: listing_records::Found, len: u64, budget: MemoryBudget) -> Walked
     requires { ⌜ len ≤ 16777216 ⌝ }
     ensures { λ r. ⌜ ((p : Path) (n : Node) → found ≡ foundOf (some n) → len ≡ length p
-        → walkOf r ≡ visit (some budget) (rename.sum total) p n) ⌝ }
+        → walkOf r ≡ visit (some (budget .available)) (rename.sum total) p n) ⌝ }
 {
     match found {
         listing_records::Found::Directory(_) => {
@@ -90,10 +92,10 @@ fn visit_from(total: u64, found: listing_records::Found, len: u64, budget: u64) 
 }
 
 // The same of a walk that may have ended: then it stays so.
-fn visited(walked: Walked, found: listing_records::Found, len: u64, budget: u64) -> Walked
+fn visited(walked: Walked, found: listing_records::Found, len: u64, budget: MemoryBudget) -> Walked
     requires { ⌜ len ≤ 16777216 ⌝ }
     ensures { λ r. ⌜ ((p : Path) (n : Node) → found ≡ foundOf (some n) → len ≡ length p
-        → walkOf r ≡ visit (some budget) (walkOf walked) p n) ⌝ }
+        → walkOf r ≡ visit (some (budget .available)) (walkOf walked) p n) ⌝ }
 {
     match walked {
         Walked::Sum(total) => {
@@ -183,13 +185,13 @@ fn visit_record(
     table: &[u8],
     place: table_entries::Place,
     dir: &[u8],
-    budget: u64,
+    budget: MemoryBudget,
     walked: Walked,
 ) -> Seen
     requires { ⌜ listing.Standing (now records) (here .left) (here .at) ⌝ }
     requires { ⌜ 0 < here .left ⌝ }
     requires { ⌜ Standing (now table) (place .left) (place .at) ⌝ }
-    ensures { λ r. ⌜ walkOf (r .walked) ≡ visits (some budget) (walkOf walked)
+    ensures { λ r. ⌜ walkOf (r .walked) ≡ visits (some (budget .available)) (walkOf walked)
         (children (entriesAt (now (table .entry)) (place .left) (place .at))
         (treeAt (now (records .entry)) 1 (here .at)) (now (dir .entry))) ⌝ }
     ensures { λ r. ⌜ Sought (now (table .entry)) (recordAt (now (records .entry)) (here .at) .path) (place .left)
@@ -221,13 +223,13 @@ fn visit_children(
     table: &[u8],
     place: table_entries::Place,
     dir: &[u8],
-    budget: u64,
+    budget: MemoryBudget,
     walked: Walked,
 ) -> Walked
     requires { ⌜ listing.Standing (now records) (stretch .left) (stretch .at) ⌝ }
     requires { ⌜ stretch .count ≤ stretch .left ⌝ }
     requires { ⌜ Standing (now table) (place .left) (place .at) ⌝ }
-    ensures { λ r. ⌜ walkOf r ≡ visits (some budget) (walkOf walked)
+    ensures { λ r. ⌜ walkOf r ≡ visits (some (budget .available)) (walkOf walked)
         (children (entriesAt (now (table .entry)) (place .left) (place .at))
         (treeAt (now (records .entry)) (stretch .count) (stretch .at)) (now (dir .entry))) ⌝ }
 {
@@ -372,7 +374,7 @@ fn enter_record(
     table: &[u8],
     place: table_entries::Place,
     dir: &[u8],
-    budget: u64,
+    budget: MemoryBudget,
     walked: Walked,
     depth: u64,
 ) -> Walked
@@ -380,7 +382,7 @@ fn enter_record(
     requires { ⌜ 0 < here .left ⌝ }
     requires { ⌜ Standing (now table) (place .left) (place .at) ⌝ }
     ensures { λ r. ⌜ walkOf r ≡ entered depth (entriesAt (now (table .entry)) (place .left) (place .at))
-        (treeAt (now (records .entry)) (here .left) (here .at)) (some budget) (now (dir .entry))
+        (treeAt (now (records .entry)) (here .left) (here .at)) (some (budget .available)) (now (dir .entry))
         (treeAt (now (records .entry)) 1 (here .at)) (walkOf walked) ⌝ }
 {
     if depth == 0 {
@@ -407,7 +409,7 @@ fn enter_stretch(
     table: &[u8],
     place: table_entries::Place,
     dir: &[u8],
-    budget: u64,
+    budget: MemoryBudget,
     walked: Walked,
     depth: u64,
 ) -> Walked
@@ -415,7 +417,7 @@ fn enter_stretch(
     requires { ⌜ stretch .count ≤ stretch .left ⌝ }
     requires { ⌜ Standing (now table) (place .left) (place .at) ⌝ }
     ensures { λ r. ⌜ walkOf r ≡ entered depth (entriesAt (now (table .entry)) (place .left) (place .at))
-        (treeAt (now (records .entry)) (stretch .left) (stretch .at)) (some budget) (now (dir .entry))
+        (treeAt (now (records .entry)) (stretch .left) (stretch .at)) (some (budget .available)) (now (dir .entry))
         (treeAt (now (records .entry)) (stretch .count) (stretch .at)) (walkOf walked) ⌝ }
 {
     let count = stretch.count;
@@ -439,20 +441,21 @@ fn enter_stretch(
 }
 
 // The walk below a source, from 2 × its length + 1 on: its children are visited, then the directories among them
-// entered. A path has at most 32 components, so 32 levels, of which the source's children are the first, reach all that
+// entered. The Rust's function of this name collects what the walk finds; here nothing is collected, and the sum is
+// answered. A path has at most 32 components, so 32 levels, of which the source's children are the first, reach all that
 // is listed.
-pub fn walk_in_order(
+pub fn collect_real_descendants(
     listing: &[u8],
     table: &[u8],
     rec: model::Record,
     source: &[u8],
-    budget: u64,
+    budget: MemoryBudget,
 ) -> Walked
     requires { ⌜ isListing (now listing) ≡ true ⌝ }
     requires { ⌜ isTable (now table) rec ≡ true ⌝ }
     requires { ⌜ isPath (now source) ≡ true ⌝ }
     ensures { λ r. ⌜ walkOf r ≡ walkFrom (tableIn (now (table .entry)) rec) (treeIn (now (listing .entry)))
-        (some budget) (now (source .entry)) ⌝ }
+        (some (budget .available)) (now (source .entry)) ⌝ }
 {
     let start = 2 * source.len() as u64 + 1;
     let first = listing_records::first_record(listing);

@@ -1,10 +1,10 @@
--- `walk_in_order` meets its contract: 32 levels are as deep as any listing goes.
+-- `collect_real_descendants` meets its contract: 32 levels are as deep as any listing goes.
 use mathlib.Core.Path.{refl}
 use borrow.Author.Needs.{needs}
 use Rattle.rename_walk.specs.Walked.{walkOf}
 use Rattle.rename_walk.proofs.Descents.{from-source}
-use Rattle.rename_walk.proofs.walk_in_order.Statement.{statement}
-use Rattle.rename_walk.proofs.walk_in_order.Tie as tie
+use Rattle.rename_walk.proofs.collect_real_descendants.Statement.{statement}
+use Rattle.rename_walk.proofs.collect_real_descendants.Tie as tie
 
 mul-start : tie.Need-mul-start
 mul-start c = search needs
@@ -36,11 +36,11 @@ returns c =
     let o = c .before .before .stretch-below in
     let v = c .before .visit-children in
     let r = c .enter-stretch in
-    from-source (a .listing .now) (a .table .now) (a .source .now) (a .rec) (a .budget) (i .pre .0) (f .result) (f .ensures .0) (e .result) (e .ensures .0)
+    from-source (a .listing .now) (a .table .now) (a .source .now) (a .rec) (a .budget .available) (i .pre .0) (f .result) (f .ensures .0) (e .result) (e .ensures .0)
     (o .result .left) (o .result .at) (o .result .count) (o .ensures) _ (walkOf (v .result)) (walkOf (r .result)) refl (v .ensures) (r .ensures)
 
-pub walk-in-order-spec : {M : Type 1} → statement M
-walk-in-order-spec =
+pub collect-real-descendants-spec : {M : Type 1} → statement M
+collect-real-descendants-spec =
     tie.close
     (tie.spec
     mul-start
