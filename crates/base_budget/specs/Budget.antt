@@ -1,5 +1,5 @@
--- What a memory budget answers. `shrink` on what is free of a limit is document 01's plan: "… the rest is the walk's budget".
--- Assumes nothing.
+-- What a memory budget answers. `shrink` on what is free of a limit is document 01's plan: "… the rest is the walk's
+-- budget".
 use mathlib.Core.Bool.{Bool, cond}
 use Prim.Native.Nat.{ℕ, _-_}
 use lib.Dec.{leb}
@@ -13,4 +13,5 @@ covers b n = leb n (b .available)
 
 -- the budget with n fewer available, or none where n is above it
 abbrev pub shrunk : MemoryBudget → ℕ → Shrunk
-shrunk b n = cond (covers b n) (Left (record { available = b .available - n; limit = b .limit })) (MemoryUsageLimitExceeded (b .limit))
+shrunk b n = cond (covers b n) (Left (record { available = b .available - n; limit = b .limit }))
+    (MemoryUsageLimitExceeded (b .limit))

@@ -1,5 +1,5 @@
-// MemoryBudget of common.rs: what a call may still charge. The Rust's listing and host reading are left out, and so is `halved`, which only listing uses.
-// A budget is a value: to shrink it is to make another.
+// MemoryBudget of common.rs: what a call may still charge. The Rust's listing and host reading are left out, and so is
+// `halved`, which only listing uses. A budget is a value: to shrink it is to make another.
 ghost use mathlib.Core.Path.{_≡_};
 ghost use Rattle.base_budget.specs.Budget.{covers, shrunk};
 

@@ -1,6 +1,5 @@
 -- The order of byte strings by the bytes that two have in common.
 -- `Lt`, the order as a type, with its transitivity, is of `model`.
--- Assumes nothing.
 use mathlib.Core.Path.{_≡_, refl, sym, _∙_}
 use mathlib.Core.Bool.{true, false}
 use mathlib.Core.Logic.{inl, inr}

@@ -1,5 +1,4 @@
 -- Laws of `overwritten`: its length, what stands before and behind it, and two writes in a row.
--- Assumes nothing.
 use mathlib.Core.Path.{_≡_, sym, ap, ap₂, _∙_}
 use mathlib.Core.List.{[], _∷_, _++_, append-assoc, append-nil}
 use Prim.Native.Nat.{ℕ, suc, _+_, _/_, _^_, _<_, _≤_}

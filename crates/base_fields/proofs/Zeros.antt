@@ -1,5 +1,4 @@
 -- Bytes that are all 0: the test as an equation, and the loops that test and write them.
--- Assumes nothing.
 use mathlib.Core.Path.{_≡_, refl, sym, ap, ap₂, _∙_}
 use mathlib.Core.Bool.{true, false}
 use mathlib.Core.List.{[], _∷_, _++_, append-assoc, append-nil}

@@ -1,5 +1,4 @@
 -- What is read of byte strings, beside the numbers and the order that `model` defines.
--- Assumes nothing.
 use mathlib.Core.Bool.{Bool, true, cond, _&&_}
 use mathlib.Core.List.{[], _∷_}
 use Prim.Native.Nat.{ℕ, suc, _-_}

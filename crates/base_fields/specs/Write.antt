@@ -1,5 +1,4 @@
 -- What a write leaves in a buffer.
--- Assumes nothing.
 use mathlib.Core.List.{_++_}
 use Prim.Native.Nat.{ℕ, _+_}
 use lib.ListN.{length, take, drop}

@@ -1,5 +1,4 @@
 -- The cursor over the proper ancestors of a path: its answers are, one after the other, the ends of `ancestors`, from the top.
--- Assumes nothing.
 use mathlib.Core.Path.{_≡_, refl, sym, ap, _∙_}
 use mathlib.Core.Bool.{true}
 use mathlib.Core.List.{List, [], _∷_, _++_, map}

@@ -1,6 +1,5 @@
 -- The table of classes: one computed test compares the class of each of the 256 bytes with its row in RFC 3629's grammar. And by the
 -- row, the ranges of the bytes that follow.
--- Assumes nothing.
 use mathlib.Core.Path.{_≡_, refl, ap, _∙_}
 use mathlib.Core.Bool.{Bool, true}
 use mathlib.Core.List.{List, [], _∷_, _++_}

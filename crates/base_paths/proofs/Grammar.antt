@@ -1,6 +1,5 @@
 -- `utf8`, which reads a byte at a time and takes the first row that begins with it, is the grammar of RFC 3629: bytes are UTF-8 exactly if
 -- they are characters one behind the other, each of which fits some row.
--- Assumes nothing.
 use mathlib.Core.Path.{_≡_, refl, sym, ap, subst, _∙_}
 use mathlib.Core.Bool.{Bool, true, false, _&&_}
 use mathlib.Core.List.{List, [], _∷_, _++_}

@@ -5,3 +5,7 @@ pub mod Scans
 pub mod Pass
 pub mod Ancestors
 pub mod Grammar
+pub mod Related
+pub mod Components
+pub mod Parents
+pub mod Ends

@@ -1,5 +1,4 @@
 -- What the loop of `is_path` keeps, and what it gives at its end.
--- Assumes nothing.
 use mathlib.Core.Path.{_≡_, refl, sym, ap, _∙_}
 use mathlib.Core.Bool.{Bool, true, false, _&&_, and-assoc, and-comm}
 use mathlib.Core.List.{[], _∷_}
@@ -13,7 +12,7 @@ use borrow.Author.Tests.{le-leb, lt-leb}
 use Rattle.model.specs.Bytes.{Bytes, every}
 use Rattle.model.specs.Utf8.{_to_, characters, utf8}
 use Rattle.model.specs.Path.{Path, component, components, isRoot, isPath}
-use Rattle.base_paths.specs.Scan.{pending, sized, ended, scan, rest}
+use Rattle.base_paths.specs.Scan.{pending, sizedName, ended, scan, completes}
 use Rattle.base_paths.specs.declared.utf8.Tail.{Tail}
 use Rattle.base_paths.specs.declared.names.Names.{Names}
 use Rattle.base_paths.proofs.Tails.{at-end}
@@ -34,7 +33,7 @@ pub record Kept (s : Bytes) (t : Tail) (n : Names) (i : ℕ) : Type 0 where
   pub few-bytes : n .len ≤ i
   pub few-names : n .before ≤ i
   pub text : characters (pending t) (drop i s) ≡ utf8 s
-  pub names : rest n (drop i s) ≡ scan 0 true 0 s
+  pub names : completes n (drop i s) ≡ scan 0 true 0 s
 
 pub too-long : (s : Path) → 512 < length s → false ≡ isPath s
 too-long s h = rw (lt-leb (length s) 512 h)
@@ -54,8 +53,8 @@ turned a b c = sym (and-assoc a b c) ∙ ap (λ (t : Bool). t && c) (and-comm a 
 module _ (s : Path) (t : Tail) (n : Names) (i : ℕ) (kept : Kept s t n i) (done : length s ≤ i) where
   at-names : (ended n && ltb (n .before) 32) ≡ (leb (length (components s)) 32 && every component (components s))
   at-names =
-      and-assoc (n .ok) (sized (n .len) (n .dots)) (ltb (n .before) 32)
-      ∙ sym (ap (rest n) (drop-of-length-le s done))
+      and-assoc (n .ok) (sizedName (n .len) (n .dots)) (ltb (n .before) 32)
+      ∙ sym (ap (completes n) (drop-of-length-le s done))
       ∙ kept .names
       ∙ whole s
 

@@ -1,6 +1,5 @@
 -- Laws of `scan`, what the bytes to come must be after a state of `Names`: from the start it says what the definition says of the
 -- components of a path.
--- Assumes nothing.
 use mathlib.Core.Path.{_≡_, refl, sym, ap, _∙_}
 use mathlib.Core.Bool.{Bool, true, false, not, _&&_, and-true, and-false, and-assoc, and-comm}
 use mathlib.Core.List.{List, [], _∷_}
@@ -13,12 +12,12 @@ use borrow.Author.Tests.{eq-eqb, ne-eqb, lt-leb}
 use Rattle.model.specs.Bytes.{Bytes, every, same}
 use Rattle.model.specs.Path.{Path, allowed, component, components}
 use Rattle.model.proofs.Orders.{yea, nay, test, same-cons}
-use Rattle.base_paths.specs.Scan.{sized, scan}
+use Rattle.base_paths.specs.Scan.{sizedName, scan}
 
 -- one byte of the code's pass
 module _ (ok : Bool) (n : ℕ) (d : Bool) (k b : ℕ) (s : Bytes) where
-  pub at-slash : (r : Bool) → b ≡ 47 → r ≡ (ok && sized n d) → (r && scan 0 true (k + 1) s) ≡ (ok && scan n d k (b ∷ s))
-  at-slash r h e = rw (e, eq-eqb b 47 h) (and-assoc ok (sized n d) (scan 0 true (k + 1) s))
+  pub at-slash : (r : Bool) → b ≡ 47 → r ≡ (ok && sizedName n d) → (r && scan 0 true (k + 1) s) ≡ (ok && scan n d k (b ∷ s))
+  at-slash r h e = rw (e, eq-eqb b 47 h) (and-assoc ok (sizedName n d) (scan 0 true (k + 1) s))
 
   pub at-byte : (r : Bool) → (b ≡ 47 → ⊥) → r ≡ allowed b
       → (ok && r && scan (n + 1) (d && eqb b 46) k s) ≡ (ok && scan n d k (b ∷ s))
@@ -29,13 +28,13 @@ dots c = every (λ b. eqb b 46) c
 
 -- n bytes that are allowed, dots only if d says so, and then c, are a component
 abbrev begun : ℕ → Bool → Bytes → Bool
-begun n d c = sized (n + length c) (d && dots c) && every allowed c
+begun n d c = sizedName (n + length c) (d && dots c) && every allowed c
 
 longer : (a d e : Bool) {s t l : Bool} → s ≡ false → t ≡ false → l ≡ false → (a && not s && not t && e) ≡ (a && not (d && l) && e)
 longer a d e p q r = simp (p, q, r, and-true, and-false)
 
 -- a component, by its length and by whether it is dots only
-by-size : (c : Bytes) → component c ≡ (sized (length c) (dots c) && every allowed c)
+by-size : (c : Bytes) → component c ≡ (sizedName (length c) (dots c) && every allowed c)
 by-size [] = refl
 by-size (x ∷ []) =
     let e = same-cons x 46 [] [] in
@@ -61,31 +60,31 @@ held n d k (c ∷ cs) = leb (k + length (c ∷ cs)) 32 && (begun n d c && every 
 
 -- no byte was read
 fresh : (c : Bytes) → begun 0 true c ≡ component c
-fresh c = ap (λ (m : ℕ). sized m (dots c) && every allowed c) (zero-add (length c)) ∙ sym (by-size c)
+fresh c = ap (λ (m : ℕ). sizedName m (dots c) && every allowed c) (zero-add (length c)) ∙ sym (by-size c)
 
 -- no byte follows
-over : (n : ℕ) (d : Bool) → begun n d [] ≡ sized n d
+over : (n : ℕ) (d : Bool) → begun n d [] ≡ sizedName n d
 over n d = let f : n + 0 ≡ n = omega arith in simp (f, and-true)
 
 held-end : (n : ℕ) (d : Bool) (k : ℕ) → scan n d k [] ≡ held n d k ([] ∷ [])
 held-end n d k =
     let e : k + 1 ≡ suc k = omega arith in
-    rw (over n d, and-true, e) (and-comm (sized n d) (ltb k 32))
+    rw (over n d, and-true, e) (and-comm (sizedName n d) (ltb k 32))
 
 swap : (a b c : Bool) → (a && (b && c)) ≡ (b && (a && c))
 swap true b c = refl
 swap false b c = sym (and-false b)
 
 module _ (n : ℕ) (d : Bool) (k : ℕ) (c : Bytes) (cs : List Bytes) where
-  held-slash : (sized n d && held 0 true (k + 1) (c ∷ cs)) ≡ held n d k ([] ∷ c ∷ cs)
+  held-slash : (sizedName n d && held 0 true (k + 1) (c ∷ cs)) ≡ held n d k ([] ∷ c ∷ cs)
   held-slash =
       let e : k + 1 + length (c ∷ cs) ≡ k + length ([] ∷ c ∷ cs) = omega arith in
-      rw (over n d, fresh c, e) (swap (sized n d) (leb (k + length ([] ∷ c ∷ cs)) 32) (component c && every component cs))
+      rw (over n d, fresh c, e) (swap (sizedName n d) (leb (k + length ([] ∷ c ∷ cs)) 32) (component c && every component cs))
 
   more : (b : ℕ) → begun n d (b ∷ c) ≡ (allowed b && begun (n + 1) (d && eqb b 46) c)
   more b =
       let e : n + 1 + length c ≡ n + length (b ∷ c) = omega arith in
-      rw (e, and-assoc d (eqb b 46) (dots c)) (swap (sized (n + length (b ∷ c)) (d && dots (b ∷ c))) (allowed b) (every allowed c))
+      rw (e, and-assoc d (eqb b 46) (dots c)) (swap (sizedName (n + length (b ∷ c)) (d && dots (b ∷ c))) (allowed b) (every allowed c))
 
   held-byte : (b : ℕ) → (allowed b && held (n + 1) (d && eqb b 46) k (c ∷ cs)) ≡ held n d k ((b ∷ c) ∷ cs)
   held-byte b =

@@ -1,5 +1,4 @@
 -- Laws of `characters` at the ranges that a `Tail` stands for.
--- Assumes nothing.
 use mathlib.Core.Path.{_≡_, refl, sym}
 use mathlib.Core.Bool.{true, false}
 use mathlib.Core.List.{[], _∷_}

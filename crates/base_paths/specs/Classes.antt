@@ -1,5 +1,4 @@
 -- The class of a byte: the number of the row of RFC 3629's grammar that begins with it.
--- Assumes nothing.
 use mathlib.Core.Bool.{cond}
 use mathlib.Core.List.{List, [], _∷_}
 use Prim.Native.Nat.{ℕ, zero, suc}

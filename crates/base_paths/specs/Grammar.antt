@@ -1,5 +1,5 @@
--- UTF-8 as the productions of RFC 3629, section 4, have it: "UTF8-octets = *( UTF8-char )", and a UTF8-char is the bytes of one row.
--- Assumes nothing.
+-- UTF-8 as the productions of RFC 3629, section 4, have it: "UTF8-octets = *( UTF8-char )", and a UTF8-char is the
+-- bytes of one row.
 use mathlib.Core.Path.{_≡_}
 use mathlib.Core.Bool.{Bool, true, false, _&&_}
 use mathlib.Core.List.{List, [], _∷_, _++_}

@@ -1,5 +1,4 @@
 -- What the states of the one pass stand for: what the bytes still to come must be.
--- Assumes nothing.
 use mathlib.Core.Bool.{Bool, true, cond, not, _&&_}
 use mathlib.Core.List.{List, [], _∷_}
 use Prim.Native.Nat.{ℕ, zero, suc, _+_}
@@ -20,19 +19,19 @@ abbrev pub pending : Tail → List Range
 pending t = ranges (t .need) (t .low to t .high)
 
 -- a component of n bytes is 1 to 255 bytes, and not one or two dots; d: it has dots only
-abbrev pub sized : ℕ → Bool → Bool
-sized n d = leb 1 n && leb n 255 && not (d && leb n 2)
+abbrev pub sizedName : ℕ → Bool → Bool
+sizedName n d = leb 1 n && leb n 255 && not (d && leb n 2)
 
 abbrev pub ended : Names → Bool
-ended n = n .ok && sized (n .len) (n .dots)
+ended n = n .ok && sizedName (n .len) (n .dots)
 
 -- the bytes to come complete the components of a path, after k components and n bytes of the next
 abbrev pub scan : ℕ → Bool → ℕ → Bytes → Bool
-scan n d k [] = sized n d && ltb k 32
+scan n d k [] = sizedName n d && ltb k 32
 scan n d k (b ∷ s) =
     cond (eqb b 47)
-    (sized n d && scan 0 true (k + 1) s)
+    (sizedName n d && scan 0 true (k + 1) s)
     (allowed b && scan (n + 1) (d && eqb b 46) k s)
 
-abbrev pub rest : Names → Bytes → Bool
-rest n s = n .ok && scan (n .len) (n .dots) (n .before) s
+abbrev pub completes : Names → Bytes → Bool
+completes n s = n .ok && scan (n .len) (n .dots) (n .before) s

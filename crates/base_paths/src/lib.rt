@@ -1,18 +1,27 @@
-// Whether bytes are a path of document 01's form, in one pass, and the proper ancestors of a path, from the top.
-// Assumes nothing: all bytes are taken.
+// Paths: whether bytes are one, in one pass, and what is asked of paths. All functions on paths alone stand in this
+// crate. The counterpart of path_security.rs.
 mod names;
+mod prefixes;
+mod relations;
+mod sizes;
 mod utf8;
 
 use names::Names;
 use names::is_ended;
 use names::next_names;
+pub use prefixes::Dirs;
+pub use prefixes::next_ancestor;
+pub use prefixes::parent_end;
+pub use prefixes::with_end;
+pub use relations::is_before_with;
+pub use relations::is_below;
+pub use relations::is_child;
+pub use sizes::component_count;
+pub use sizes::is_short;
 pub use utf8::Tail;
 pub use utf8::next_tail;
 ghost use mathlib.Core.Path.{_≡_};
-ghost use Prim.Native.Nat.{_≤_};
-ghost use lib.ListN.{length};
 ghost use Rattle.model.specs.Path.{isPath};
-ghost use Rattle.base_paths.specs.Ancestors.{nextSlash};
 
 // Whether s is a path.
 pub fn is_path(s: &[u8]) -> bool
@@ -42,20 +51,4 @@ pub fn is_path(s: &[u8]) -> bool
         i += 1;
     }
     (t.need == 0) & (is_ended(n) & (n.before < model::DEPTH_MAX))
-}
-
-// Where the first proper ancestor of path ends whose end is at from or behind it; path's length where there is none.
-pub fn next_ancestor(path: &[u8], from: usize) -> usize
-    requires { ⌜ from ≤ length (now path) ⌝ }
-    ensures { λ r. ⌜ r ≡ nextSlash (now (path .entry)) from ⌝ }
-    ensures { λ r. ⌜ (from ≤ r) × (r ≤ length (now (path .entry))) ⌝ }
-{
-    let mut i = from;
-    while i < path.len() {
-        if path[i] == b'/' {
-            return i;
-        }
-        i += 1;
-    }
-    path.len()
 }

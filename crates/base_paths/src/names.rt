@@ -1,10 +1,10 @@
-// The components of a path, a byte at a time: whether those that were read are in order, and the bytes of the one that is being read.
-// Assumes of a state only that it counts fewer than 512 bytes and components, as many as a path has.
+// The components of a path, a byte at a time: whether those that were read are in order, and the bytes of the one that
+// is being read. Assumes of a state only that it counts fewer than 512 bytes and components, as many as a path has.
 ghost use mathlib.Core.Path.{_≡_};
 ghost use mathlib.Core.List.{List, _∷_};
 ghost use Prim.Native.Nat.{ℕ, _+_, _≤_, _<_};
 ghost use Rattle.model.specs.Path.{allowed};
-ghost use Rattle.base_paths.specs.Scan.{ended, rest};
+ghost use Rattle.base_paths.specs.Scan.{ended, completes};
 
 // The component that is being read, and those before it.
 pub struct Names {
@@ -35,7 +35,7 @@ pub fn is_ended(n: Names) -> bool
 // The state after one more byte.
 pub fn next_names(n: Names, b: u8) -> Names
     requires { ⌜ (n .len < 512) × (n .before < 512) ⌝ }
-    ensures { λ r. ⌜ ((s : List ℕ) → rest r s ≡ rest n (b ∷ s)) ⌝ }
+    ensures { λ r. ⌜ ((s : List ℕ) → completes r s ≡ completes n (b ∷ s)) ⌝ }
     ensures { λ r. ⌜ (r .len ≤ n .len + 1) × (r .before ≤ n .before + 1) ⌝ }
 {
     let len = n.len;

@@ -1,5 +1,4 @@
 -- From checks and an insertion to the outcome of a call: the checks before 11 decide, or the insertion does.
--- Assumes nothing.
 use mathlib.Core.Path.{_≡_, refl, ap, sym, _∙_}
 use Prim.Native.Nat.{ℕ}
 use lib.Dec.{leb}
@@ -19,7 +18,7 @@ use Rattle.model.proofs.Orders.{test, yea, nay}
 use Rattle.table_insert.specs.declared.Inserted.{Inserted}
 use Rattle.table_insert.specs.declared.Inserted.the-variants as inserted
 use Rattle.table_insert.specs.Insert.{insertion, ifDone}
-use Rattle.check_parents.specs.Judged.{asCheck}
+use Rattle.check_judged.specs.Judged.{asCheck}
 use Rattle.call_answer.specs.Meets.{Meets, answeredOf}
 
 pub then-assoc : (a b c : Check) → ((a then b) then c) ≡ (a then (b then c))

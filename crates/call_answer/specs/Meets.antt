@@ -1,5 +1,4 @@
 -- What a call leaves, beside the outcome that the definition gives.
--- Assumes nothing.
 use mathlib.Core.Path.{_≡_}
 use Prim.Native.Nat.{ℕ}
 use Rattle.model.specs.Bytes.{Bytes}

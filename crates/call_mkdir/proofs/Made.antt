@@ -1,5 +1,4 @@
 -- The directories that mkdir makes: put by where they end in the path, they give the table of the definition.
--- Assumes nothing.
 use mathlib.Core.Path.{_≡_, refl, sym, ap, ap₂, _∙_}
 use mathlib.Core.Bool.{Bool, true, false, cond, _||_}
 use mathlib.Core.List.{List, [], _∷_, _++_, map}
@@ -21,7 +20,8 @@ use Rattle.model.specs.declared.Record.{Record}
 use Rattle.model.proofs.Orders.{bot, yea, nay, test, mem}
 use Rattle.model.proofs.Maps.{Ascending, orElse, lookup-puts, lookup-each, ascending-puts, ascends-is, map-ext}
 use Rattle.model.proofs.Codec.{decoded}
-use Rattle.check_parents.specs.Dirs.{missingEnds, climbs, prefixes}
+use Rattle.base_paths.specs.Dirs.{climbs, prefixes}
+use Rattle.check_parents.specs.Missing.{missingEnds}
 
 -- the ancestors of a path are what ends where they end, and so are the missing ones
 longer : (b : ℕ) (p : Path) (qs : List Path) → prefixes p (map length qs) ≡ qs

@@ -1,5 +1,4 @@
 -- From the step that mkdir takes to its outcome: refused, accepted as it stands, or as the insertion answers.
--- Assumes nothing.
 use mathlib.Core.Path.{_≡_, refl, sym, ap, _∙_}
 use mathlib.Core.Bool.{Bool, true, _&&_}
 use mathlib.Core.List.{List, [], _++_}
@@ -25,11 +24,11 @@ use Rattle.model.proofs.Codec.{decoded}
 use Rattle.base_fields.proofs.Zeros.{zeroed-all}
 use Rattle.table_insert.specs.declared.Inserted.{Inserted}
 use Rattle.table_insert.specs.Insert.{insertion, ifDone}
-use Rattle.check_parents.specs.Judged.{asCheck}
-use Rattle.check_parents.proofs.Checked.{refusal-refuses, refused-stops}
+use Rattle.check_judged.specs.Judged.{asCheck}
+use Rattle.check_judged.proofs.Checked.{refusal-refuses, refused-stops}
 use Rattle.call_answer.specs.Meets.{requested, stored, Meets, answeredOf}
 use Rattle.call_answer.proofs.Settles.{last, refused-meets, inserted-meets}
-use Rattle.call_answer.proofs.Firsts.{firsts}
+use Rattle.check_lent.proofs.Firsts.{firsts}
 use Rattle.call_mkdir.specs.Step.{afterStep}
 use Rattle.call_mkdir.specs.declared.Step.{Step}
 use Rattle.call_mkdir.specs.declared.Step.the-variants as step

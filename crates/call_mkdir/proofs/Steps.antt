@@ -1,5 +1,4 @@
 -- What mkdir does, step by step: each answer of a check, and what then follows.
--- Assumes nothing.
 use mathlib.Core.Path.{_≡_, refl, sym, ap, _∙_}
 use mathlib.Core.Bool.{Bool, true, false, cond}
 use mathlib.Core.List.{[], _∷_}
@@ -20,11 +19,11 @@ use Rattle.model.specs.declared.Refusal.{Refusal}
 use Rattle.model.proofs.Orders.{bot}
 use Rattle.view_at.specs.declared.Visible.{Visible}
 use Rattle.view_at.specs.Sight.{visibleKind}
-use Rattle.check_parents.specs.declared.Judged.{Judged}
-use Rattle.check_parents.specs.declared.Judged.the-variants as judge
-use Rattle.check_parents.specs.Judged.{asCheck, checkOf, refuses}
-use Rattle.check_parents.proofs.Checked.{refusal-refuses, refused-stops}
-use Rattle.call_answer.proofs.Firsts.{firsts, known}
+use Rattle.check_judged.specs.declared.Judged.{Judged}
+use Rattle.check_judged.specs.declared.Judged.the-variants as judge
+use Rattle.check_judged.specs.Judged.{asCheck, checkOf, refuses}
+use Rattle.check_judged.proofs.Checked.{refusal-refuses, refused-stops}
+use Rattle.check_lent.proofs.Firsts.{firsts, known}
 use Rattle.call_mkdir.specs.Step.{afterStep}
 use Rattle.call_mkdir.specs.declared.Step.{Step}
 use Rattle.call_mkdir.specs.declared.Step.the-variants as step

@@ -1,5 +1,4 @@
 -- What mkdir does once its checks are made.
--- Assumes nothing.
 use mathlib.Core.Path.{_≡_}
 use mathlib.Core.Bool.{true}
 use Prim.Native.Nat.{ℕ, _≤_}
@@ -13,9 +12,9 @@ use Rattle.model.specs.Table.{tableIn}
 use Rattle.model.specs.Checks.{Check, pass, makes}
 use Rattle.model.specs.Answer.{toldRefusal}
 use Rattle.model.specs.declared.Record.{Record}
-use Rattle.check_parents.specs.declared.Dirs.{Dirs}
-use Rattle.check_parents.specs.Judged.{asCheck}
-use Rattle.check_parents.specs.Dirs.{endsOf, climbs, prefixes}
+use Rattle.base_paths.specs.declared.prefixes.Dirs.{Dirs}
+use Rattle.check_judged.specs.Judged.{asCheck}
+use Rattle.base_paths.specs.Dirs.{endsOf, climbs, prefixes}
 use Rattle.call_mkdir.specs.declared.Step.{Step}
 use Rattle.call_mkdir.specs.declared.Step.the-variants.{Make, There, Refused}
 

@@ -1,6 +1,6 @@
-// mkdir of overlay.rs, with its flags parents and exist_ok.
-// Nothing is assumed: any bytes can be given as listing, table, work buffer and path, and any numbers as record, mtime and limit.
-// A refused call leaves all as it was; an accepted one leaves the work buffer all 0. It is a constant number of passes over what it is lent.
+// mkdir of overlay.rs, with its flags parents and exist_ok. Any bytes can be given as listing, table, work buffer and
+// path, and any numbers as record, mtime and limit. A refused call leaves all as it was; an accepted one leaves the
+// work buffer all 0. It is a constant number of passes over what it is lent.
 ghost use mathlib.Core.Path.{_≡_};
 ghost use mathlib.Core.Bool.{true, cond, _&&_};
 ghost use mathlib.Core.List.{[]};
@@ -16,13 +16,13 @@ ghost use Rattle.model.specs.Checks.{Check, pass, refuse, _then_, unless, form,
 ghost use Rattle.model.specs.Calls as calls;
 ghost use Rattle.model.specs.Outcome.{outcome};
 ghost use Rattle.view_at.specs.Sight.{visibleKind};
-ghost use Rattle.check_parents.specs.Judged.{checkOf};
-ghost use Rattle.check_parents.specs.Dirs.{endsOf, climbs, prefixes};
+ghost use Rattle.check_judged.specs.Judged.{checkOf};
+ghost use Rattle.base_paths.specs.Dirs.{endsOf, climbs, prefixes};
 ghost use Rattle.call_answer.specs.Meets.{requested, stored, Meets};
 ghost use Rattle.call_mkdir.specs.Step.{afterStep, Makes};
 ghost use Rattle.call_mkdir.specs.declared.Step.the-variants as step;
-use check_parents::Dirs;
-use check_parents::Judged;
+use base_paths::Dirs;
+use check_judged::Judged;
 use check_parents::ToCreate;
 use model::Answer;
 use model::Answered;
@@ -73,7 +73,8 @@ fn at_path(visible: Visible, exist_ok: bool, len: u64) -> Step
     }
 }
 
-// The parents' check, and the directories to make where the path shows nothing: with the flag the missing ancestors and the path, else the path alone.
+// The parents' check, and the directories to make where the path shows nothing: with the flag the missing ancestors and
+// the path, else the path alone.
 fn to_create(listing: &[u8], table: &[u8], rec: Record, path: &[u8], parents: bool) -> ToCreate
     requires { ⌜ isListing (now listing) ≡ true ⌝ }
     requires { ⌜ isTable (now table) rec ≡ true ⌝ }
@@ -82,16 +83,18 @@ fn to_create(listing: &[u8], table: &[u8], rec: Record, path: &[u8], parents: bo
         (treeIn (now (listing .entry)))) (now (path .entry)) parents ⌝ }
     ensures { λ r. ⌜ (r .dirs .count ≤ 32) × (climbs 0 (length (now (path .entry))) (endsOf (r .dirs)) ≡ true) ⌝ }
     ensures { λ r. ⌜ (checkOf (r .judged) ≡ pass
-        → isNothing (kind (shown (tableIn (now (table .entry)) rec) (treeIn (now (listing .entry)))) (now (path .entry))) ≡ true → (m : ℕ)
+        → isNothing (kind (shown (tableIn (now (table .entry)) rec) (treeIn (now (listing .entry))))
+        (now (path .entry))) ≡ true → (m : ℕ)
         → puts (each (directory m) (prefixes (now (path .entry)) (endsOf (r .dirs)))) (tableIn (now (table .entry)) rec)
-        ≡ puts (each (directory m) (makes (shown (tableIn (now (table .entry)) rec) (treeIn (now (listing .entry)))) (now (path .entry))))
+        ≡ puts (each (directory m) (makes (shown (tableIn (now (table .entry)) rec) (treeIn (now (listing .entry))))
+        (now (path .entry))))
         (tableIn (now (table .entry)) rec)) ⌝ }
 {
     if parents {
         return check_parents::overlay_dirs_to_create(listing, table, rec, path);
     }
     let judged = check_parents::ensure_parent_exists(listing, table, rec, path, 0);
-    let mut ends: [usize; 32] = [0; 32];
+    let mut ends: [usize; model::DEPTH_MAX] = [0; model::DEPTH_MAX];
     ends[0] = path.len();
     ToCreate {
         judged: judged,
@@ -107,7 +110,7 @@ fn none() -> Dirs
     ensures { λ r. ⌜ endsOf r ≡ [] ⌝ }
 {
     Dirs {
-        ends: [0; 32],
+        ends: [0; model::DEPTH_MAX],
         count: 0,
     }
 }
@@ -120,7 +123,8 @@ fn make_at(listing: &[u8], table: &[u8], rec: Record, path: &[u8], parents: bool
     requires { ⌜ isNothing (kind (shown (tableIn (now table) rec) (treeIn (now listing))) (now path)) ≡ true ⌝ }
     ensures { λ r. ⌜ ((later : Check) → (mkdirParents (shown (tableIn (now (table .entry)) rec)
         (treeIn (now (listing .entry)))) (now (path .entry)) parents then later) ≡ afterStep (r .step) later) ⌝ }
-    ensures { λ r. ⌜ (r .step ≡ step.Make → Makes (now (listing .entry)) (now (table .entry)) rec (now (path .entry)) (r .dirs)) ⌝ }
+    ensures { λ r. ⌜ (r .step ≡ step.Make → Makes (now (listing .entry)) (now (table .entry)) rec (now (path .entry))
+        (r .dirs)) ⌝ }
 {
     let create = to_create(listing, table, rec, path, parents);
     let judged = create.judged;
@@ -153,10 +157,12 @@ fn judge_at(
     requires { ⌜ isListing (now listing) ≡ true ⌝ }
     requires { ⌜ isTable (now table) rec ≡ true ⌝ }
     requires { ⌜ isPath (now path) ≡ true ⌝ }
-    ensures { λ r. ⌜ ((later : Check) → mkdirAt (length (now (path .entry))) «exist_ok» (kind (shown (tableIn (now (table .entry)) rec)
+    ensures { λ r. ⌜ ((later : Check) → mkdirAt (length (now (path .entry))) «exist_ok»
+        (kind (shown (tableIn (now (table .entry)) rec)
         (treeIn (now (listing .entry)))) (now (path .entry))) (mkdirParents (shown (tableIn (now (table .entry)) rec)
         (treeIn (now (listing .entry)))) (now (path .entry)) parents then later) ≡ afterStep (r .step) later) ⌝ }
-    ensures { λ r. ⌜ (r .step ≡ step.Make → Makes (now (listing .entry)) (now (table .entry)) rec (now (path .entry)) (r .dirs)) ⌝ }
+    ensures { λ r. ⌜ (r .step ≡ step.Make → Makes (now (listing .entry)) (now (table .entry)) rec (now (path .entry))
+        (r .dirs)) ⌝ }
     ensures { λ r. ⌜ (r .step ≡ step.There
         → makes (shown (tableIn (now (table .entry)) rec) (treeIn (now (listing .entry)))) (now (path .entry)) ≡ []) ⌝ }
 {
@@ -191,19 +197,21 @@ fn judge_mkdir(
     parents: bool,
     exist_ok: bool,
 ) -> Plan
-    ensures { λ r. ⌜ ((later : Check) → ((unless 1 (isTable (now (table .entry)) rec && leb (length (now (table .entry))) room)
+    ensures { λ r. ⌜ ((later : Check) → ((unless 1 (isTable (now (table .entry)) rec
+        && leb (length (now (table .entry))) room)
         then unless 2 (isListing (now (listing .entry))) then form 0 (now (path .entry)))
         then mkdirAt (length (now (path .entry))) «exist_ok» (kind (shown (tableIn (now (table .entry)) rec)
         (treeIn (now (listing .entry)))) (now (path .entry))) (mkdirParents (shown (tableIn (now (table .entry)) rec)
         (treeIn (now (listing .entry)))) (now (path .entry)) parents then later)) ≡ afterStep (r .step) later) ⌝ }
     ensures { λ r. ⌜ (r .step ≡ step.Make
-        → (isTable (now (table .entry)) rec ≡ true) × (length (now (table .entry)) ≤ room) × (isPath (now (path .entry)) ≡ true)
+        → (isTable (now (table .entry)) rec ≡ true) × (length (now (table .entry)) ≤ room)
+        × (isPath (now (path .entry)) ≡ true)
         × Makes (now (listing .entry)) (now (table .entry)) rec (now (path .entry)) (r .dirs)) ⌝ }
     ensures { λ r. ⌜ (r .step ≡ step.There
         → (isTable (now (table .entry)) rec ≡ true) × (makes (shown (tableIn (now (table .entry)) rec)
         (treeIn (now (listing .entry)))) (now (path .entry)) ≡ [])) ⌝ }
 {
-    let ready = call_answer::ready(listing, table, rec, room, path);
+    let ready = check_lent::ready(listing, table, rec, room, path);
     match ready {
         Judged::Refused(refusal) => {
             return Plan {
@@ -217,8 +225,8 @@ fn judge_mkdir(
     }
 }
 
-// A directory with this mtime at the path; with the flag parents, at its missing ancestors too. With exist_ok a directory that is there is accepted,
-// and nothing changes but the work buffer, which is zeroed.
+// A directory with this mtime at the path; with the flag parents, at its missing ancestors too. With exist_ok a
+// directory that is there is accepted, and nothing changes but the work buffer, which is zeroed.
 pub fn mkdir(
     listing: &[u8],
     table: &mut [u8],
@@ -230,7 +238,8 @@ pub fn mkdir(
     mtime: u64,
     limit: u64,
 ) -> Answered
-    ensures { λ r. ⌜ Meets (outcome (now (listing .entry)) (requested (calls.mkdir (now (path .entry)) parents «exist_ok» mtime) limit
+    ensures { λ r. ⌜ Meets (outcome (now (listing .entry)) (requested
+        (calls.mkdir (now (path .entry)) parents «exist_ok» mtime) limit
         (now (work .entry))) (stored (now (table .entry)) rec)) r (now (table .exit)) (now (work .exit)) ⌝ }
 {
     let plan = judge_mkdir(listing, table, rec, work.len(), path, parents, exist_ok);

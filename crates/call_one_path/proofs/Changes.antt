@@ -1,5 +1,4 @@
 -- The calls that insert one entry, write, unlink and rmdir: their checks up to 10, the root that none of them passes, and then the insertion.
--- Assumes nothing.
 use mathlib.Core.Path.{_≡_, refl, sym, ap, _∙_}
 use mathlib.Core.Bool.{true, false, _&&_}
 use mathlib.Core.List.{[], _∷_}
@@ -26,13 +25,13 @@ use Rattle.model.proofs.Maps.{ascends-is, lookup-low}
 use Rattle.model.proofs.Codec.{decoded, path-short}
 use Rattle.table_insert.specs.declared.Inserted.{Inserted}
 use Rattle.table_insert.specs.Insert.{insertion, ifDone}
-use Rattle.check_parents.specs.declared.Judged.{Judged}
-use Rattle.check_parents.specs.declared.Judged.the-variants as judge
-use Rattle.check_parents.specs.Judged.{checkOf, refuses}
-use Rattle.check_parents.proofs.Checked.{refused-not-passed}
+use Rattle.check_judged.specs.declared.Judged.{Judged}
+use Rattle.check_judged.specs.declared.Judged.the-variants as judge
+use Rattle.check_judged.specs.Judged.{checkOf, refuses}
+use Rattle.check_judged.proofs.Checked.{refused-not-passed}
 use Rattle.call_answer.specs.Meets.{requested, stored, Meets, answeredOf}
 use Rattle.call_answer.proofs.Settles.{last, refused-meets, inserted-meets}
-use Rattle.call_answer.proofs.Firsts.{firsts, all-four}
+use Rattle.check_lent.proofs.Firsts.{firsts, all-four}
 
 -- a call's checks, with those before 11 as one
 regroup : (a b c d e f : Check) → (a then b then c then (d then e) then f) ≡ (((a then b then c) then d) then (e then f))

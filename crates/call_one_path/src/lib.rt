@@ -1,6 +1,6 @@
-// The calls of document 01 that change one entry: write_bytes, unlink and rmdir of overlay.rs.
-// Nothing is assumed: any bytes can be given as listing, table, work buffer, path and data, and any numbers as record, mtime and limit.
-// A refused call leaves all as it was; an accepted one leaves the work buffer all 0. Each is a constant number of passes over what it is lent.
+// The calls of document 01 that change one entry: write_bytes, unlink and rmdir of overlay.rs. Any bytes can be given
+// as listing, table, work buffer, path and data, and any numbers as record, mtime and limit. A refused call leaves all
+// as it was; an accepted one leaves the work buffer all 0. Each is a constant number of passes over what it is lent.
 ghost use mathlib.Core.Path.{_≡_};
 ghost use mathlib.Core.Bool.{_&&_};
 ghost use lib.Dec.{leb};
@@ -11,21 +11,25 @@ ghost use Rattle.model.specs.Table.{tableIn, isTable};
 ghost use Rattle.model.specs.Checks.{_then_, unless, form, writeChecks, unlinkChecks, rmdirChecks};
 ghost use Rattle.model.specs.Calls as calls;
 ghost use Rattle.model.specs.Outcome.{outcome};
-ghost use Rattle.check_parents.specs.Judged.{checkOf};
+ghost use Rattle.check_judged.specs.Judged.{checkOf};
 ghost use Rattle.call_answer.specs.Meets.{requested, stored, Meets};
-use check_parents::Judged;
+use check_judged::Judged;
 use model::Answer;
 use model::Answered;
+use model::DELETED;
+use model::OWN_FILE;
 use model::Record;
+use table_insert::insert;
 
 // 1 to 8 for write.
 fn judge_write(listing: &[u8], table: &[u8], rec: Record, room: usize, path: &[u8]) -> Judged
     ensures { λ r. ⌜ checkOf r ≡ ((unless 1 (isTable (now (table .entry)) rec && leb (length (now (table .entry))) room)
         then unless 2 (isListing (now (listing .entry))) then form 0 (now (path .entry)))
-        then writeChecks (shown (tableIn (now (table .entry)) rec) (treeIn (now (listing .entry)))) (now (path .entry))) ⌝ }
+        then writeChecks (shown (tableIn (now (table .entry)) rec) (treeIn (now (listing .entry))))
+        (now (path .entry))) ⌝ }
 {
-    let ready = call_answer::ready(listing, table, rec, room, path);
-    if check_parents::is_refused(ready) {
+    let ready = check_lent::ready(listing, table, rec, room, path);
+    if check_judged::is_refused(ready) {
         return ready;
     }
     check_one_path::write_checks(listing, table, rec, path)
@@ -42,7 +46,8 @@ pub fn write_bytes(
     data: &[u8],
     limit: u64,
 ) -> Answered
-    ensures { λ r. ⌜ Meets (outcome (now (listing .entry)) (requested (calls.write (now (path .entry)) mtime (now («data» .entry))) limit
+    ensures { λ r. ⌜ Meets (outcome (now (listing .entry)) (requested
+        (calls.write (now (path .entry)) mtime (now («data» .entry))) limit
         (now (work .entry))) (stored (now (table .entry)) rec)) r (now (table .exit)) (now (work .exit)) ⌝ }
 {
     let judged = judge_write(listing, table, rec, work.len(), path);
@@ -54,7 +59,7 @@ pub fn write_bytes(
             };
         }
         Judged::Pass => {
-            let inserted = table_insert::insert(table, work, rec, path, 1, mtime, 0, data, limit);
+            let inserted = insert(table, work, rec, path, OWN_FILE, mtime, 0, data, limit);
             return call_answer::answered(inserted, rec, data.len() as u64);
         }
     }
@@ -66,8 +71,8 @@ fn judge_unlink(listing: &[u8], table: &[u8], rec: Record, room: usize, path: &[
         then unless 2 (isListing (now (listing .entry))) then form 0 (now (path .entry)))
         then unlinkChecks (tableIn (now (table .entry)) rec) (treeIn (now (listing .entry))) (now (path .entry))) ⌝ }
 {
-    let ready = call_answer::ready(listing, table, rec, room, path);
-    if check_parents::is_refused(ready) {
+    let ready = check_lent::ready(listing, table, rec, room, path);
+    if check_judged::is_refused(ready) {
         return ready;
     }
     check_one_path::unlink_checks(listing, table, rec, path)
@@ -82,7 +87,8 @@ pub fn unlink(
     path: &[u8],
     limit: u64,
 ) -> Answered
-    ensures { λ r. ⌜ Meets (outcome (now (listing .entry)) (requested (calls.unlink (now (path .entry))) limit (now (work .entry)))
+    ensures { λ r. ⌜ Meets (outcome (now (listing .entry)) (requested (calls.unlink (now (path .entry))) limit
+        (now (work .entry)))
         (stored (now (table .entry)) rec)) r (now (table .exit)) (now (work .exit)) ⌝ }
 {
     let judged = judge_unlink(listing, table, rec, work.len(), path);
@@ -95,7 +101,7 @@ pub fn unlink(
         }
         Judged::Pass => {
             let none = &path[..0];
-            let inserted = table_insert::insert(table, work, rec, path, 4, 0, 0, none, limit);
+            let inserted = insert(table, work, rec, path, DELETED, 0, 0, none, limit);
             return call_answer::answered(inserted, rec, 0);
         }
     }
@@ -107,8 +113,8 @@ fn judge_rmdir(listing: &[u8], table: &[u8], rec: Record, room: usize, path: &[u
         then unless 2 (isListing (now (listing .entry))) then form 0 (now (path .entry)))
         then rmdirChecks (tableIn (now (table .entry)) rec) (treeIn (now (listing .entry))) (now (path .entry))) ⌝ }
 {
-    let ready = call_answer::ready(listing, table, rec, room, path);
-    if check_parents::is_refused(ready) {
+    let ready = check_lent::ready(listing, table, rec, room, path);
+    if check_judged::is_refused(ready) {
         return ready;
     }
     check_one_path::rmdir_checks(listing, table, rec, path)
@@ -123,7 +129,8 @@ pub fn rmdir(
     path: &[u8],
     limit: u64,
 ) -> Answered
-    ensures { λ r. ⌜ Meets (outcome (now (listing .entry)) (requested (calls.rmdir (now (path .entry))) limit (now (work .entry)))
+    ensures { λ r. ⌜ Meets (outcome (now (listing .entry)) (requested (calls.rmdir (now (path .entry))) limit
+        (now (work .entry)))
         (stored (now (table .entry)) rec)) r (now (table .exit)) (now (work .exit)) ⌝ }
 {
     let judged = judge_rmdir(listing, table, rec, work.len(), path);
@@ -136,7 +143,7 @@ pub fn rmdir(
         }
         Judged::Pass => {
             let empty = &path[..0];
-            let inserted = table_insert::insert(table, work, rec, path, 4, 0, 0, empty, limit);
+            let inserted = insert(table, work, rec, path, DELETED, 0, 0, empty, limit);
             return call_answer::answered(inserted, rec, 0);
         }
     }

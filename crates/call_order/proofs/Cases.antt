@@ -1,5 +1,4 @@
 -- What a call of a known kind meets, the call itself meets.
--- Assumes nothing.
 use mathlib.Core.Path.{_≡_, subst⁻¹}
 use Rattle.model.specs.Bytes.{Bytes}
 use Rattle.model.specs.Outcome.{Store, outcome}

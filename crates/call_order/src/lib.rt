@@ -1,5 +1,5 @@
 // A changing call, given as a value, made by one function.
-// Nothing is assumed: any bytes can be given as listing, table, work buffer, paths and data, and any numbers as record and order.
+// Any bytes can be given as listing, table, work buffer, paths and data, and any numbers as record and order.
 // It costs what the call itself costs.
 ghost use Rattle.model.specs.Outcome.{outcome};
 ghost use Rattle.call_answer.specs.Meets.{requested, stored, Meets};
@@ -9,7 +9,8 @@ use call_values::Order;
 use model::Answered;
 use model::Record;
 
-// Makes the call. `first` is its path, a rename's source; `second` is a write's data and a rename's destination, and no other call looks at it.
+// Makes the call. `first` is its path, a rename's source; `second` is a write's data and a rename's destination, and no
+// other call looks at it.
 pub fn make(
     listing: &[u8],
     table: &mut [u8],
@@ -19,7 +20,8 @@ pub fn make(
     second: &[u8],
     order: Order,
 ) -> Answered
-    ensures { λ r. ⌜ Meets (outcome (now (listing .entry)) (requested (callOf order (now (first .entry)) (now (second .entry))) (order .limit)
+    ensures { λ r. ⌜ Meets (outcome (now (listing .entry)) (requested
+        (callOf order (now (first .entry)) (now (second .entry))) (order .limit)
         (now (work .entry))) (stored (now (table .entry)) rec)) r (now (table .exit)) (now (work .exit)) ⌝ }
 {
     let kind = order.kind;

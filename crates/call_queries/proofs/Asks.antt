@@ -1,5 +1,4 @@
 -- A query's answer: as 1, 2 and 3 refuse, or yes or no by what is visible.
--- Assumes nothing.
 use mathlib.Core.Path.{_≡_, refl, sym, ap, _∙_}
 use mathlib.Core.Bool.{Bool, true, false, cond}
 use Prim.Native.Nat.{ℕ}
@@ -19,13 +18,13 @@ use Rattle.model.specs.Outcome.{answered, ask}
 use Rattle.model.specs.declared.Record.{Record}
 use Rattle.model.specs.declared.Refusal.{Refusal}
 use Rattle.model.proofs.Orders.{bot}
-use Rattle.check_parents.specs.declared.Judged.{Judged}
-use Rattle.check_parents.specs.declared.Judged.the-variants as judge
-use Rattle.check_parents.specs.Judged.{asCheck, checkOf, refuses}
+use Rattle.check_judged.specs.declared.Judged.{Judged}
+use Rattle.check_judged.specs.declared.Judged.the-variants as judge
+use Rattle.check_judged.specs.Judged.{asCheck, checkOf, refuses}
 use Rattle.view_at.specs.declared.Visible.{Visible}
 use Rattle.view_at.specs.Sight.{visibleKind}
 use Rattle.call_answer.specs.Meets.{stored}
-use Rattle.call_answer.proofs.Firsts.{firsts}
+use Rattle.check_lent.proofs.Firsts.{firsts}
 
 -- a work buffer that is as long as the table is long enough
 same-firsts : (t w l p : Bool) → w ≡ true → firsts t w l p ≡ (unless 1 t then unless 2 l then cond p pass (refuse 3 0 0))

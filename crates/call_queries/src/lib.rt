@@ -1,5 +1,5 @@
 // The calls of document 01 that ask: exists, is_file and is_dir of overlay.rs.
-// Nothing is assumed: any bytes can be given as listing, table and path, and any numbers as record.
+// Any bytes can be given as listing, table and path, and any numbers as record.
 // Nothing is changed. Each is a constant number of passes over what it is lent.
 ghost use mathlib.Core.Path.{_≡_};
 ghost use mathlib.Core.Bool.{true, cond};
@@ -7,9 +7,9 @@ ghost use Rattle.model.specs.Calls as calls;
 ghost use Rattle.model.specs.Answer.{accepted, toldFinding};
 ghost use Rattle.model.specs.Outcome.{ask};
 ghost use Rattle.view_at.specs.Sight.{visibleKind};
-ghost use Rattle.check_parents.specs.Judged.{asCheck, checkOf, refuses};
+ghost use Rattle.check_judged.specs.Judged.{asCheck, checkOf, refuses};
 ghost use Rattle.call_answer.specs.Meets.{stored};
-use check_parents::Judged;
+use check_judged::Judged;
 use model::Finding;
 use model::Record;
 use view_at::Visible;
@@ -87,10 +87,11 @@ fn is_a_dir(visible: Visible) -> Finding
 }
 
 pub fn exists(listing: &[u8], table: &[u8], rec: Record, path: &[u8]) -> Finding
-    ensures { λ r. ⌜ toldFinding r ≡ ask calls.exists (now (listing .entry)) (now (path .entry)) (stored (now (table .entry)) rec) ⌝ }
+    ensures { λ r. ⌜ toldFinding r ≡ ask calls.exists (now (listing .entry)) (now (path .entry))
+        (stored (now (table .entry)) rec) ⌝ }
 {
-    let judged = call_answer::ready(listing, table, rec, table.len(), path);
-    if check_parents::is_refused(judged) {
+    let judged = check_lent::ready(listing, table, rec, table.len(), path);
+    if check_judged::is_refused(judged) {
         return unanswered(judged);
     }
     let visible = view_at::visible_at(listing, table, rec, path);
@@ -98,10 +99,11 @@ pub fn exists(listing: &[u8], table: &[u8], rec: Record, path: &[u8]) -> Finding
 }
 
 pub fn is_file(listing: &[u8], table: &[u8], rec: Record, path: &[u8]) -> Finding
-    ensures { λ r. ⌜ toldFinding r ≡ ask calls.isFile (now (listing .entry)) (now (path .entry)) (stored (now (table .entry)) rec) ⌝ }
+    ensures { λ r. ⌜ toldFinding r ≡ ask calls.isFile (now (listing .entry)) (now (path .entry))
+        (stored (now (table .entry)) rec) ⌝ }
 {
-    let judged = call_answer::ready(listing, table, rec, table.len(), path);
-    if check_parents::is_refused(judged) {
+    let judged = check_lent::ready(listing, table, rec, table.len(), path);
+    if check_judged::is_refused(judged) {
         return unanswered(judged);
     }
     let visible = view_at::visible_at(listing, table, rec, path);
@@ -109,10 +111,11 @@ pub fn is_file(listing: &[u8], table: &[u8], rec: Record, path: &[u8]) -> Findin
 }
 
 pub fn is_dir(listing: &[u8], table: &[u8], rec: Record, path: &[u8]) -> Finding
-    ensures { λ r. ⌜ toldFinding r ≡ ask calls.isDir (now (listing .entry)) (now (path .entry)) (stored (now (table .entry)) rec) ⌝ }
+    ensures { λ r. ⌜ toldFinding r ≡ ask calls.isDir (now (listing .entry)) (now (path .entry))
+        (stored (now (table .entry)) rec) ⌝ }
 {
-    let judged = call_answer::ready(listing, table, rec, table.len(), path);
-    if check_parents::is_refused(judged) {
+    let judged = check_lent::ready(listing, table, rec, table.len(), path);
+    if check_judged::is_refused(judged) {
         return unanswered(judged);
     }
     let visible = view_at::visible_at(listing, table, rec, path);

@@ -1,5 +1,4 @@
 -- From rename's checks, in groups, to its outcome: refused by the first that refuses, or done.
--- Assumes nothing.
 use mathlib.Core.Path.{_≡_, refl, ap, sym, _∙_}
 use mathlib.Core.Bool.{Bool, true, false, cond, _&&_}
 use Prim.Native.Nat.{ℕ, _≤_}
@@ -22,10 +21,10 @@ use Rattle.model.specs.declared.Refusal.{Refusal}
 use Rattle.model.specs.declared.Answer.the-variants.{Accepted, Refused}
 use Rattle.model.proofs.Orders.{bot}
 use Rattle.model.proofs.Invariant.{then-pass}
-use Rattle.check_parents.specs.declared.Judged.{Judged}
-use Rattle.check_parents.specs.declared.Judged.the-variants as judge
-use Rattle.check_parents.specs.Judged.{asCheck, checkOf, refuses}
-use Rattle.check_parents.proofs.Checked.{refusal-refuses, refused-stops}
+use Rattle.check_judged.specs.declared.Judged.{Judged}
+use Rattle.check_judged.specs.declared.Judged.the-variants as judge
+use Rattle.check_judged.specs.Judged.{asCheck, checkOf, refuses}
+use Rattle.check_judged.proofs.Checked.{refusal-refuses, refused-stops}
 use Rattle.call_answer.specs.Meets.{requested, stored, Meets}
 use Rattle.call_answer.proofs.Settles.{told-so}
 use Rattle.rename_checks.specs.Both.{earlyChecks}

@@ -1,5 +1,4 @@
 -- rename's first checks, 1 to 3, and those of a directory's plan, as groups.
--- Assumes nothing.
 use mathlib.Core.Bool.{_&&_}
 use Prim.Native.Nat.{ℕ}
 use lib.Dec.{leb}

@@ -1,5 +1,4 @@
 -- A row by the case that an answer or a refusal is.
--- Assumes nothing.
 use mathlib.Core.Path.{_≡_, ap, sym, _∙_}
 use Rattle.model.specs.Answer.{told, toldRefusal}
 use Rattle.model.specs.declared.Answer.{Answer}

@@ -1,5 +1,4 @@
 -- The call that an order and its two byte strings are, and the row of document 01's table that an answer is.
--- Assumes nothing.
 use Rattle.model.specs.Bytes.{Bytes}
 use Rattle.model.specs.Path.{Path}
 use Rattle.model.specs.Calls as calls

@@ -1,5 +1,4 @@
 // A changing call as a value, and an answer as a row of document 01's table.
-// Assumes nothing.
 ghost use mathlib.Core.Path.{_≡_};
 ghost use Rattle.model.specs.Answer as replies;
 ghost use Rattle.call_values.specs.Values.{rowOf};
@@ -14,7 +13,8 @@ pub enum Kind {
     Rename,
 }
 
-// What a call takes beside its paths and data. The flags are mkdir's, and the mtime is write's and mkdir's; the other calls take no notice of them.
+// What a call takes beside its paths and data. The flags are mkdir's, and the mtime is write's and mkdir's; the other
+// calls take no notice of them.
 pub struct Order {
     pub kind: Kind,
     pub parents: bool,

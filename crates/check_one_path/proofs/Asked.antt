@@ -1,5 +1,4 @@
 -- What unlink and rmdir give by a path's entry, as the code reads it: all that they ask of an entry is what an OverlayEntry says of it.
--- Assumes nothing.
 use mathlib.Core.Path.{_≡_, refl, sym, ap, _∙_}
 use mathlib.Core.Option.{Option, none, some}
 use Prim.Native.Nat.{ℕ}

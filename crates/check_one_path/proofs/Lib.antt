@@ -1,2 +1,1 @@
-pub mod Thens
 pub mod Asked

@@ -1,49 +1,22 @@
-// The checks of write, unlink and rmdir up to 10, in document 01's order; and 1, 2 and 3, which every call begins with.
-// `admitted` and `check_path` take any bytes; the others assume what these have checked: only this repository's crates call.
+// The checks of write, unlink and rmdir from 4 to 10, in document 01's order.
+// Assumes a listing, a table and a path that were checked (crate check_lent): only this repository's crates call.
 // Each check is a constant number of passes over table and listing.
 ghost use mathlib.Core.Path.{_≡_};
-ghost use mathlib.Core.Bool.{true, _&&_};
-ghost use lib.Dec.{leb};
+ghost use mathlib.Core.Bool.{true};
 ghost use lib.ListN.{length};
 ghost use Rattle.model.specs.Path.{isPath};
 ghost use Rattle.model.specs.Map.{lookup};
 ghost use Rattle.model.specs.Tree.{shown, kind};
 ghost use Rattle.model.specs.Listing.{treeIn, isListing};
 ghost use Rattle.model.specs.Table.{tableIn, isTable};
-ghost use Rattle.model.specs.Checks.{_then_, unless, form, parentChecks, writeAt, writeChecks, unlinkAt, unlinkChecks, rmdirAt, rmdirEntry, rmdirChecks, noVisibleChild};
+ghost use Rattle.model.specs.Checks.{_then_, parentChecks, writeAt, writeChecks, unlinkAt, unlinkChecks, rmdirAt};
+ghost use Rattle.model.specs.Checks.{rmdirEntry, rmdirChecks, noVisibleChild};
 ghost use Rattle.view_at.specs.Sight.{visibleKind};
-ghost use Rattle.check_parents.specs.Judged.{checkOf};
-use check_parents::Judged;
+ghost use Rattle.check_judged.specs.Judged.{checkOf};
+use check_judged::Judged;
 use model::Refusal;
 use table_entries::OverlayEntry;
 use view_at::Visible;
-
-// 1 and 2: the table and its record, a work buffer of `room` bytes, the listing.
-pub fn admitted(listing: &[u8], table: &[u8], rec: model::Record, room: usize) -> Judged
-    ensures { λ r. ⌜ checkOf r ≡ (unless 1 (isTable (now (table .entry)) rec && leb (length (now (table .entry))) room)
-        then unless 2 (isListing (now (listing .entry)))) ⌝ }
-{
-    if !table_open::check(table, rec) {
-        return Judged::Refused(Refusal::MalformedTable);
-    }
-    if room < table.len() {
-        return Judged::Refused(Refusal::MalformedTable);
-    }
-    if !listing_check::check(listing) {
-        return Judged::Refused(Refusal::MalformedListing);
-    }
-    Judged::Pass
-}
-
-// 3, for the path `which`.
-pub fn check_path(path: &[u8], which: u64) -> Judged
-    ensures { λ r. ⌜ checkOf r ≡ form which (now (path .entry)) ⌝ }
-{
-    if base_paths::is_path(path) {
-        return Judged::Pass;
-    }
-    Judged::Refused(Refusal::MalformedPath(which))
-}
 
 // What a write gives where this is visible at its path of `len` bytes.
 fn reject_directory_target(visible: Visible, len: u64) -> Judged
@@ -70,10 +43,11 @@ pub fn write_checks(listing: &[u8], table: &[u8], rec: model::Record, path: &[u8
     requires { ⌜ isListing (now listing) ≡ true ⌝ }
     requires { ⌜ isTable (now table) rec ≡ true ⌝ }
     requires { ⌜ isPath (now path) ≡ true ⌝ }
-    ensures { λ r. ⌜ checkOf r ≡ writeChecks (shown (tableIn (now (table .entry)) rec) (treeIn (now (listing .entry)))) (now (path .entry)) ⌝ }
+    ensures { λ r. ⌜ checkOf r ≡ writeChecks (shown (tableIn (now (table .entry)) rec) (treeIn (now (listing .entry))))
+        (now (path .entry)) ⌝ }
 {
     let parents = check_parents::ensure_parent_exists(listing, table, rec, path, 0);
-    if check_parents::is_refused(parents) {
+    if check_judged::is_refused(parents) {
         return parents;
     }
     let visible = view_at::visible_at(listing, table, rec, path);
@@ -105,12 +79,13 @@ fn unlink_listed(listing: &[u8], table: &[u8], rec: model::Record, path: &[u8]) 
     requires { ⌜ isListing (now listing) ≡ true ⌝ }
     requires { ⌜ isTable (now table) rec ≡ true ⌝ }
     requires { ⌜ isPath (now path) ≡ true ⌝ }
-    ensures { λ r. ⌜ checkOf r ≡ (parentChecks 0 (shown (tableIn (now (table .entry)) rec) (treeIn (now (listing .entry)))) (now (path .entry))
+    ensures { λ r. ⌜ checkOf r ≡ (parentChecks 0 (shown (tableIn (now (table .entry)) rec)
+        (treeIn (now (listing .entry)))) (now (path .entry))
         then unlinkAt (length (now (path .entry))) (kind (shown (tableIn (now (table .entry)) rec)
         (treeIn (now (listing .entry)))) (now (path .entry)))) ⌝ }
 {
     let parents = check_parents::ensure_parent_exists(listing, table, rec, path, 0);
-    if check_parents::is_refused(parents) {
+    if check_judged::is_refused(parents) {
         return parents;
     }
     let visible = view_at::visible_at(listing, table, rec, path);
@@ -122,7 +97,8 @@ pub fn unlink_checks(listing: &[u8], table: &[u8], rec: model::Record, path: &[u
     requires { ⌜ isListing (now listing) ≡ true ⌝ }
     requires { ⌜ isTable (now table) rec ≡ true ⌝ }
     requires { ⌜ isPath (now path) ≡ true ⌝ }
-    ensures { λ r. ⌜ checkOf r ≡ unlinkChecks (tableIn (now (table .entry)) rec) (treeIn (now (listing .entry))) (now (path .entry)) ⌝ }
+    ensures { λ r. ⌜ checkOf r ≡ unlinkChecks (tableIn (now (table .entry)) rec) (treeIn (now (listing .entry)))
+        (now (path .entry)) ⌝ }
 {
     let entry = table_entries::get(table, rec, path);
     match entry {
@@ -174,12 +150,13 @@ fn rmdir_listed(listing: &[u8], table: &[u8], rec: model::Record, path: &[u8]) -
     requires { ⌜ isListing (now listing) ≡ true ⌝ }
     requires { ⌜ isTable (now table) rec ≡ true ⌝ }
     requires { ⌜ isPath (now path) ≡ true ⌝ }
-    ensures { λ r. ⌜ checkOf r ≡ (parentChecks 0 (shown (tableIn (now (table .entry)) rec) (treeIn (now (listing .entry)))) (now (path .entry))
+    ensures { λ r. ⌜ checkOf r ≡ (parentChecks 0 (shown (tableIn (now (table .entry)) rec)
+        (treeIn (now (listing .entry)))) (now (path .entry))
         then rmdirAt (length (now (path .entry))) (kind (shown (tableIn (now (table .entry)) rec)
         (treeIn (now (listing .entry)))) (now (path .entry)))) ⌝ }
 {
     let parents = check_parents::ensure_parent_exists(listing, table, rec, path, 0);
-    if check_parents::is_refused(parents) {
+    if check_judged::is_refused(parents) {
         return parents;
     }
     let visible = view_at::visible_at(listing, table, rec, path);
@@ -191,7 +168,8 @@ fn rmdir_entry(listing: &[u8], table: &[u8], rec: model::Record, path: &[u8]) ->
     requires { ⌜ isListing (now listing) ≡ true ⌝ }
     requires { ⌜ isTable (now table) rec ≡ true ⌝ }
     requires { ⌜ isPath (now path) ≡ true ⌝ }
-    ensures { λ r. ⌜ checkOf r ≡ rmdirEntry (length (now (path .entry))) (lookup (tableIn (now (table .entry)) rec) (now (path .entry))) (parentChecks 0
+    ensures { λ r. ⌜ checkOf r ≡ rmdirEntry (length (now (path .entry)))
+        (lookup (tableIn (now (table .entry)) rec) (now (path .entry))) (parentChecks 0
         (shown (tableIn (now (table .entry)) rec) (treeIn (now (listing .entry)))) (now (path .entry))
         then rmdirAt (length (now (path .entry))) (kind (shown (tableIn (now (table .entry)) rec)
         (treeIn (now (listing .entry)))) (now (path .entry)))) ⌝ }
@@ -232,7 +210,8 @@ pub fn check_empty(
 ) -> Judged
     requires { ⌜ isListing (now listing) ≡ true ⌝ }
     requires { ⌜ isTable (now table) rec ≡ true ⌝ }
-    ensures { λ r. ⌜ checkOf r ≡ noVisibleChild which (tableIn (now (table .entry)) rec) (treeIn (now (listing .entry))) (now (path .entry)) ⌝ }
+    ensures { λ r. ⌜ checkOf r ≡ noVisibleChild which (tableIn (now (table .entry)) rec) (treeIn (now (listing .entry)))
+        (now (path .entry)) ⌝ }
 {
     if view_children::has_visible_children(listing, table, rec, path) {
         return Judged::Refused(Refusal::NotEmpty(which, path.len() as u64));
@@ -245,13 +224,14 @@ pub fn rmdir_checks(listing: &[u8], table: &[u8], rec: model::Record, path: &[u8
     requires { ⌜ isListing (now listing) ≡ true ⌝ }
     requires { ⌜ isTable (now table) rec ≡ true ⌝ }
     requires { ⌜ isPath (now path) ≡ true ⌝ }
-    ensures { λ r. ⌜ checkOf r ≡ rmdirChecks (tableIn (now (table .entry)) rec) (treeIn (now (listing .entry))) (now (path .entry)) ⌝ }
+    ensures { λ r. ⌜ checkOf r ≡ rmdirChecks (tableIn (now (table .entry)) rec) (treeIn (now (listing .entry)))
+        (now (path .entry)) ⌝ }
 {
     if path.len() == 0 {
         return Judged::Refused(Refusal::LinkOrRoot(0, 0));
     }
     let entry = rmdir_entry(listing, table, rec, path);
-    if check_parents::is_refused(entry) {
+    if check_judged::is_refused(entry) {
         return entry;
     }
     check_empty(listing, table, rec, path, 0)

@@ -1,30 +1,11 @@
--- What checks give: every refusal refuses; a check of the parents or of the ancestors, one ancestor after the other.
--- Assumes nothing.
+-- What the check of the parents, or of the ancestors, gives at one ancestor.
 use mathlib.Core.Path.{_≡_, refl}
 use mathlib.Core.Bool.{true, false, not}
 use Prim.Native.Nat.{ℕ}
 use Rattle.model.specs.Tree.{Kind, nothing, aDirectory, aFile, aLink, isNothing, isDirectory}
-use Rattle.model.specs.Checks.{Check, pass, refuse, _then_, parentAt, ancestorAt}
-use Rattle.model.specs.Answer.{toldRefusal}
-use Rattle.model.specs.declared.Refusal.{Refusal}
-use Rattle.model.specs.declared.Refusal.the-variants as refusal
+use Rattle.model.specs.Checks.{Check, _then_, parentAt, ancestorAt}
 use Rattle.model.proofs.Orders.{bot}
-use Rattle.check_parents.specs.Judged.{asCheck, refuses}
-
-pub refusal-refuses : (r : Refusal) → refuses (asCheck (toldRefusal r)) ≡ true
-refusal-refuses refusal.MalformedTable = refl
-refusal-refuses refusal.MalformedListing = refl
-refusal-refuses (refusal.MalformedPath p) = refl
-refusal-refuses (refusal.LinkOrRoot p n) = refl
-refusal-refuses (refusal.NotFound p n) = refl
-refusal-refuses (refusal.Exists p n) = refl
-refusal-refuses (refusal.NotADirectory p n) = refl
-refusal-refuses (refusal.IsADirectory p n) = refl
-refusal-refuses (refusal.NotEmpty p n) = refl
-refusal-refuses (refusal.BelowSource n) = refl
-refusal-refuses refusal.Limit = refl
-refusal-refuses refusal.KeyTooLong = refl
-refusal-refuses refusal.NoRoom = refl
+use Rattle.check_judged.specs.Judged.{refuses}
 
 -- a directory is passed, at anything else the check of the parents ends
 pub parent-passes : (w n : ℕ) (k : Kind) (c : Check) → isDirectory k ≡ true → (parentAt w n k then c) ≡ c
@@ -38,18 +19,6 @@ parent-stops w n nothing c h = refl
 parent-stops w n aDirectory c h = absurd (bot (cc))
 parent-stops w n aFile c h = refl
 parent-stops w n aLink c h = refl
-
--- where one check refuses, it decides; where it passes, the rest does
-pub refused-stops : (c d : Check) → refuses c ≡ true → (c then d) ≡ c
-refused-stops pass d h = absurd (bot (cc))
-refused-stops (refuse n w k) d h = refl
-
-pub passed-on : (c d : Check) → refuses c ≡ false → (c then d) ≡ d
-passed-on pass d h = refl
-passed-on (refuse n w k) d h = absurd (bot (cc))
-
-pub refused-not-passed : (c : Check) → refuses c ≡ true → c ≡ pass → ⊥
-refused-not-passed c h e = bot (cc)
 
 -- an ancestor that does not refuse is a directory or nothing
 pub passed-nothing : (k n : ℕ) (x : Kind) → refuses (ancestorAt k n x) ≡ false → not (isDirectory x) ≡ isNothing x

@@ -1,4 +1,3 @@
 pub mod Checked
 pub mod Parents
-pub mod Ends
 pub mod Missing

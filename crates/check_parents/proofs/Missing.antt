@@ -1,5 +1,4 @@
 -- The loop over the ancestors of a path that mkdir makes: what is found and what is to come are together all that is missing.
--- Assumes nothing.
 use mathlib.Core.Path.{_≡_, refl, sym, ap, _∙_}
 use mathlib.Core.Bool.{Bool, true, false, not}
 use mathlib.Core.List.{List, [], _∷_, _++_, map, append-assoc, append-nil}
@@ -17,10 +16,12 @@ use Rattle.model.proofs.Orders.{yea, nay, test}
 use Rattle.model.proofs.Codec.{path-shallow}
 use Rattle.base_paths.specs.Ancestors.{nextSlash, ancestorsFrom}
 use Rattle.base_paths.proofs.Ancestors.{begin, turn, done}
-use Rattle.check_parents.specs.Judged.{refuses}
-use Rattle.check_parents.specs.Dirs.{missingEnds, climbs}
-use Rattle.check_parents.proofs.Checked.{refused-stops, passed-on, passed-nothing}
-use Rattle.check_parents.proofs.Ends.{climbs-front, climbs-step}
+use Rattle.check_judged.specs.Judged.{refuses}
+use Rattle.base_paths.specs.Dirs.{climbs}
+use Rattle.check_parents.specs.Missing.{missingEnds}
+use Rattle.check_judged.proofs.Checked.{refused-stops, passed-on}
+use Rattle.check_parents.proofs.Checked.{passed-nothing}
+use Rattle.base_paths.proofs.Ends.{climbs-front, climbs-step}
 use Rattle.check_parents.proofs.Parents.{proper}
 
 -- a path has one ancestor less than components
@@ -101,7 +102,7 @@ module _ (g : Path → Kind) (p : Path) where
       here j e =
           let m = length-take-le k p (omega arith) in
           ap (λ (z : Check). z then ancestorsIn (length p) g (ancestorsFrom p j)) (u ∙ ap (ancestorAt k (length p)) y)
-          ∙ ap (λ (z : ℕ). ancestor z (length p) (g (take k p)) then ancestorsIn (length p) g (ancestorsFrom p j)) (sym m)
+          ∙ ap (λ (z : ℕ). ancestorAt z (length p) (g (take k p)) then ancestorsIn (length p) g (ancestorsFrom p j)) (sym m)
           ∙ sym (ap (ancestorsIn (length p) g) (turn p k j a h e .1))
           ∙ v .judged
 

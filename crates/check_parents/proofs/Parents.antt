@@ -1,5 +1,4 @@
 -- The loop over a path's ancestors, from the top: at each turn the next is looked at, and what is to come decides as the whole did.
--- Assumes nothing.
 use mathlib.Core.Path.{_≡_, refl, sym, ap, _∙_}
 use mathlib.Core.Bool.{true, false}
 use Prim.Native.Nat.{ℕ, zero, suc, _+_, _<_, _≤_}

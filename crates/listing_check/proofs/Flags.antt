@@ -1,5 +1,4 @@
 -- The flags of the one pass: at k, whether the first k bytes of the path just read are listed as a directory.
--- Assumes nothing.
 use mathlib.Core.Path.{_≡_, refl, sym, ap, _∙_}
 use mathlib.Core.Bool.{Bool, true, false, _&&_, not, true≢false}
 use mathlib.Core.List.{List, [], _∷_}

@@ -1,5 +1,4 @@
 -- The header and a record by itself, by the tests that the code makes.
--- Assumes nothing.
 use mathlib.Core.Path.{_≡_, sym, ap, _∙_}
 use mathlib.Core.Bool.{Bool, true, false, _&&_, _||_, and-true}
 use mathlib.Core.List.{[], _∷_}

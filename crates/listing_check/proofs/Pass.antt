@@ -1,5 +1,4 @@
 -- The rules in one pass: each record by itself, by the path before it, and by the records seen. They are those of `isListing`.
--- Assumes nothing.
 use mathlib.Core.Path.{_≡_, refl, sym, ap, ap₂, _∙_}
 use mathlib.Core.Bool.{Bool, true, false, _&&_, and-true}
 use mathlib.Core.List.{List, [], _∷_}

@@ -1,5 +1,4 @@
 -- One turn of the pass: what holds before a record is read, what each refusal gives, and what holds after it.
--- Assumes nothing.
 use mathlib.Core.Path.{_≡_, refl, sym, ap, ap₂, _∙_}
 use mathlib.Core.Bool.{Bool, true, false, not, _&&_, true≢false}
 use mathlib.Core.List.{List, [], _∷_}

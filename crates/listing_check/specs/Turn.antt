@@ -1,5 +1,4 @@
 -- What the inner functions of the one pass give: a record by itself, and the flags of a path.
--- Assumes nothing.
 use mathlib.Core.Path.{_≡_}
 use mathlib.Core.Bool.{Bool, false, _&&_}
 use mathlib.Core.List.{List}

@@ -1,7 +1,7 @@
 // Whether bytes are a listing of document 01, in one pass.
-// Assumes nothing: all bytes are taken.
+// All bytes are taken.
 ghost use mathlib.Core.Path.{_≡_};
-ghost use mathlib.Core.Bool.{Bool, false, _&&_};
+ghost use mathlib.Core.Bool.{Bool, _&&_};
 ghost use mathlib.Core.List.{[], _∷_};
 ghost use Prim.Native.Nat.{_+_, _≤_, _<_};
 ghost use lib.ListN.{length, take};
@@ -10,9 +10,6 @@ ghost use Rattle.model.specs.Path.{Path, ancestors};
 ghost use Rattle.model.specs.Listing.{recordAt, ruled, headed, isListing};
 ghost use Rattle.base_fields.specs.Read.{common};
 ghost use Rattle.listing_check.specs.Turn.{fits, formedAlone, Agree, Marked};
-
-// The bytes of a record before its path.
-const RECORD_HEAD: usize = 19;
 
 // Whether the bytes begin with the mark RDL.
 fn is_marked(s: &[u8]) -> bool
@@ -28,14 +25,14 @@ fn is_marked(s: &[u8]) -> bool
 fn is_headed(s: &[u8]) -> bool
     ensures { λ r. ⌜ r ≡ headed (now (s .entry)) ⌝ }
 {
-    if s.len() < 9 {
+    if s.len() < model::LISTING_HEAD {
         return false;
     }
     if model::MAX_BUFFER < s.len() {
         return false;
     }
     if is_marked(s) {
-        return base_fields::le16(s, 3) == 1;
+        return base_fields::le16(s, 3) == model::LISTING_VERSION;
     }
     false
 }
@@ -48,9 +45,9 @@ fn is_ruled(s: &[u8], at: usize) -> bool
     let kind = s[at + 2];
     let mtime = base_fields::le64(s, at + 3);
     let size = base_fields::le64(s, at + 11);
-    ((kind == 1) & (size == 0))
-        | ((kind == 2) & (size < 0x8000_0000_0000_0000))
-        | ((kind == 3) & (size == 0) & (mtime == 0))
+    ((kind == model::LISTED_DIRECTORY) & (size == 0))
+        | ((kind == model::LISTED_FILE) & (size < model::SIGN))
+        | ((kind == model::LISTED_LINK) & (size == 0) & (mtime == 0))
 }
 
 // Whether a record stands at `at` whose own rules hold.
@@ -58,11 +55,11 @@ fn is_record(s: &[u8], at: usize) -> bool
     requires { ⌜ at ≤ 16777216 ⌝ }
     ensures { λ r. ⌜ r ≡ (fits (now (s .entry)) at && formedAlone (recordAt (now (s .entry)) at)) ⌝ }
 {
-    if s.len() < at + RECORD_HEAD {
+    if s.len() < at + model::RECORD_HEAD {
         return false;
     }
     let n = base_fields::le16(s, at) as usize;
-    let from = at + RECORD_HEAD;
+    let from = at + model::RECORD_HEAD;
     let to = from + n;
     if s.len() < to {
         return false;
@@ -90,7 +87,8 @@ fn is_before(a: &[u8], b: &[u8], n: usize) -> bool
     n < b.len()
 }
 
-// Sets the flags for a path of `len` bytes that has its first n in common with the path before it: what is shorter keeps its flag.
+// Sets the flags for a path of `len` bytes that has its first n in common with the path before it: what is shorter
+// keeps its flag.
 fn mark(flags: &mut [bool; 513], n: usize, len: usize, directory: bool)
     requires { ⌜ (n < len) × (len ≤ 512) × (length (now flags) ≡ 513) ⌝ }
     ensures { λ _. ⌜ Marked (now (flags .entry)) (now (flags .exit)) n len directory ⌝ }
@@ -106,7 +104,8 @@ fn mark(flags: &mut [bool; 513], n: usize, len: usize, directory: bool)
 // Whether the flag is set at each slash.
 fn is_placed(flags: &[bool; 513], path: &[u8]) -> bool
     requires { ⌜ length (now path) ≤ 512 ⌝ }
-    ensures { λ r. ⌜ ((f : Path → Bool) → Agree (now (flags .entry)) (now (path .entry)) f → r ≡ every f (ancestors (now (path .entry)))) ⌝ }
+    ensures { λ r. ⌜ ((f : Path → Bool) → Agree (now (flags .entry)) (now (path .entry)) f
+        → r ≡ every f (ancestors (now (path .entry)))) ⌝ }
 {
     let mut i = 0;
     while i < path.len() {
@@ -118,9 +117,9 @@ fn is_placed(flags: &[bool; 513], path: &[u8]) -> bool
     true
 }
 
-// Whether the bytes are a listing. The records are read once, from the first to the last, and each costs a fixed number of passes over
-// its own path, so that the time is linear in the listing's bytes. The k-th flag says whether the first k bytes of the path just read
-// are listed as a directory: the root is, and every other flag is set before it is read.
+// Whether the bytes are a listing. The records are read once, from the first to the last, and each costs a fixed number
+// of passes over its own path, so that the time is linear in the listing's bytes. The k-th flag says whether the first
+// k bytes of the path just read are listed as a directory: the root is, and every other flag is set before it is read.
 pub fn check(listing: &[u8]) -> bool
     ensures { λ r. ⌜ r ≡ isListing (now (listing .entry)) ⌝ }
 {
@@ -128,14 +127,14 @@ pub fn check(listing: &[u8]) -> bool
         return false;
     }
     let mut flags = [true; 513];
-    let mut left = base_fields::le32(listing, 5);
-    let mut from: usize = 9;
-    let mut at: usize = 9;
+    let mut left = base_fields::le32(listing, model::LISTING_COUNT);
+    let mut from: usize = model::LISTING_HEAD;
+    let mut at: usize = model::LISTING_HEAD;
     while 0 < left {
         if !is_record(listing, at) {
             return false;
         }
-        let start = at + RECORD_HEAD;
+        let start = at + model::RECORD_HEAD;
         let to = start + base_fields::le16(listing, at) as usize;
         let previous = &listing[from..at];
         let path = &listing[start..to];
@@ -143,7 +142,12 @@ pub fn check(listing: &[u8]) -> bool
         if !is_before(previous, path, n) {
             return false;
         }
-        mark(&mut flags, n, to - start, listing[at + 2] == 1);
+        mark(
+            &mut flags,
+            n,
+            to - start,
+            listing[at + 2] == model::LISTED_DIRECTORY,
+        );
         if !is_placed(&flags, path) {
             return false;
         }

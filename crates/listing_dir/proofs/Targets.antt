@@ -1,5 +1,4 @@
 -- What the listing has at a path, by its kind: the root is a directory, and has no record.
--- Assumes nothing.
 use mathlib.Core.Path.{_≡_, refl, ap, _∙_}
 use mathlib.Core.List.{[], _∷_}
 use native.Mathlib.Omega.{arith}

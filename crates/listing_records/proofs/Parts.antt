@@ -1,5 +1,4 @@
 -- The records below a directory stand one behind the other, and a part in the middle has the records that the whole has there.
--- Assumes nothing.
 use mathlib.Core.Path.{_≡_, refl, sym, ap, ap₂, _∙_}
 use mathlib.Core.Bool.{Bool, true, false, _&&_}
 use mathlib.Core.Logic.{inl, inr}
@@ -10,7 +9,7 @@ use native.Mathlib.Numerals.{add-one}
 use lib.Dec.{leb, eqb}
 use lib.ListN.{length, getD, take, drop, length-drop}
 use lib.Seq.{length-take-le, getD-take, getD-drop, take-take, drop-drop, append-snoc}
-use borrow.Author.Tests.{leb-true, le-leb, eqb-true, eq-eqb, ne-eqb}
+use borrow.Author.Tests.{leb-true, le-leb, eqb-true, eq-eqb}
 use Rattle.model.specs.Bytes.{Bytes, every, number, numberAt, consIf}
 use Rattle.model.specs.Utf8.{utf8}
 use Rattle.model.specs.Path.{Path, short, component, components, isPath, below}
@@ -19,40 +18,10 @@ use Rattle.model.specs.Tree.{Tree}
 use Rattle.model.specs.Listing.{ListingRecord, ruled, placed, formedRecord, recordAt, recordEnd, recordCount, recordsFrom, records, filled, treeFrom, treeIn, isListing}
 use Rattle.model.proofs.Orders.{Lt, Lt-trans, yea, nay, test, bot, and-true}
 use Rattle.model.proofs.Maps.{Above, Ascending, ascends-is}
-use Rattle.base_fields.specs.Read.{common, part}
-use Rattle.base_fields.proofs.Common.{alike, apart, heads}
+use Rattle.base_fields.specs.Read.{part}
 use Rattle.listing_records.specs.Place.{treeAt, Standing}
 use Rattle.listing_records.specs.Parts.{recordsBelow, PartOf}
 use Rattle.listing_records.proofs.Places.{checked, standing-all, stands, first-record, climbs, path-here}
-
--- `below` by the bytes in common
-pub below-apart : (d q : Path) → common d q < length d → false ≡ below d q
-below-apart [] q h = absurd (omega arith)
-below-apart (a ∷ d) [] h = refl
-below-apart (a ∷ d) (b ∷ q) h = elim (heads a d b q) [
-  | alike e n o ↦ rw (eq-eqb a b e) (below-apart d q (omega arith))
-  | apart e n o ↦ rw (ne-eqb a b e)
-]
-
-pub below-over : (d q : Path) → length q ≤ common d q → false ≡ below d q
-below-over [] [] h = refl
-below-over [] (b ∷ q) h = absurd (omega arith)
-below-over (a ∷ d) [] h = refl
-below-over (a ∷ d) (b ∷ q) h = elim (heads a d b q) [
-  | alike e n o ↦ rw (eq-eqb a b e) (below-over d q (omega arith))
-  | apart e n o ↦ rw (ne-eqb a b e)
-]
-
-pub below-next : (d q : Path) (n : ℕ) → n ≡ common d q → length d ≤ n → n < length q → eqb (getD q n 0) 47 ≡ below d q
-below-next [] [] n e h k = absurd (omega arith)
-below-next [] (b ∷ q) zero e h k = refl
-below-next [] (b ∷ q) (suc n) e h k = absurd (omega arith)
-below-next (a ∷ d) [] n e h k = absurd (omega arith)
-below-next (a ∷ d) (b ∷ q) zero e h k = absurd (omega arith)
-below-next (a ∷ d) (b ∷ q) (suc n) e h k = elim (heads a d b q) [
-  | alike z m o ↦ rw (eq-eqb a b z) (below-next d q n (omega arith) (omega arith) (omega arith))
-  | apart z m o ↦ absurd (omega arith)
-]
 
 -- every path between two that are below d is below d
 closed : (x y z : ℕ) (a b c : Path) → Lt (x ∷ a) (y ∷ b) → Lt (y ∷ b) (z ∷ c) → x ≡ z → (x ≡ y) × (Lt a b × Lt b c)

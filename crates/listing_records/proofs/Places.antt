@@ -1,5 +1,4 @@
 -- Places in a checked listing: what stands there, and what a search forward finds.
--- Assumes nothing.
 use mathlib.Core.Path.{_≡_, refl, sym, ap, _∙_}
 use mathlib.Core.Bool.{Bool, true, false, cond, _&&_}
 use mathlib.Core.List.{[], _∷_}
@@ -17,7 +16,7 @@ use Rattle.model.specs.Tree.{Tree}
 use Rattle.model.specs.Listing.{recordAt, recordEnd, recordCount, recordsFrom, records, filled, headed, nodeOf, treeFrom, treeIn, formedRecord, isListing}
 use Rattle.model.proofs.Orders.{Lt, Cmp, cmp, yea, nay, test, and-true}
 use Rattle.model.proofs.Maps.{Above, Ascending, ascends-is, is-ascends, above-trans, lookup-low}
-use Rattle.listing_records.specs.Place.{treeAt, Standing, seekFrom, firstAt}
+use Rattle.listing_records.specs.Place.{treeAt, Standing, seekFrom, nodeIf}
 use Rattle.listing_records.specs.Found.{foundOf}
 use Rattle.listing_records.specs.declared.Place.{Place}
 use Rattle.listing_records.specs.declared.Found.{Found}
@@ -115,7 +114,7 @@ module _ (s : Bytes) (p : Path) where
 
   -- it finds what the records from its start on have at p
   pub found-first : (n at : ℕ) → Ascending (treeAt s n at) → (q : Place) → q ≡ seekFrom s p n at
-      → firstAt s p (q .left) (q .at) ≡ lookup (treeAt s n at) p
+      → nodeIf s p (q .left) (q .at) ≡ lookup (treeAt s n at) p
   found-first zero at u q e = rw e
   found-first (suc n) at u q e = elim (cmp (recordAt s at .path) p) [
     | Cmp.lt l w ↦ found-first n (recordEnd s at) (u .1) q (cc) ∙ rw w
@@ -168,23 +167,23 @@ module _ (s : Bytes) (at : ℕ) where
 
 -- the first record, by its path
 module _ (s : Bytes) (p : Path) (n at : ℕ) where
-  pub first-none : n ≡ 0 → found.Absent ≡ foundOf (firstAt s p n at)
+  pub first-none : n ≡ 0 → found.Absent ≡ foundOf (nodeIf s p n at)
   first-none e = rw e
 
   module _ (h : n ≡ 0 → ⊥) (m : ℕ) (e : m ≡ numberAt s at 2) (b : Bool) (c : b ≡ same (take (at + 19 + m - (at + 19)) (drop (at + 19) s)) p) where
-    opened : (k : ℕ) → k ≡ n → firstAt s p k at ≡ cond b (some (nodeOf (recordAt s at))) none
+    opened : (k : ℕ) → k ≡ n → nodeIf s p k at ≡ cond b (some (nodeOf (recordAt s at))) none
     opened zero f = absurd (h (sym f))
     opened (suc k) f = rw (c, path-here s at m e)
 
-    pub first-here : b ≡ true → foundOf (some (nodeOf (recordAt s at))) ≡ foundOf (firstAt s p n at)
+    pub first-here : b ≡ true → foundOf (some (nodeOf (recordAt s at))) ≡ foundOf (nodeIf s p n at)
     first-here z = rw (opened n refl, z)
 
-    pub first-other : b ≡ false → found.Absent ≡ foundOf (firstAt s p n at)
+    pub first-other : b ≡ false → found.Absent ≡ foundOf (nodeIf s p n at)
     first-other z = rw (opened n refl, z)
 
 -- the search from the first record on
 pub found-all : (s : Bytes) (p : Path) (n : ℕ) (q : Place) → isListing s ≡ true → n ≡ recordCount s → q ≡ seekFrom s p n 9
-    → (d : Found) → d ≡ foundOf (firstAt s p (q .left) (q .at)) → d ≡ foundOf (lookup (treeIn s) p)
+    → (d : Found) → d ≡ foundOf (nodeIf s p (q .left) (q .at)) → d ≡ foundOf (lookup (treeIn s) p)
 found-all s p n q h e f d g =
-    let w : firstAt s p (q .left) (q .at) ≡ lookup (treeIn s) p = found-first s p n 9 (ascends-is [] (treeAt s n 9) (standing-all s n h e .up) .1) q f ∙ rw e in
+    let w : nodeIf s p (q .left) (q .at) ≡ lookup (treeIn s) p = found-first s p n 9 (ascends-is [] (treeAt s n 9) (standing-all s n h e .up) .1) q f ∙ rw e in
     g ∙ ap foundOf w

@@ -1,5 +1,4 @@
 -- The steps of a walk: the prefixes of a path ascend, and nothing is listed below what is no directory.
--- Assumes nothing.
 use mathlib.Core.Path.{_≡_, refl, sym, ap, _∙_}
 use mathlib.Core.Bool.{Bool, true, false, not, _&&_}
 use mathlib.Core.Logic.{inr}
@@ -22,7 +21,7 @@ use Rattle.base_fields.proofs.Common.{before-Lt}
 use Rattle.base_paths.specs.Ancestors.{nextSlash}
 use Rattle.base_paths.proofs.Ancestors.{next-slash}
 use Rattle.listing_records.specs.Found.{foundOf, foundKind, targetKind}
-use Rattle.listing_records.specs.Place.{treeAt, seekFrom, firstAt}
+use Rattle.listing_records.specs.Place.{treeAt, seekFrom, nodeIf}
 use Rattle.listing_records.specs.Walk.{Walks}
 use Rattle.listing_records.specs.declared.Place.{Place}
 use Rattle.listing_records.specs.declared.Found.{Found}
@@ -115,12 +114,12 @@ module _ (s : Bytes) (p : Path) (w : ComponentWalk) (k : ℕ) (v : Walks s p w k
   exhausted-kind z = sym (kind-front (lookup (treeIn s)) p k o l ∙ ap kindOf (v .gone z k (omega arith) l))
 
   module _ (h : isListing s ≡ true) (e : endsHere (drop k p) ≡ true) (q : Place) (f : q ≡ seekFrom s (take k p) (w .left) (w .at)) where
-    here : firstAt s (take k p) (q .left) (q .at) ≡ lookup (treeIn s) (take k p)
+    here : nodeIf s (take k p) (q .left) (q .at) ≡ lookup (treeIn s) (take k p)
     here = found-first s (take k p) (w .left) (w .at) (ascends-is [] (treeAt s (w .left) (w .at)) (v .stand .up) .1) q f ∙ sym (v .ahead k (omega arith) l)
 
-    pub step-kind : (d : Found) (t : RealTarget) → d ≡ foundOf (firstAt s (take k p) (q .left) (q .at)) → targetKind t ≡ foundKind d
+    pub step-kind : (d : Found) (t : RealTarget) → d ≡ foundOf (nodeIf s (take k p) (q .left) (q .at)) → targetKind t ≡ foundKind d
         → targetKind t ≡ kind (lookup (treeIn s)) (take k p)
-    step-kind d t x y = y ∙ ap foundKind x ∙ found-kind (firstAt s (take k p) (q .left) (q .at)) ∙ ap kindOf here ∙ sym (kind-front (lookup (treeIn s)) p k o l)
+    step-kind d t x y = y ∙ ap foundKind x ∙ found-kind (nodeIf s (take k p) (q .left) (q .at)) ∙ ap kindOf here ∙ sym (kind-front (lookup (treeIn s)) p k o l)
 
     pub step-walks : (t : RealTarget) (b : Bool) → b ≡ isDirectory (targetKind t) → targetKind t ≡ kind (lookup (treeIn s)) (take k p)
         → Walks s p (record { at = q .at; left = q .left; exhausted = not b }) (k + 1)

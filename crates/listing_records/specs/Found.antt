@@ -1,5 +1,4 @@
 -- What the answers of this crate say of a node of the tree.
--- Assumes nothing.
 use mathlib.Core.Option.{Option, none, some}
 use Rattle.model.specs.Tree.{Node, dir, file, link}
 use Rattle.model.specs.Tree.{Kind, nothing, aDirectory, aFile, aLink}

@@ -1,5 +1,4 @@
 -- The records below a directory, as one part in the middle of a listing.
--- Assumes nothing.
 use mathlib.Core.Path.{_≡_}
 use mathlib.Core.Bool.{true}
 use mathlib.Core.List.{List, [], _∷_}
@@ -15,7 +14,8 @@ abbrev pub recordsBelow : Path → List ListingRecord → List ListingRecord
 recordsBelow d [] = []
 recordsBelow d (r ∷ rs) = consIf (below d (r .path)) r (recordsBelow d rs)
 
--- n records of the listing s, in the bytes from `from` up to `to`, are those below d; the part decodes to them by itself, and the whole does there
+-- n records of the listing s, in the bytes from `from` up to `to`, are those below d; the part decodes to them by
+-- itself, and the whole does there
 pub record PartOf (s : Bytes) (d : Path) (from to n : ℕ) : Type 0 where
   pub start : from ≤ to
   pub end : to ≤ length s

@@ -1,5 +1,4 @@
 -- Places in a listing: the records from a place on, and the first of them that is not before a path.
--- Assumes nothing.
 use mathlib.Core.Path.{_≡_}
 use mathlib.Core.Bool.{true, cond}
 use mathlib.Core.List.{[]}
@@ -26,9 +25,10 @@ pub record Standing (s : Bytes) (n at : ℕ) : Type 0 where
 -- the place of the first of them whose path is not before p
 abbrev pub seekFrom : Bytes → Path → ℕ → ℕ → Place
 seekFrom s p zero at = record { at = at; left = 0 }
-seekFrom s p (suc n) at = cond (before (recordAt s at .path) p) (seekFrom s p n (recordEnd s at)) (record { at = at; left = suc n })
+seekFrom s p (suc n) at = cond (before (recordAt s at .path) p) (seekFrom s p n (recordEnd s at))
+    (record { at = at; left = suc n })
 
 -- the node of the first of them, if that has the path p
-abbrev pub firstAt : Bytes → Path → ℕ → ℕ → Option Node
-firstAt s p zero at = none
-firstAt s p (suc n) at = cond (same (recordAt s at .path) p) (some (nodeOf (recordAt s at))) none
+abbrev pub nodeIf : Bytes → Path → ℕ → ℕ → Option Node
+nodeIf s p zero at = none
+nodeIf s p (suc n) at = cond (same (recordAt s at .path) p) (some (nodeOf (recordAt s at))) none

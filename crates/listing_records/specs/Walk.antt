@@ -1,5 +1,4 @@
 -- A walk down a path that searches a listing forward.
--- Assumes nothing.
 use mathlib.Core.Path.{_≡_}
 use mathlib.Core.Bool.{true}
 use mathlib.Core.Option.{none}
@@ -16,5 +15,6 @@ use Rattle.listing_records.specs.declared.ComponentWalk.{ComponentWalk}
 -- since those before it are before the prefix, or w is exhausted, and none of them is listed
 pub record Walks (s : Bytes) (p : Path) (w : ComponentWalk) (k : ℕ) : Type 0 where
   pub stand : Standing s (w .left) (w .at)
-  pub ahead : (j : ℕ) → k ≤ j → j ≤ length p → lookup (treeIn s) (take j p) ≡ lookup (treeAt s (w .left) (w .at)) (take j p)
+  pub ahead : (j : ℕ) → k ≤ j → j ≤ length p → lookup (treeIn s) (take j p)
+      ≡ lookup (treeAt s (w .left) (w .at)) (take j p)
   pub gone : w .exhausted ≡ true → (j : ℕ) → k ≤ j → j ≤ length p → lookup (treeIn s) (take j p) ≡ none

@@ -6,12 +6,12 @@ ghost use mathlib.Core.Bool.{true, not};
 ghost use mathlib.Core.Option.{some};
 ghost use Prim.Native.Nat.{_+_, _-_, _≤_, _<_};
 ghost use lib.ListN.{length, take, drop};
-ghost use Rattle.model.specs.Path.{Path, below, endsHere};
+ghost use Rattle.model.specs.Path.{Path, endsHere};
 ghost use Rattle.model.specs.Map.{lookup};
 ghost use Rattle.model.specs.Tree.{kind, isDirectory};
 ghost use Rattle.model.specs.Listing.{recordAt, recordEnd, recordCount, nodeOf, treeIn, isListing};
 ghost use Rattle.listing_records.specs.Found.{foundOf, foundKind, targetKind};
-ghost use Rattle.listing_records.specs.Place.{Standing, seekFrom, firstAt};
+ghost use Rattle.listing_records.specs.Place.{Standing, seekFrom, nodeIf};
 ghost use Rattle.listing_records.specs.Parts.{PartOf};
 ghost use Rattle.listing_records.specs.Walk.{Walks};
 
@@ -43,8 +43,12 @@ pub fn first_record(listing: &[u8]) -> Place
     ensures { λ r. ⌜ r ≡ record { at = 9; left = recordCount (now (listing .entry)) } ⌝ }
     ensures { λ r. ⌜ Standing (now (listing .entry)) (r .left) (r .at) ⌝ }
 {
-    let count = base_fields::le32(listing, 5);
-    Place { at: 9, left: count }
+    let count = base_fields::le32(listing, model::LISTING_COUNT);
+    let at = model::LISTING_HEAD;
+    Place {
+        at: at,
+        left: count,
+    }
 }
 
 pub fn next_record(listing: &[u8], place: Place) -> Place
@@ -55,7 +59,7 @@ pub fn next_record(listing: &[u8], place: Place) -> Place
 {
     let at = place.at;
     let left = place.left;
-    let to = at + 19 + base_fields::le16(listing, at) as usize;
+    let to = at + model::RECORD_HEAD + base_fields::le16(listing, at) as usize;
     Place {
         at: to,
         left: left - 1,
@@ -68,7 +72,7 @@ pub fn record_path(listing: &[u8], place: Place) -> &[u8]
     ensures { λ r. ⌜ now r ≡ recordAt (now (listing .entry)) (place .at) .path ⌝ }
 {
     let at = place.at;
-    let start = at + 19;
+    let start = at + model::RECORD_HEAD;
     let to = start + base_fields::le16(listing, at) as usize;
     &listing[start..to]
 }
@@ -81,7 +85,7 @@ fn seek(listing: &[u8], path: &[u8], from: usize, count: u64) -> Place
     let mut left = count;
     let mut at = from;
     while 0 < left {
-        let start = at + 19;
+        let start = at + model::RECORD_HEAD;
         let to = start + base_fields::le16(listing, at) as usize;
         let part = &listing[start..to];
         if base_fields::is_before(part, path) {
@@ -101,10 +105,10 @@ pub fn node_at(listing: &[u8], at: usize) -> Found
 {
     let kind = listing[at + 2];
     let mtime = base_fields::le64(listing, at + 3);
-    if kind == 1 {
+    if kind == model::LISTED_DIRECTORY {
         return Found::Directory(mtime);
     }
-    if kind == 2 {
+    if kind == model::LISTED_FILE {
         let size = base_fields::le64(listing, at + 11);
         return Found::File(mtime, size);
     }
@@ -114,12 +118,12 @@ pub fn node_at(listing: &[u8], at: usize) -> Found
 // The node of the first of the `left` records from `at` on, if that has this path.
 fn found_at(listing: &[u8], path: &[u8], at: usize, left: u64) -> Found
     requires { ⌜ Standing (now listing) left at ⌝ }
-    ensures { λ r. ⌜ r ≡ foundOf (firstAt (now (listing .entry)) (now (path .entry)) left at) ⌝ }
+    ensures { λ r. ⌜ r ≡ foundOf (nodeIf (now (listing .entry)) (now (path .entry)) left at) ⌝ }
 {
     if left == 0 {
         return Found::Absent;
     }
-    let start = at + 19;
+    let start = at + model::RECORD_HEAD;
     let to = start + base_fields::le16(listing, at) as usize;
     let part = &listing[start..to];
     if base_fields::is_same(part, path) {
@@ -133,23 +137,8 @@ pub fn find_in(listing: &[u8], count: u64, path: &[u8]) -> Found
     requires { ⌜ (isListing (now listing) ≡ true) × (count ≡ recordCount (now listing)) ⌝ }
     ensures { λ r. ⌜ r ≡ foundOf (lookup (treeIn (now (listing .entry))) (now (path .entry))) ⌝ }
 {
-    let place = seek(listing, path, 9, count);
+    let place = seek(listing, path, model::LISTING_HEAD, count);
     found_at(listing, path, place.at, place.left)
-}
-
-// Whether a path lies below a directory: its bytes, then a slash. Nothing is so below the root, since no path begins with a slash.
-pub fn is_below(dir: &[u8], path: &[u8]) -> bool
-    ensures { λ r. ⌜ r ≡ below (now (dir .entry)) (now (path .entry)) ⌝ }
-{
-    let n = base_fields::shared(dir, path);
-    if n < dir.len() {
-        return false;
-    }
-    if n < path.len() {
-        let b = path[n];
-        return b == 47;
-    }
-    false
 }
 
 // A part in the middle of a listing: `count` records in the bytes from `from` up to `to`.
@@ -159,21 +148,22 @@ pub struct Part {
     pub count: u64,
 }
 
-// The records below a directory: one part in the middle, since their paths ascend. It ends at the first record behind them.
+// The records below a directory: one part in the middle, since their paths ascend. It ends at the first record behind
+// them.
 pub fn below(listing: &[u8], dir: &[u8]) -> Part
     requires { ⌜ isListing (now listing) ≡ true ⌝ }
     ensures { λ r. ⌜ PartOf (now (listing .entry)) (now (dir .entry)) (r .from) (r .to) (r .count) ⌝ }
 {
-    let mut left = base_fields::le32(listing, 5);
-    let mut from: usize = 9;
-    let mut at: usize = 9;
+    let mut left = base_fields::le32(listing, model::LISTING_COUNT);
+    let mut from: usize = model::LISTING_HEAD;
+    let mut at: usize = model::LISTING_HEAD;
     let mut n: u64 = 0;
     while 0 < left {
-        let start = at + 19;
+        let start = at + model::RECORD_HEAD;
         let to = start + base_fields::le16(listing, at) as usize;
         let part = &listing[start..to];
         left -= 1;
-        if is_below(dir, part) {
+        if base_paths::is_below(dir, part) {
             at = to;
             n += 1;
         } else {
@@ -235,8 +225,8 @@ pub fn is_dir(target: RealTarget) -> bool
     }
 }
 
-// A walk down a path, a component a step: `left` records stand from `at` on, and all before them are before every prefix to come.
-// Exhausted once a component is no directory: nothing below one is listed.
+// A walk down a path, a component a step: `left` records stand from `at` on, and all before them are before every
+// prefix to come. Exhausted once a component is no directory: nothing below one is listed.
 pub struct ComponentWalk {
     pub at: usize,
     pub left: u64,
@@ -253,22 +243,24 @@ impl ComponentWalk {
         requires { ⌜ isListing (now listing) ≡ true ⌝ }
         ensures { λ r. ⌜ ((p : Path) → Walks (now (listing .entry)) p r 0) ⌝ }
     {
-        let left = base_fields::le32(listing, 5);
+        let left = base_fields::le32(listing, model::LISTING_COUNT);
         ComponentWalk {
-            at: 9,
+            at: model::LISTING_HEAD,
             left: left,
             exhausted: false,
         }
     }
 
-    // What is listed at the path's first `end` bytes, where a component ends. The search goes on from where the last step's ended,
-    // since the prefixes of a path ascend: all the steps over one path together read the listing once. An exhausted walk reads nothing.
+    // What is listed at the path's first `end` bytes, where a component ends. The search goes on from where the last
+    // step's ended, since the prefixes of a path ascend: all the steps over one path together read the listing once. An
+    // exhausted walk reads nothing.
     pub fn step(self, listing: &[u8], path: &[u8], end: usize) -> Stepped
         requires { ⌜ isListing (now listing) ≡ true ⌝ }
         requires { ⌜ Walks (now listing) (now path) self end ⌝ }
         requires { ⌜ (0 < end) × (end ≤ length (now path)) ⌝ }
         requires { ⌜ endsHere (drop end (now path)) ≡ true ⌝ }
-        ensures { λ r. ⌜ targetKind (r .target) ≡ kind (lookup (treeIn (now (listing .entry)))) (take end (now (path .entry))) ⌝ }
+        ensures { λ r. ⌜ targetKind (r .target) ≡ kind (lookup (treeIn (now (listing .entry))))
+            (take end (now (path .entry))) ⌝ }
         ensures { λ r. ⌜ r .walk .exhausted ≡ not (isDirectory (targetKind (r .target))) ⌝ }
         ensures { λ r. ⌜ (self .exhausted ≡ true → r .walk ≡ self) ⌝ }
         ensures { λ r. ⌜ Walks (now (listing .entry)) (now (path .entry)) (r .walk) (end + 1) ⌝ }

@@ -1,5 +1,4 @@
 -- What a step requires; and four facts in a row, as a contract of four clauses has them: shown beside what is held, and learned together.
--- Assumes nothing.
 use mathlib.Core.Path.{_≡_}
 use mathlib.Core.Bool.{true}
 use Prim.Native.Nat.{ℕ, _<_, _≤_}

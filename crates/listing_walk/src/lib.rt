@@ -1,6 +1,7 @@
-// ComponentWalk's step with the walk lent, as in overlay.rs: a thin function above listing_records' step by value, which does the work.
-// Assumes bytes that are a listing: only this repository's crates call, after a check.
-// A function with a reference to a struct is proved over its MIR by hand, as both are here; whoever calls `step_once` needs no such proof.
+// ComponentWalk's step with the walk lent, as in overlay.rs: a thin function above listing_records' step by value,
+// which does the work. Assumes bytes that are a listing: only this repository's crates call, after a check. A function
+// with a reference to a struct is proved over its MIR by hand, as both are here; whoever calls `step_once` needs no
+// such proof.
 ghost use mathlib.Core.Path.{_≡_};
 ghost use mathlib.Core.Bool.{true};
 ghost use Prim.Native.Nat.{_≤_, _<_};
@@ -26,7 +27,8 @@ pub fn step(
     stepped.target
 }
 
-// The same for a walk that is held by value: it is lent for the step. A loop that calls this holds no reference to its walk.
+// The same for a walk that is held by value: it is lent for the step. A loop that calls this holds no reference to its
+// walk.
 pub fn step_once(
     walk: listing_records::ComponentWalk,
     listing: &[u8],

@@ -1,6 +1,5 @@
 -- Demand 3 on lists, for one call: what is accepted the plain tree's rules accept, what they allow is refused only with a cause, and an accepted call keeps
 -- the invariant and the equality of the visible tree with the plain one.
--- Assumes nothing.
 use mathlib.Core.Path.{_≡_, refl, ap, sym, _∙_, fun-ext, subst, subst⁻¹}
 use mathlib.Core.Logic.{_↔_, inl, inr}
 use mathlib.Core.List.{List, [], _∷_}

@@ -1,5 +1,5 @@
 -- What a case of the tables in Cases.antt and Corners.antt is, and how it is computed: on bytes, from a listing and a table encoded here.
--- Assumes nothing. The encoding of a listing serves the cases alone: the port only reads listings.
+-- The encoding of a listing serves the cases alone: the port only reads listings.
 use mathlib.Core.Bool.{Bool, true, false}
 use mathlib.Core.List.{List, [], _∷_, _++_}
 use Prim.Native.Nat.{ℕ}

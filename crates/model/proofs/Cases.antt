@@ -1,5 +1,5 @@
 -- The cases of document 01, "Corners in overlay.rs and overlay_state.rs", that are marked (P): one table, one theorem, computed.
--- Each compares the whole answer (number, path, length), the charge and all entries after the call. Assumes nothing.
+-- Each compares the whole answer (number, path, length), the charge and all entries after the call.
 use mathlib.Core.List.{List, [], _∷_, map}
 use mathlib.Core.Path.{_≡_, refl}
 use Prim.Native.Nat.{ℕ}

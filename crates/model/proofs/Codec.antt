@@ -1,6 +1,5 @@
 -- The table's bytes, both ways: what bytes and a record that are a table must be, and that a table, encoded with zeros behind, is read again
 -- as it was. A table is encoded in numbers of fixed width, so the way there and back asks that its numbers fit (`Words`).
--- Assumes nothing.
 use mathlib.Core.Path.{_≡_, refl, ap, ap₂, sym, _∙_}
 use mathlib.Core.List.{[], _∷_, _++_, append-assoc}
 use mathlib.Core.Bool.{Bool, true, _&&_, _||_}

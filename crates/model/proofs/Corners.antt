@@ -1,5 +1,5 @@
 -- Cases that the corners of document 01 miss, computed like those of Cases.antt. Above each stands a wrong implementation that it rules out.
--- Some begin with a table that no call builds: there too the checks are read to the letter. Assumes nothing.
+-- Some begin with a table that no call builds: there too the checks are read to the letter.
 use mathlib.Core.Bool.{true, false}
 use mathlib.Core.List.{List, [], _∷_, _++_, map}
 use mathlib.Core.Path.{_≡_, refl}

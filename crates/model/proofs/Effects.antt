@@ -1,5 +1,4 @@
 -- What an accepted call leaves alone, that it ends within its limit, and that it does to the visible tree what POSIX says.
--- Assumes nothing.
 use mathlib.Core.Path.{_≡_, refl, ap, sym, _∙_, fun-ext, subst, subst⁻¹}
 use mathlib.Core.Logic.{_⊎_, inl, inr}
 use mathlib.Core.List.{List, [], _∷_, _++_}

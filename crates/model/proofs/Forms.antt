@@ -1,5 +1,5 @@
 -- Computed cases of the forms of document 01: which bytes are a path, a listing, a table with its record; 1, 2 and 3 in their order; answers; opening.
--- Beside each stands what is wrong with it, or what a wrong check would make of it. Assumes nothing.
+-- Beside each stands what is wrong with it, or what a wrong check would make of it.
 use mathlib.Core.Bool.{Bool, true, false}
 use mathlib.Core.List.{List, [], _∷_, _++_, map}
 use mathlib.Core.Path.{_≡_, refl}

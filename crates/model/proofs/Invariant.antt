@@ -1,5 +1,4 @@
 -- The invariant that the calls keep: what is visible stands in directories, and what entries may stand over.
--- Assumes nothing.
 use mathlib.Core.Path.{_≡_, refl, ap, sym, _∙_, fun-ext, subst⁻¹}
 use mathlib.Core.List.{List, [], _∷_, map}
 use mathlib.Core.Bool.{Bool, true, false, cond}

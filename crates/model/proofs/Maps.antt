@@ -1,5 +1,4 @@
 -- Laws of finite maps: what is found at a path after each operation, and that ascending maps with the same findings are equal.
--- Assumes nothing.
 use mathlib.Core.Path.{_≡_, refl, ap, ap₂, sym, _∙_}
 use mathlib.Core.List.{List, [], _∷_, _++_}
 use mathlib.Core.Bool.{Bool, true, false, cond, _||_}

@@ -1,5 +1,4 @@
 -- Laws of the order of paths, of `below`, `ancestors` and `rest`; and the views by which the proofs go by cases.
--- Assumes nothing.
 use mathlib.Core.Path.{_≡_, refl, ap, ap₂, sym, _∙_}
 use mathlib.Core.List.{List, [], _∷_, _++_, map, append-nil}
 use mathlib.Core.Bool.{Bool, true, false, _&&_, _||_, not}

@@ -1,6 +1,5 @@
 -- The shape of every refusal: its number is one of document 01's thirteen, and its path and length are those of the table in "Turning a call down".
 -- Of the changing calls, the queries and opening, for every input: what the bytes are, and whether a call built them, is not asked.
--- Assumes nothing.
 use mathlib.Core.Path.{_∙_, _≡_, ap, ap₂, refl, subst₃, sym}
 use mathlib.Core.List.{List, [], _∷_}
 use mathlib.Core.Bool.{Bool, true, false, cond, _||_}

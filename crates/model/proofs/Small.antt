@@ -1,5 +1,4 @@
 -- write, mkdir, unlink and rmdir keep the invariant; what their checks say of what is visible.
--- Assumes nothing.
 use mathlib.Core.Path.{_≡_, refl, ap, sym, _∙_}
 use mathlib.Core.Logic.{_⊎_, inl, inr}
 use mathlib.Core.List.{List, [], _∷_}

@@ -1,6 +1,5 @@
 -- The form of paths under joining with a slash: UTF-8 and the components of `a/r`; so the ancestors of a path are paths, and so is
 -- a path below a with b standing where a stood, if it is short enough.
--- Assumes nothing.
 use mathlib.Core.Path.{_≡_, refl, ap, sym, subst, _∙_}
 use mathlib.Core.List.{List, [], _∷_, _++_, append-nil}
 use mathlib.Core.Bool.{Bool, true, not, _&&_}

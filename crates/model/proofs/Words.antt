@@ -1,5 +1,4 @@
 -- The numbers in a table and in a listing are 64-bit numbers, and what stands in a lent buffer are bytes.
--- Assumes nothing.
 use mathlib.Core.List.{[], _∷_}
 use Prim.Native.Nat.{ℕ, _<_}
 use Rattle.model.specs.Bytes.{Bytes}

@@ -1,8 +1,9 @@
 -- What an answer says: document 01's number and values for each case of the declared answer types.
--- Assumes nothing.
 use Prim.Native.Nat.{ℕ}
 use Rattle.model.specs.declared.Refusal.{Refusal}
-use Rattle.model.specs.declared.Refusal.the-variants.{MalformedTable, MalformedListing, MalformedPath, LinkOrRoot, NotFound, Exists, NotADirectory, IsADirectory, NotEmpty, BelowSource, Limit, KeyTooLong, NoRoom}
+use Rattle.model.specs.declared.Refusal.the-variants.{MalformedTable, MalformedListing, MalformedPath, LinkOrRoot}
+use Rattle.model.specs.declared.Refusal.the-variants.{NotFound, Exists, NotADirectory, IsADirectory, NotEmpty}
+use Rattle.model.specs.declared.Refusal.the-variants.{BelowSource, Limit, KeyTooLong, NoRoom}
 use Rattle.model.specs.declared.Answer.{Answer}
 use Rattle.model.specs.declared.Answer.the-variants.{Accepted, Refused}
 use Rattle.model.specs.declared.Finding.{Finding}

@@ -1,13 +1,15 @@
--- The calls of document 01 on a table and a tree: the checks in their order from 3 to 12, the table after an accepted call, and the queries.
--- Assumes nothing.
+-- The calls of document 01 on a table and a tree: the checks in their order from 3 to 12, the table after an accepted
+-- call, and the queries.
 use mathlib.Core.Bool.{Bool, true, false}
 use Prim.Native.Nat.{ℕ}
 use lib.ListN.{length}
 use Rattle.model.specs.Bytes.{Bytes}
 use Rattle.model.specs.Path.{Path}
 use Rattle.model.specs.Map.{put, puts, each}
-use Rattle.model.specs.Tree.{own, directory, deleted, Table, Tree, shown, Kind, nothing, aDirectory, aFile, aLink, kind}
-use Rattle.model.specs.Checks.{Check, _then_, form, writeChecks, mkdirAt, mkdirParents, makes, unlinkChecks, rmdirChecks, Memory, charged}
+use Rattle.model.specs.Tree.{own, directory, deleted, Table, Tree, shown, Kind, nothing, aDirectory, aFile, aLink}
+use Rattle.model.specs.Tree.{kind}
+use Rattle.model.specs.Checks.{Check, _then_, form, writeChecks, mkdirAt, mkdirParents, makes, unlinkChecks}
+use Rattle.model.specs.Checks.{rmdirChecks, Memory, charged}
 use Rattle.model.specs.Rename.{moved, renameChecks}
 
 pub data Call : Type 0 where
@@ -37,7 +39,8 @@ forms (rename a b) = form 0 a then form 1 b
 abbrev pub rules : Memory → Table → Tree → Call → Check
 rules memory t l (write p m c) = writeChecks (shown t l) p then charged memory (changed t l (write p m c))
 rules memory t l (mkdir p up ok m) =
-    mkdirAt (length p) ok (kind (shown t l) p) (mkdirParents (shown t l) p up then charged memory (changed t l (mkdir p up ok m)))
+    mkdirAt (length p) ok (kind (shown t l) p)
+    (mkdirParents (shown t l) p up then charged memory (changed t l (mkdir p up ok m)))
 rules memory t l (unlink p) = unlinkChecks t l p then charged memory (changed t l (unlink p))
 rules memory t l (rmdir p) = rmdirChecks t l p then charged memory (changed t l (rmdir p))
 rules memory t l (rename a b) = renameChecks memory t l a b

@@ -1,5 +1,5 @@
--- Document 01, "Turning a call down": the causes of 1, 2, 11, 12 and 13, apart from the order of checks. The rows are those of its table.
--- Assumes nothing.
+-- Document 01, "Turning a call down": the causes of 1, 2, 11, 12 and 13, apart from the order of checks. The rows are
+-- those of its table.
 use mathlib.Core.Path.{_≡_}
 use mathlib.Core.Bool.{false}
 use mathlib.Core.Option.{none}
@@ -22,13 +22,16 @@ pub record MovesDirectory (t : Table) (l : Tree) (c : Call) (a b : Path) : Type 
 
 -- the causes of 11 and 12 for a call c on the table t over the tree l
 pub data Exceeds (E limit : ℕ) (t : Table) (l : Tree) (c : Call) : ℕ → Type 0 where
-  -- "limit": the charge after the call, the plan, or the walk's sum (all of it, as it is without a budget) after an addition
+  -- "limit": the charge after the call, the plan, or the walk's sum (all of it, as it is without a budget) after an
+  -- addition
   charge-above : limit < charge E (changed t l c) → Exceeds E limit t l c 11
   plan-above : (a b : Path) → MovesDirectory t l c a b → limit < charge E t + planned a b t → Exceeds E limit t l c 11
   walk-above : (a b : Path) (n : ℕ) → MovesDirectory t l c a b → kind (lookup l) a ≡ aDirectory
-      → walkFrom t l none a ≡ sum n → 2 * length a + 1 < n → limit < charge E t + planned a b t + n → Exceeds E limit t l c 11
+      → walkFrom t l none a ≡ sum n → 2 * length a + 1 < n → limit < charge E t + planned a b t + n
+      → Exceeds E limit t l c 11
   -- "a moved key above 512 bytes or 32 components"
-  key-above : (a b : Path) → c ≡ rename a b → every short (keys (rekey a b (carried t l a))) ≡ false → Exceeds E limit t l c 12
+  key-above : (a b : Path) → c ≡ rename a b → every short (keys (rekey a b (carried t l a))) ≡ false
+      → Exceeds E limit t l c 12
 
 pub data Cause (listing : Bytes) (q : Request) (s : Store) : ℕ → Type 0 where
   -- "table, record, E above 4,096 or work buffer malformed or too short"
@@ -36,6 +39,7 @@ pub data Cause (listing : Bytes) (q : Request) (s : Store) : ℕ → Type 0 wher
   short-work : length (q .work) < length (s .table) → Cause listing q s 1
   -- "listing malformed"
   malformed-listing : isListing listing ≡ false → Cause listing q s 2
-  exceeds : (n : ℕ) → Exceeds (s .rec .«entry_size») (q .limit) (tableIn (s .table) (s .rec)) (treeIn listing) (q .call) n → Cause listing q s n
+  exceeds : (n : ℕ) → Exceeds (s .rec .«entry_size») (q .limit) (tableIn (s .table) (s .rec)) (treeIn listing)
+      (q .call) n → Cause listing q s n
   -- "entries after the call longer than the table buffer"
   no-room : length (s .table) < length (encode (tableAfter listing q s)) → Cause listing q s 13

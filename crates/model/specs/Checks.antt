@@ -1,5 +1,5 @@
--- Document 01, "Order of checks": parents, write, mkdir, unlink and rmdir, up to 10; then 11, which stands in every order.
--- Assumes nothing: on tables that no call built, and on trees that no listing gives, the checks are read to the letter.
+-- Document 01, "Order of checks": parents, write, mkdir, unlink and rmdir, up to 10; then 11, which stands in every
+-- order. On tables that no call built, and on trees that no listing gives, the checks are read to the letter.
 use mathlib.Core.Bool.{Bool, true, false, cond, not, _&&_, _||_}
 use mathlib.Core.List.{List, [], _∷_}
 use mathlib.Core.Option.{Option, none, some}
@@ -9,7 +9,8 @@ use lib.ListN.{length}
 use Rattle.model.specs.Bytes.{some?, consIf}
 use Rattle.model.specs.Path.{Path, isPath, ancestors, child}
 use Rattle.model.specs.Map.{lookup, keys}
-use Rattle.model.specs.Tree.{Entry, own, reference, directory, deleted, Table, Tree, View, shown, Kind, nothing, aDirectory, aFile, aLink, kind, isNothing}
+use Rattle.model.specs.Tree.{Entry, own, reference, directory, deleted, Table, Tree, View, shown, Kind, nothing}
+use Rattle.model.specs.Tree.{aDirectory, aFile, aLink, kind, isNothing}
 use Rattle.model.specs.Table.{charge}
 
 -- a check passes, or refuses with a number, a path (0: only or source, 1: destination) and a length
@@ -32,7 +33,8 @@ unless n false = refuse n 0 0
 abbrev pub form : ℕ → Path → Check
 form w p = cond (isPath p) pass (refuse 3 w 0)
 
--- "Parents of p, from the top: a directory entry passes, another entry gives 5; without an entry a directory passes, a link gives 4, else 5."
+-- "Parents of p, from the top: a directory entry passes, another entry gives 5; without an entry a directory passes, a
+-- link gives 4, else 5."
 abbrev pub parentAt : ℕ → ℕ → Kind → Check
 parentAt w n nothing = refuse 5 w n
 parentAt w n aDirectory = pass
@@ -56,7 +58,8 @@ writeAt n aLink = refuse 4 0 n
 abbrev pub writeChecks : View → Path → Check
 writeChecks f p = parentChecks 0 f p then writeAt (length p) (kind f p)
 
--- "with the parents flag, at the first ancestor that is a file 7, or a link 4 with the whole path's length, missing ones being made"
+-- "with the parents flag, at the first ancestor that is a file 7, or a link 4 with the whole path's length, missing
+-- ones being made"
 abbrev pub ancestorAt : ℕ → ℕ → Kind → Check
 ancestorAt k n nothing = pass
 ancestorAt k n aDirectory = pass
@@ -71,8 +74,8 @@ abbrev pub mkdirParents : View → Path → Bool → Check
 mkdirParents f p true = ancestorsIn (length p) (kind f) (ancestors p)
 mkdirParents f p false = parentChecks 0 f p
 
--- "mkdir: own entry (a deleted one passes) or, without an entry, listed kind (6, also for a file with exist_ok; link 4; a directory with exist_ok is
--- accepted here)": what follows, `later`, is asked only where nothing is shown
+-- "mkdir: own entry (a deleted one passes) or, without an entry, listed kind (6, also for a file with exist_ok; link 4;
+-- a directory with exist_ok is accepted here)": what follows, `later`, is asked only where nothing is shown
 abbrev pub mkdirAt : ℕ → Bool → Kind → Check → Check
 mkdirAt n existOk nothing later = later
 mkdirAt n existOk aDirectory later = cond existOk pass (refuse 6 0 n)
@@ -87,7 +90,8 @@ missing g (q ∷ qs) = consIf (isNothing (g q)) q (missing g qs)
 abbrev pub makes : View → Path → List Path
 makes f p = cond (isNothing (kind f p)) (missing (kind f) (p ∷ ancestors p)) []
 
--- "unlink: an own file or reference goes straight to 11; a directory entry is 8; deleted is 5; else parents, then 4, 8 or 5"
+-- "unlink: an own file or reference goes straight to 11; a directory entry is 8; deleted is 5; else parents, then 4, 8
+-- or 5"
 abbrev pub unlinkAt : ℕ → Kind → Check
 unlinkAt n nothing = refuse 5 0 n
 unlinkAt n aDirectory = refuse 8 0 n
@@ -102,19 +106,22 @@ unlinkEntry n (some (directory m)) otherwise = refuse 8 0 n
 unlinkEntry n (some deleted) otherwise = refuse 5 0 n
 
 abbrev pub unlinkChecks : Table → Tree → Path → Check
-unlinkChecks t l p = unlinkEntry (length p) (lookup t p) (parentChecks 0 (shown t l) p then unlinkAt (length p) (kind (shown t l) p))
+unlinkChecks t l p = unlinkEntry (length p) (lookup t p) (parentChecks 0 (shown t l) p
+    then unlinkAt (length p) (kind (shown t l) p))
 
 -- "root given | 4 | path, length"
 abbrev pub notRoot : ℕ → Path → Check
 notRoot w [] = refuse 4 w 0
 notRoot w (c ∷ p) = pass
 
--- "not empty (a link counts as a child) | 9 | path, length": some path of the table or the listing is a child of p at which something is visible
+-- "not empty (a link counts as a child) | 9 | path, length": some path of the table or the listing is a child of p at
+-- which something is visible
 abbrev pub visibleChild : View → Path → List Path → Bool
 visibleChild f p ks = some? (λ k. child p k && not (isNothing (kind f k))) ks
 
 abbrev pub noVisibleChild : ℕ → Table → Tree → Path → Check
-noVisibleChild w t l p = cond (visibleChild (shown t l) p (keys t) || visibleChild (shown t l) p (keys l)) (refuse 9 w (length p)) pass
+noVisibleChild w t l p = cond (visibleChild (shown t l) p (keys t) || visibleChild (shown t l) p (keys l))
+    (refuse 9 w (length p)) pass
 
 -- "rmdir: root 4; own entry (file 7, deleted 5, directory on to 9); else parents, link 4, 5 or 7; 9"
 abbrev pub rmdirAt : ℕ → Kind → Check

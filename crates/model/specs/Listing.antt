@@ -1,5 +1,4 @@
 -- Document 01, "Paths and the published tree": the listing's bytes, its rules, and the tree that it gives.
--- Assumes nothing.
 use mathlib.Core.Bool.{Bool, cond, _&&_, _||_}
 use mathlib.Core.List.{List, [], _∷_}
 use Prim.Native.Nat.{ℕ, zero, suc, _+_}
@@ -58,7 +57,8 @@ ruled r =
 
 -- "a node for each record, a listed file held by its own path"
 abbrev pub nodeOf : ListingRecord → Node
-nodeOf r = cond (eqb (r .type) 1) (dir (r .mtime)) (cond (eqb (r .type) 2) (file (r .mtime) (r .size) (listed (r .path))) link)
+nodeOf r = cond (eqb (r .type) 1) (dir (r .mtime)) (cond (eqb (r .type) 2)
+    (file (r .mtime) (r .size) (listed (r .path))) link)
 
 abbrev pub treeFrom : List ListingRecord → Tree
 treeFrom [] = []
@@ -77,4 +77,5 @@ formedRecord l r = isPath (r .path) && ruled r && placed l r
 
 -- "Paths ascend strictly by bytes … and not empty": from the empty path on
 abbrev pub isListing : Bytes → Bool
-isListing s = let l = treeIn s in headed s && filled s (recordCount s) 9 && ascends [] l && every (formedRecord l) (records s)
+isListing s = let l = treeIn s in headed s && filled s (recordCount s) 9 && ascends [] l
+    && every (formedRecord l) (records s)

@@ -1,5 +1,5 @@
 -- Finite maps as lists of paths with values, strictly ascending by path: the form of the table and of the trees.
--- Assumes nothing: each function is defined on every list.
+-- Each function is defined on every list.
 use mathlib.Core.Bool.{Bool, true, false, cond, _&&_}
 use mathlib.Core.List.{List, [], _∷_, _++_}
 use mathlib.Core.Option.{Option, none, some}

@@ -1,5 +1,4 @@
 -- Each call on bytes, for every input: the answer, and what it leaves as record, table and work buffer.
--- Assumes nothing.
 use mathlib.Core.Bool.{Bool, cond, _&&_}
 use mathlib.Core.List.{[]}
 use Prim.Native.Nat.{ℕ}
@@ -35,7 +34,8 @@ pub record Outcome : Type 0 where
 abbrev pub tableAfter : Bytes → Request → Store → Table
 tableAfter listing q s = changed (tableIn (s .table) (s .rec)) (treeIn listing) (q .call)
 
--- "Changing calls take a work buffer at least as long as the table buffer"; "table, record, E above 4,096 or work buffer malformed or too short | 1"
+-- "Changing calls take a work buffer at least as long as the table buffer"; "table, record, E above 4,096 or work
+-- buffer malformed or too short | 1"
 abbrev pub lent : Request → Store → Bool
 lent q s = isTable (s .table) (s .rec) && leb (length (s .table)) (length (q .work))
 

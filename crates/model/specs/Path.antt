@@ -1,5 +1,4 @@
 -- Document 01, "Paths and the published tree": which bytes are a path; ancestors, children, and what lies below a path.
--- Assumes nothing.
 use mathlib.Core.Bool.{Bool, true, false, cond, not, _&&_, _||_}
 use mathlib.Core.List.{List, [], _∷_, map}
 use mathlib.Core.Option.{Option, none, some}
@@ -51,7 +50,8 @@ abbrev pub ancestors : Path → List Path
 ancestors [] = []
 ancestors (b ∷ s) = let r = map (λ (q : Path). b ∷ q) (ancestors s) in cond (eqb b 47) ([] ∷ r) r
 
--- "below means from `a/` up to, not including, `a0`": k is p, a slash, and whatever follows. No path in form is so below the root.
+-- "below means from `a/` up to, not including, `a0`": k is p, a slash, and whatever follows. No path in form is so
+-- below the root.
 abbrev pub below : Path → Path → Bool
 below [] [] = false
 below [] (c ∷ k) = eqb c 47

@@ -1,5 +1,4 @@
 -- Document 01, "Order of checks": rename, with its plan and its walk, and the table that it leaves.
--- Assumes nothing.
 use mathlib.Core.Bool.{Bool, cond, not, _&&_, _||_}
 use mathlib.Core.List.{List, [], _∷_, _++_}
 use mathlib.Core.Option.{Option, none, some}
@@ -9,9 +8,12 @@ use lib.ListN.{length, drop}
 use Rattle.model.specs.Bytes.{every, same, consIf}
 use Rattle.model.specs.Path.{Path, components, short, ancestors, below, child}
 use Rattle.model.specs.Map.{isNone, lookup, puts, only, each, keys, rekey, mapped}
-use Rattle.model.specs.Tree.{held, listed, Node, dir, file, link, Entry, own, reference, directory, deleted, Table, Tree, shown, Kind, nothing, aDirectory, aFile, aLink, kindOf, kind, isDirectory}
+use Rattle.model.specs.Tree.{held, listed, Node, dir, file, link, Entry, own, reference, directory, deleted}
+use Rattle.model.specs.Tree.{Table, Tree, shown, Kind, nothing, aDirectory, aFile, aLink, kindOf, kind}
+use Rattle.model.specs.Tree.{isDirectory}
 use Rattle.model.specs.Table.{charge}
-use Rattle.model.specs.Checks.{Check, pass, refuse, _then_, unless, parentChecks, notRoot, noVisibleChild, Memory, limited, unlimited, charged}
+use Rattle.model.specs.Checks.{Check, pass, refuse, _then_, unless, parentChecks, notRoot, noVisibleChild, Memory}
+use Rattle.model.specs.Checks.{limited, unlimited, charged}
 
 -- "a link at the destination without an entry, 4"; "source … link 4"
 abbrev pub notLink : ℕ → ℕ → Kind → Check
@@ -28,7 +30,8 @@ notDeleted n (some (reference m z p)) = pass
 notDeleted n (some (directory m)) = pass
 notDeleted n (some deleted) = refuse 5 0 n
 
--- "type clash 8 or 7": the destination is a directory and the source is none, or the source is a directory and the destination is a file
+-- "type clash 8 or 7": the destination is a directory and the source is none, or the source is a directory and the
+-- destination is a file
 abbrev pub noClash : ℕ → Kind → Kind → Check
 noClash n source nothing = pass
 noClash n source aDirectory = cond (isDirectory source) pass (refuse 8 1 n)
@@ -55,9 +58,11 @@ abbrev pub planned : Path → Path → Table → ℕ
 planned a b [] = 0
 planned a b (x ∷ xs) = cond (below a (x .0)) (2 * length (x .0) + length (newKey a b (x .0)) + 256) 0 + planned a b xs
 
--- "Plan: 11 if the charge exceeds the limit, or if the sum … exceeds limit minus charge; the rest is the walk's budget."
+-- "Plan: 11 if the charge exceeds the limit, or if the sum … exceeds limit minus charge; the rest is the walk's
+-- budget."
 abbrev pub plan : Memory → Table → Path → Path → Check
-plan (limited E limit) t a b = unless 11 (leb (charge E t) limit) then unless 11 (leb (planned a b t) (limit - charge E t))
+plan (limited E limit) t a b = unless 11 (leb (charge E t) limit)
+    then unless 11 (leb (planned a b t) (limit - charge E t))
 plan unlimited t a b = pass
 
 abbrev pub budget : Memory → Table → Path → Path → Option ℕ
@@ -146,8 +151,9 @@ abbrev pub keysFit : Memory → Table → Check
 keysFit (limited E limit) c = unless 12 (every short (keys c))
 keysFit unlimited c = pass
 
--- "rename: roots; destination's parents; a link at the destination without an entry, 4; source's parents; source deleted 5, link 4; type clash 8 or 7;
--- 9 for a directory source; 10; source absent 5; for a directory the plan and the walk; 11; 12"
+-- "rename: roots; destination's parents; a link at the destination without an entry, 4; source's parents; source
+-- deleted 5, link 4; type clash 8 or 7; 9 for a directory source; 10; source absent 5; for a directory the plan and the
+-- walk; 11; 12"
 abbrev pub renameChecks : Memory → Table → Tree → Path → Path → Check
 renameChecks memory t l a b =
     let f = shown t l in
@@ -163,6 +169,7 @@ renameChecks memory t l a b =
     then cond (below a b) (refuse 10 0 (length a)) pass
     then present (length a) (kind f a)
     then ifDirectory (kind f a) (plan memory t a b)
-    then ifDirectory (kind f a) (ifDirectory (kind (lookup l) a) (walked (length a) (walkFrom t l (budget memory t a b) a)))
+    then ifDirectory (kind f a) (ifDirectory (kind (lookup l) a)
+    (walked (length a) (walkFrom t l (budget memory t a b) a)))
     then charged memory (moved t l a b)
     then keysFit memory (rekey a b (carried t l a))

@@ -1,5 +1,5 @@
--- Document 01, "The list of calls and the plain tree", and term 3 of the customer: the list of calls, and demand 3 sentence by sentence.
--- Assumes nothing.
+-- Document 01, "The list of calls and the plain tree", and term 3 of the customer: the list of calls, and demand 3
+-- sentence by sentence.
 use mathlib.Core.Path.{_≡_}
 use mathlib.Core.Bool.{Bool, true, false, _&&_, _||_}
 use mathlib.Core.List.{List, [], _∷_}
@@ -24,14 +24,16 @@ pub record State : Type 0 where
   pub store : Store
   pub plain : Tree
 
--- "It is fed each call's paths, flags, data and mtime, and whether the call was accepted"; "A refused call does nothing."
+-- "It is fed each call's paths, flags, data and mtime, and whether the call was accepted"; "A refused call does
+-- nothing."
 abbrev pub fed : Reply → Call → Tree → Tree
 fed (accepted v) c s = plainEffect s c
 fed (refused n w k) c s = s
 
 -- "Each call gets the table and record that the last one returned or, refused, left"
 abbrev pub step : Bytes → Request → State → State
-step listing q x = let o = outcome listing q (x .store) in record { store = o .store; plain = fed (o .reply) (q .call) (x .plain) }
+step listing q x = let o = outcome listing q (x .store) in record
+    { store = o .store; plain = fed (o .reply) (q .call) (x .plain) }
 
 abbrev pub after : Bytes → List Request → State → State
 after listing [] x = x
@@ -54,8 +56,8 @@ abbrev pub keptBytes : Path → Option Entry → Option Bytes
 keptBytes k none = none
 keptBytes k (some e) = some (entryBytes k e)
 
--- "a path it names, … a parent that its mkdir made, or below its rename's source or destination"; "A parent that mkdir made is an ancestor that showed nothing
--- before the call."
+-- "a path it names, … a parent that its mkdir made, or below its rename's source or destination"; "A parent that mkdir
+-- made is an ancestor that showed nothing before the call."
 abbrev pub touches : View → Call → Path → Bool
 touches f (write p m c) k = same p k
 touches f (mkdir p up ok m) k = same p k || (below k p && isNothing (kind f k))
@@ -66,21 +68,26 @@ touches f (rename a b) k = same a k || (same b k || (below a k || below b k))
 module _ (listing : Bytes) where
   -- "No call in the list is accepted that the plain tree's rules refuse"
   abbrev pub AcceptedByRules : State → Request → Type 0
-  AcceptedByRules x q = (v : ℕ) → outcome listing q (x .store) .reply ≡ accepted v → plainRules (x .plain) (q .call) ≡ pass
+  AcceptedByRules x q = (v : ℕ) → outcome listing q (x .store) .reply ≡ accepted v
+      → plainRules (x .plain) (q .call) ≡ pass
 
-  -- "and none that they allow is refused by 4 to 10, or by another number without that number's cause": only 1, 2, 11, 12 and 13 have a `Cause`
+  -- "and none that they allow is refused by 4 to 10, or by another number without that number's cause": only 1, 2, 11,
+  -- 12 and 13 have a `Cause`
   abbrev pub RefusedWithCause : State → Request → Type 0
   RefusedWithCause x q =
-      (n w k : ℕ) → outcome listing q (x .store) .reply ≡ refused n w k → plainRules (x .plain) (q .call) ≡ pass → Cause listing q (x .store) n
+      (n w k : ℕ) → outcome listing q (x .store) .reply ≡ refused n w k → plainRules (x .plain) (q .call) ≡ pass
+      → Cause listing q (x .store) n
 
-  -- "Each call leaves every path's entry, or lack of one, as it was, other than at …"; "An entry stays as it was if all its bytes do."
+  -- "Each call leaves every path's entry, or lack of one, as it was, other than at …"; "An entry stays as it was if all
+  -- its bytes do."
   abbrev pub LeavesOthers : State → Request → Type 0
   LeavesOthers x q = (k : Path) → touches (shown (entriesOf (x .store)) (treeIn listing)) (q .call) k ≡ false
       → keptBytes k (lookup (entriesOf (step listing q x .store)) k) ≡ keptBytes k (lookup (entriesOf (x .store)) k)
 
   -- "An accepted call that changes the table ends with a charge within its limit."
   abbrev pub WithinLimit : State → Request → Type 0
-  WithinLimit x q = (v : ℕ) → outcome listing q (x .store) .reply ≡ accepted v → (step listing q x .store .table ≡ x .store .table → ⊥)
+  WithinLimit x q = (v : ℕ) → outcome listing q (x .store) .reply ≡ accepted v
+      → (step listing q x .store .table ≡ x .store .table → ⊥)
       → step listing q x .store .rec .charge ≤ q .limit
 
   -- "A refused call changes no lent buffer and not the table's record."
@@ -90,22 +97,27 @@ module _ (listing : Bytes) where
 
   -- "Over a malformed listing, which shows no tree, every call is refused and the table stays empty."
   abbrev pub RefusedAndEmpty : State → Request → Type 0
-  RefusedAndEmpty x q = ((v : ℕ) → outcome listing q (x .store) .reply ≡ accepted v → ⊥) × (entriesOf (step listing q x .store) ≡ [])
+  RefusedAndEmpty x q = ((v : ℕ) → outcome listing q (x .store) .reply ≡ accepted v → ⊥)
+      × (entriesOf (step listing q x .store) ≡ [])
 
-  -- term 2: "what an accepted mkdir, unlink, rmdir or rename does to the visible tree equals a definition written from" POSIX
+  -- term 2: "what an accepted mkdir, unlink, rmdir or rename does to the visible tree equals a definition written from"
+  -- POSIX
   abbrev pub DoesAsPosix : State → Request → Type 0
   DoesAsPosix x q = (v : ℕ) → outcome listing q (x .store) .reply ≡ accepted v
-      → Posix (shown (entriesOf (x .store)) (treeIn listing)) (shown (entriesOf (step listing q x .store)) (treeIn listing)) (q .call)
+      → Posix (shown (entriesOf (x .store)) (treeIn listing))
+      (shown (entriesOf (step listing q x .store)) (treeIn listing)) (q .call)
 
 -- Demand 3, one statement over the list as a whole. `start` is what an accepted opening gave.
 pub record Demand3 (listing : Bytes) (start : State) (calls : List Request) : Type 0 where
   -- the table and the record are well-formed
   pub well-formed : let s = after listing calls start .store in isTable (s .table) (s .rec) ≡ true
   -- "the charge equals the sum worked out afresh from the entries", with the E of the opening
-  pub charge-afresh : let s = after listing calls start .store in s .rec .charge ≡ charge (start .store .rec .«entry_size») (entriesOf s)
+  pub charge-afresh : let s = after listing calls start .store in s .rec .charge
+      ≡ charge (start .store .rec .«entry_size») (entriesOf s)
   -- "the visible tree equals document 01's plain tree", "at every path but the root"
   pub same-tree : let x = after listing calls start in
-      isListing listing ≡ true → (p : Path) → (p ≡ [] → ⊥) → shown (entriesOf (x .store)) (treeIn listing) p ≡ lookup (x .plain) p
+      isListing listing ≡ true → (p : Path) → (p ≡ [] → ⊥) → shown (entriesOf (x .store)) (treeIn listing) p
+      ≡ lookup (x .plain) p
   pub accepted-by-rules : Throughout (AcceptedByRules listing) listing start calls
   pub refused-with-cause : Throughout (RefusedWithCause listing) listing start calls
   pub leaves-others : Throughout (LeavesOthers listing) listing start calls

@@ -1,5 +1,4 @@
 -- Document 01, "The table and its charge": the table's bytes, its record and its charge.
--- Assumes nothing.
 use mathlib.Core.Bool.{Bool, true, cond, _&&_}
 use mathlib.Core.List.{[], _∷_, _++_}
 use Prim.Native.Nat.{ℕ, zero, suc, _+_, _-_}
@@ -39,7 +38,8 @@ bodyOf (reference m z p) = p
 bodyOf (directory m) = []
 bodyOf deleted = []
 
--- "An entry: key length (16 bits), kind (16 bits …), body length (32 bits), mtime bits (64), size (signed 64), key, body."
+-- "An entry: key length (16 bits), kind (16 bits …), body length (32 bits), mtime bits (64), size (signed 64), key,
+-- body."
 abbrev pub entryBytes : Path → Entry → Bytes
 entryBytes k e =
     bytes 2 (length k)
@@ -82,7 +82,8 @@ abbrev pub bodyAt : Bytes → ℕ → Bytes
 bodyAt s at = take (numberAt s (at + 4) 4) (drop (at + 24 + numberAt s at 2) s)
 
 abbrev pub entryOf : ℕ → ℕ → ℕ → Bytes → Entry
-entryOf type m z b = cond (eqb type 1) (own m b) (cond (eqb type 2) (reference m z b) (cond (eqb type 3) (directory m) deleted))
+entryOf type m z b = cond (eqb type 1) (own m b) (cond (eqb type 2) (reference m z b)
+    (cond (eqb type 3) (directory m) deleted))
 
 abbrev pub entryAt : Bytes → ℕ → Entry
 entryAt s at = entryOf (numberAt s (at + 2) 2) (numberAt s (at + 8) 8) (numberAt s (at + 16) 8) (bodyAt s at)
@@ -98,8 +99,8 @@ entriesAt s (suc n) at = (keyAt s at, entryAt s at) ∷ entriesAt s n (entryEnd 
 abbrev pub tableIn : Bytes → Record → Table
 tableIn s r = entriesAt s (r .count) 0
 
--- "Keys and kind 2 bodies are paths in the form above and never empty" (a key, since the keys ascend from the empty one on); "… kind 2, where [the
--- size] is at least 0"
+-- "Keys and kind 2 bodies are paths in the form above and never empty" (a key, since the keys ascend from the empty one
+-- on); "… kind 2, where [the size] is at least 0"
 abbrev pub formedBody : Entry → Bool
 formedBody (own m c) = true
 formedBody (reference m z p) = isPath p && ltb 0 (length p) && ltb z 0x8000_0000_0000_0000
@@ -111,13 +112,15 @@ formedEntry x = isPath (x .0) && formedBody (x .1)
 
 abbrev pub sameRecord : Record → Record → Bool
 sameRecord r q =
-    eqb (r .used) (q .used) && eqb (r .count) (q .count) && eqb (r .charge) (q .charge) && eqb (r .«entry_size») (q .«entry_size»)
+    eqb (r .used) (q .used) && eqb (r .count) (q .count) && eqb (r .charge) (q .charge)
+    && eqb (r .«entry_size») (q .«entry_size»)
 
 -- "The buffer is at most 16 MiB"; "E is 0 to 4,096"
 abbrev pub sized : ℕ → ℕ → Bool
 sized E n = leb E 4096 && leb n 16777216
 
--- the bytes s are a table and r is its record: s is exactly the entries read from it, encoded, with zeros behind, and r "must agree with the entries"
+-- the bytes s are a table and r is its record: s is exactly the entries read from it, encoded, with zeros behind, and r
+-- "must agree with the entries"
 abbrev pub isTable : Bytes → Record → Bool
 isTable s r =
     let t = tableIn s r in

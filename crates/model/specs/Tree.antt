@@ -1,5 +1,5 @@
--- Document 01, "The table and its charge" and "The list of calls and the plain tree": entries, nodes, and what is visible at a path.
--- Assumes nothing.
+-- Document 01, "The table and its charge" and "The list of calls and the plain tree": entries, nodes, and what is
+-- visible at a path.
 use mathlib.Core.Bool.{Bool, true, false}
 use mathlib.Core.List.{[], _∷_}
 use mathlib.Core.Option.{Option, none, some}
@@ -14,7 +14,8 @@ pub data Body : Type 0 where
   held : Bytes → Body
   listed : Path → Body
 
--- "A node is a directory, file or link with mtime bits, a size …": the size of a directory and of a link is 0, and so are a link's mtime bits
+-- "A node is a directory, file or link with mtime bits, a size …": the size of a directory and of a link is 0, and so
+-- are a link's mtime bits
 pub data Node : Type 0 where
   dir : (mtime : ℕ) → Node
   file : (mtime size : ℕ) → Body → Node

@@ -1,5 +1,4 @@
 -- UTF-8 as the grammar in section 4 of RFC 3629 has it: each row the ranges of the bytes of one kind of character.
--- Assumes nothing.
 use mathlib.Core.Bool.{Bool, true, false, cond, _&&_}
 use mathlib.Core.List.{List, [], _∷_}
 use Prim.Native.Nat.{ℕ}
@@ -44,7 +43,8 @@ rows =
 abbrev pub nowhere : Range
 nowhere = 1 to 0
 
--- the ranges of the bytes that follow b where a character begins with it, by its row; where no row begins with b, no byte can follow
+-- the ranges of the bytes that follow b where a character begins with it, by its row; where no row begins with b, no
+-- byte can follow
 abbrev pub afterIn : List Row → ℕ → List Range
 afterIn [] b = nowhere ∷ []
 afterIn (r ∷ rs) b = cond (within (r .first) b) (r .after) (afterIn rs b)

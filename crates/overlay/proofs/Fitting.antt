@@ -1,6 +1,5 @@
 -- Every answer fits in its packed number, and can be read from it again: a refusal's length is that of a path in form, and an accepted write's
 -- value is the length of data that stands in a table.
--- Assumes nothing.
 use mathlib.Core.Path.{_≡_, refl, ap, sym, _∙_, subst}
 use mathlib.Core.Bool.{Bool, true, false, cond}
 use Prim.Native.Nat.{ℕ, _/_, _%_, _<_, _≤_}

@@ -1,5 +1,4 @@
 -- From a call's outcome to what its export answers and leaves; four numbers as a record, and back.
--- Assumes nothing.
 use mathlib.Core.Path.{_≡_, refl, ap, ap₂, sym, _∙_, subst}
 use mathlib.Core.Bool.{Bool, true, false, cond, _&&_}
 use mathlib.Core.List.{List, [], _∷_}

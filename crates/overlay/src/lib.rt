@@ -1,8 +1,9 @@
-// The calls of document 01 for programs in C or Rust to link: numbers and byte slices in, the answer packed in one number out.
-// Nothing is assumed of what is lent, but that no two of the buffers overlap: any bytes and any numbers can be given. A record that is not
-// four numbers is answered with 1. A refused call leaves every lent buffer, the record too, as it was. The cost is that of the call itself.
+// The calls of document 01 for programs in C or Rust to link: numbers and byte slices in, the answer packed in one
+// number out. Nothing is assumed of what is lent, but that no two of the buffers overlap: any bytes and any numbers can
+// be given. A record that is not four numbers is answered with 1. A refused call leaves every lent buffer, the record
+// too, as it was. The cost is that of the call itself.
 ghost use mathlib.Core.Path.{_≡_};
-ghost use mathlib.Core.Bool.{false, _&&_};
+ghost use mathlib.Core.Bool.{_&&_};
 ghost use Rattle.model.specs.Listing.{isListing};
 ghost use Rattle.model.specs.Table.{isTable};
 ghost use Rattle.model.specs.Calls as calls;
@@ -30,7 +31,7 @@ pub extern "C" fn overlay_open_table(table: &mut [u8], rec: &mut [u64], entry_si
         return MALFORMED;
     }
     let answered = table_open::open(table, entry_size);
-    overlay_packed::settle(rec, answered)
+    overlay_packed::store_and_pack(rec, answered)
 }
 
 // Whether bytes are a listing; whether bytes and a record are a table.
@@ -54,7 +55,8 @@ pub extern "C" fn overlay_check_table(table: &[u8], rec: &[u64]) -> bool
 // Whether anything but a link is visible at the path; a file; a directory.
 #[no_mangle]
 pub extern "C" fn overlay_exists(listing: &[u8], table: &[u8], rec: &[u64], path: &[u8]) -> u64
-    ensures { λ r. ⌜ r ≡ packed (asked calls.exists (now (listing .entry)) (now (path .entry)) (now (table .entry)) (now (rec .entry))) ⌝ }
+    ensures { λ r. ⌜ r ≡ packed (asked calls.exists (now (listing .entry)) (now (path .entry)) (now (table .entry))
+        (now (rec .entry))) ⌝ }
 {
     if rec.len() != NUMBERS {
         return MALFORMED;
@@ -65,7 +67,8 @@ pub extern "C" fn overlay_exists(listing: &[u8], table: &[u8], rec: &[u64], path
 
 #[no_mangle]
 pub extern "C" fn overlay_is_file(listing: &[u8], table: &[u8], rec: &[u64], path: &[u8]) -> u64
-    ensures { λ r. ⌜ r ≡ packed (asked calls.isFile (now (listing .entry)) (now (path .entry)) (now (table .entry)) (now (rec .entry))) ⌝ }
+    ensures { λ r. ⌜ r ≡ packed (asked calls.isFile (now (listing .entry)) (now (path .entry)) (now (table .entry))
+        (now (rec .entry))) ⌝ }
 {
     if rec.len() != NUMBERS {
         return MALFORMED;
@@ -76,7 +79,8 @@ pub extern "C" fn overlay_is_file(listing: &[u8], table: &[u8], rec: &[u64], pat
 
 #[no_mangle]
 pub extern "C" fn overlay_is_dir(listing: &[u8], table: &[u8], rec: &[u64], path: &[u8]) -> u64
-    ensures { λ r. ⌜ r ≡ packed (asked calls.isDir (now (listing .entry)) (now (path .entry)) (now (table .entry)) (now (rec .entry))) ⌝ }
+    ensures { λ r. ⌜ r ≡ packed (asked calls.isDir (now (listing .entry)) (now (path .entry)) (now (table .entry))
+        (now (rec .entry))) ⌝ }
 {
     if rec.len() != NUMBERS {
         return MALFORMED;
@@ -115,7 +119,7 @@ pub extern "C" fn overlay_write_bytes(
         data,
         limit,
     );
-    overlay_packed::settle(rec, answered)
+    overlay_packed::store_and_pack(rec, answered)
 }
 
 // A directory with these mtime bits at the path; with the flag parents, at its missing ancestors too.
@@ -132,7 +136,8 @@ pub extern "C" fn overlay_mkdir(
     limit: u64,
 ) -> u64
     ensures { λ r. ⌜ left r (now (rec .exit)) (now (table .exit)) (now (work .exit)) ≡ called (now (listing .entry))
-        (requested (calls.mkdir (now (path .entry)) parents «exist_ok» mtime) limit (now (work .entry))) (now (table .entry)) (now (rec .entry)) ⌝ }
+        (requested (calls.mkdir (now (path .entry)) parents «exist_ok» mtime) limit (now (work .entry)))
+        (now (table .entry)) (now (rec .entry)) ⌝ }
 {
     if rec.len() != NUMBERS {
         return MALFORMED;
@@ -149,7 +154,7 @@ pub extern "C" fn overlay_mkdir(
         mtime,
         limit,
     );
-    overlay_packed::settle(rec, answered)
+    overlay_packed::store_and_pack(rec, answered)
 }
 
 // The path shows nothing from now on.
@@ -163,14 +168,15 @@ pub extern "C" fn overlay_unlink(
     limit: u64,
 ) -> u64
     ensures { λ r. ⌜ left r (now (rec .exit)) (now (table .exit)) (now (work .exit)) ≡ called (now (listing .entry))
-        (requested (calls.unlink (now (path .entry))) limit (now (work .entry))) (now (table .entry)) (now (rec .entry)) ⌝ }
+        (requested (calls.unlink (now (path .entry))) limit (now (work .entry))) (now (table .entry))
+        (now (rec .entry)) ⌝ }
 {
     if rec.len() != NUMBERS {
         return MALFORMED;
     }
     let before = overlay_packed::record_in(&*rec);
     let answered = call_one_path::unlink(listing, table, before, work, path, limit);
-    overlay_packed::settle(rec, answered)
+    overlay_packed::store_and_pack(rec, answered)
 }
 
 // The same for an empty directory.
@@ -184,14 +190,15 @@ pub extern "C" fn overlay_rmdir(
     limit: u64,
 ) -> u64
     ensures { λ r. ⌜ left r (now (rec .exit)) (now (table .exit)) (now (work .exit)) ≡ called (now (listing .entry))
-        (requested (calls.rmdir (now (path .entry))) limit (now (work .entry))) (now (table .entry)) (now (rec .entry)) ⌝ }
+        (requested (calls.rmdir (now (path .entry))) limit (now (work .entry))) (now (table .entry))
+        (now (rec .entry)) ⌝ }
 {
     if rec.len() != NUMBERS {
         return MALFORMED;
     }
     let before = overlay_packed::record_in(&*rec);
     let answered = call_one_path::rmdir(listing, table, before, work, path, limit);
-    overlay_packed::settle(rec, answered)
+    overlay_packed::store_and_pack(rec, answered)
 }
 
 // What is visible at the source, and below it, moves to the destination.
@@ -214,5 +221,5 @@ pub extern "C" fn overlay_rename(
     }
     let before = overlay_packed::record_in(&*rec);
     let answered = call_rename::rename(listing, table, before, work, source, destination, limit);
-    overlay_packed::settle(rec, answered)
+    overlay_packed::store_and_pack(rec, answered)
 }

@@ -1,5 +1,4 @@
 -- What is packed of a reply, and when its parts fit; the record stored where a call is accepted.
--- Assumes nothing.
 use mathlib.Core.Path.{_≡_, refl, ap, sym, _∙_, subst}
 use mathlib.Core.Bool.{Bool, true, false}
 use mathlib.Core.List.{List, [], _∷_}

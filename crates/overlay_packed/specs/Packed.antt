@@ -1,12 +1,12 @@
 -- An answer in one number, and a record as four numbers.
--- Assumes nothing.
 use mathlib.Core.List.{List, [], _∷_}
 use Prim.Native.Nat.{ℕ, _+_, _*_, _<_}
 use lib.ListN.{getD}
 use Rattle.model.specs.Answer.{Reply, accepted, refused}
 use Rattle.model.specs.declared.Record.{Record}
 
--- the number (0: accepted) in the low 8 bits, the path in the next 8, and from bit 16 on the length, or the value of what is accepted
+-- the number (0: accepted) in the low 8 bits, the path in the next 8, and from bit 16 on the length, or the value of
+-- what is accepted
 abbrev pub packed : Reply → ℕ
 packed (accepted v) = 65536 * v
 packed (refused n p l) = n + 256 * p + 65536 * l

@@ -11,6 +11,12 @@ use model::Answered;
 use model::Finding;
 use model::Record;
 
+// An answer's number stands in the lowest 8 bits, its path in the next 8, its length or value above: what one of each
+// counts.
+const PATH_UNIT: u64 = 256;
+
+const VALUE_UNIT: u64 = 65_536;
+
 // The record that four numbers are.
 pub fn record_in(rec: &[u64]) -> Record
     requires { ⌜ length (now rec) ≡ 4 ⌝ }
@@ -40,7 +46,7 @@ fn pack(row: Row) -> u64
     requires { ⌜ Fits (refused (row .number) (row .path) (row .len)) ⌝ }
     ensures { λ r. ⌜ r ≡ packed (refused (row .number) (row .path) (row .len)) ⌝ }
 {
-    row.number + 256 * row.path + 65_536 * row.len
+    row.number + PATH_UNIT * row.path + VALUE_UNIT * row.len
 }
 
 // A query's answer in one number.
@@ -49,7 +55,7 @@ pub fn pack_finding(finding: Finding) -> u64
     ensures { λ r. ⌜ r ≡ packed (toldFinding finding) ⌝ }
 {
     match finding {
-        Finding::Yes => return 65_536,
+        Finding::Yes => return VALUE_UNIT,
         Finding::No => return 0,
         Finding::Unanswered(refusal) => return pack(call_values::told_refusal(refusal)),
     }
@@ -73,11 +79,12 @@ fn is_accepted(answer: Answer) -> bool
 }
 
 // The answer in one number. The record is stored where the call is accepted, and nowhere else.
-pub fn settle(rec: &mut [u64], answered: Answered) -> u64
+pub fn store_and_pack(rec: &mut [u64], answered: Answered) -> u64
     requires { ⌜ length (now rec) ≡ 4 ⌝ }
     requires { ⌜ Fits (told (answered .answer)) ⌝ }
     ensures { λ r. ⌜ r ≡ packed (told (answered .answer)) ⌝ }
-    ensures { λ _. ⌜ now (rec .exit) ≡ ifAccepted (told (answered .answer)) (numbers (answered .«record»)) (now (rec .entry)) ⌝ }
+    ensures { λ _. ⌜ now (rec .exit) ≡ ifAccepted (told (answered .answer)) (numbers (answered .«record»))
+        (now (rec .entry)) ⌝ }
 {
     let answer = answered.answer;
     let after = answered.record;

@@ -1,6 +1,7 @@
-// Checks listings of about 1,000,000 and 8,000,000 bytes, made in memory in three shapes, and one of each that is malformed at its end.
-// Without an argument it prints what the checks answer; with one, it prints the processor time of each in microseconds, too.
-// The listings are of directories. What does not fit the buffer is left out; the numbers of groups are chosen so that all fits.
+// Checks listings of about 1,000,000 and 8,000,000 bytes, made in memory in three shapes, and one of each that is
+// malformed at its end. Without an argument it prints what the checks answer; with one, it prints the processor time of
+// each in microseconds, too. The listings are of directories. What does not fit the buffer is left out; the numbers of
+// groups are chosen so that all fits.
 ghost use Prim.Native.Nat.{_≤_};
 use libc::STDOUT_FILENO;
 

@@ -1,5 +1,4 @@
 -- What is counted of vectors: how many were run, and how many gave what they must.
--- Assumes nothing.
 use mathlib.Core.Bool.{Bool, cond, not, _&&_, _||_}
 use Prim.Native.Nat.{_+_, _%_, _^_}
 use Rattle.model.specs.Bytes.{Bytes}

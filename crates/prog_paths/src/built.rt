@@ -1,5 +1,4 @@
 // Vectors that are built: each byte that can't stand alone, long paths, and the proper ancestors of a path.
-// Assumes nothing.
 ghost use Prim.Native.Nat.{_<_};
 use crate::tally::Tally;
 use crate::tally::counted;
@@ -43,8 +42,8 @@ fn long(t: Tally, i: usize, k: usize, n: usize, must: bool) -> Tally
     first(t, &p, n, must)
 }
 
-// A component alone, behind a slash and before one; then paths whose components are 255 and 255, 255, 254 and 1, 255, 254 and 2, and
-// 255, 255 and 1 bytes long.
+// A component alone, behind a slash and before one; then paths whose components are 255 and 255, 255, 254 and 1, 255,
+// 254 and 2, and 255, 255 and 1 bytes long.
 pub fn sizes() {
     let t = long(none(), 513, 513, 255, true);
     let t = long(t, 513, 513, 256, false);

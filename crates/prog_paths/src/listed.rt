@@ -1,6 +1,6 @@
-// Groups of vectors in one list, each item of which ends before a bar. An item's first byte says what it is: = the name of a group, + what
-// must be, - what must not be, 0 what is UTF-8 and no path, and . the end of a group.
-// Assumes nothing: an item that is empty is a vector that gave the wrong answer.
+// Groups of vectors in one list, each item of which ends before a bar. An item's first byte says what it is: = the name
+// of a group, + what must be, - what must not be, 0 what is UTF-8 and no path, and . the end of a group. An item that
+// is empty is a vector that gave the wrong answer.
 use crate::tally::Tally;
 use crate::tally::counted;
 use crate::tally::is_utf8;

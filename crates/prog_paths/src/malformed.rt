@@ -2,18 +2,20 @@
 // None of them has a byte that a path forbids.
 use crate::listed;
 
-// 3.3 has first what would be U+0000 and then the last character of each length; 4.2 the last overlong character of each length;
-// 5.1 D800, DB7F, DB80, DBFF, DC00, DF80, DFFF; 5.2 D800, DB7F, DB80 and DBFF, each before DC00 and before DFFF; and above 10FFFF are
-// 110000, 13FFFF, 140000, 1FFFFF.
+// 3.3 has first what would be U+0000 and then the last character of each length; 4.2 the last overlong character of
+// each length; 5.1 D800, DB7F, DB80, DBFF, DC00, DF80, DFFF; 5.2 D800, DB7F, DB80 and DBFF, each before DC00 and before
+// DFFF; and above 10FFFF are 110000, 13FFFF, 140000, 1FFFFF.
 pub fn run() {
     listed::run(
         b"=Kuhn 3.1, continuation bytes|\
-        -\x80|-\xBF|-\x80\xBF|-\x80\xBF\x80|-\x80\xBF\x80\xBF|-\x80\xBF\x80\xBF\x80|-\x80\xBF\x80\xBF\x80\xBF|-\x80\xBF\x80\xBF\x80\xBF\x80|.|\
+        -\x80|-\xBF|-\x80\xBF|-\x80\xBF\x80|-\x80\xBF\x80\xBF|-\x80\xBF\x80\xBF\x80|-\x80\xBF\x80\xBF\x80\xBF|-\x80\
+\xBF\x80\xBF\x80\xBF\x80|.|\
         =Kuhn 3.3, last byte missing|\
         -\xC0|-\xE0\x80|-\xF0\x80\x80|-\xF8\x80\x80\x80|-\xFC\x80\x80\x80\x80|\
         -\xDF|-\xEF\xBF|-\xF7\xBF\xBF|-\xFB\xBF\xBF\xBF|-\xFD\xBF\xBF\xBF\xBF|.|\
         =Kuhn 3.4, those of 3.3 in a row|\
-        -\xC0\xE0\x80\xF0\x80\x80\xF8\x80\x80\x80\xFC\x80\x80\x80\x80\xDF\xEF\xBF\xF7\xBF\xBF\xFB\xBF\xBF\xBF\xFD\xBF\xBF\xBF\xBF|.|\
+        -\xC0\xE0\x80\xF0\x80\x80\xF8\x80\x80\x80\xFC\x80\x80\x80\x80\xDF\xEF\xBF\xF7\xBF\xBF\xFB\xBF\xBF\xBF\xFD\xBF\
+\xBF\xBF\xBF|.|\
         =Kuhn 3.5, impossible bytes|\
         -\xFE|-\xFF|-\xFE\xFE\xFF\xFF|.|\
         =Kuhn 4.1, overlong slash|\

@@ -1,5 +1,4 @@
 // Document 01, "Paths and the published tree": which bytes are a path.
-// Assumes nothing.
 use crate::listed;
 
 // Beside byte 0, backslash and colon stand their neighbours; what is not UTF-8 is so in a component, or across a slash.

@@ -1,5 +1,5 @@
 // Vectors are judged, and it is counted how many gave what they must.
-// Assumes nothing. A count would wrap only at 2^64 vectors.
+// A count would wrap only at 2^64 vectors.
 ghost use mathlib.Core.Path.{_≡_};
 ghost use Rattle.model.specs.Utf8.{utf8};
 ghost use Rattle.prog_paths.specs.Tallied.{tallied, agrees, gave};
@@ -60,7 +60,8 @@ fn agrees(a: bool, b: bool) -> bool
     !b
 }
 
-// s must be a path, or must not; and where it is a text, which has no byte that a path forbids, it must be UTF-8, or must not, too.
+// s must be a path, or must not; and where it is a text, which has no byte that a path forbids, it must be UTF-8, or
+// must not, too.
 pub fn one(t: Tally, s: &[u8], text: bool, must: bool) -> Tally
     ensures { λ r. ⌜ r ≡ tallied t (gave (now (s .entry)) text must) ⌝ }
 {

@@ -1,6 +1,7 @@
-// Random lists of calls, over random listings, beside a plain tree. Each call's number is compared with the plain rules'; after it all must be kept where it was
-// refused, and where it was accepted the table must be well-formed, the work buffer 0, the charge within the limit, and what is_file and is_dir say of every path the
-// plain tree's. One call in four has a limit near the charge: it may give 11 where the plain rules accept.
+// Random lists of calls, over random listings, beside a plain tree. Each call's number is compared with the plain
+// rules'; after it all must be kept where it was refused, and where it was accepted the table must be well-formed, the
+// work buffer 0, the charge within the limit, and what is_file and is_dir say of every path the plain tree's. One call
+// in four has a limit near the charge: it may give 11 where the plain rules accept.
 use call_values::Kind;
 use call_values::Order;
 use libc::STDOUT_FILENO;
@@ -14,8 +15,9 @@ const LARGE: u64 = 1_000_000;
 // The bits of 1.0.
 const MTIME: u64 = 0x3FF0_0000_0000_0000;
 
-// The plain tree has what is at each of 40 paths, by number: 0 is the root, which is always a directory, and the paths in a directory have the three numbers behind 3
-// times its own. They are all paths of up to three components `a`, `a-b` and `a0`; what has a larger number is not in the tree.
+// The plain tree has what is at each of 40 paths, by number: 0 is the root, which is always a directory, and the paths
+// in a directory have the three numbers behind 3 times its own. They are all paths of up to three components `a`, `a-b`
+// and `a0`; what has a larger number is not in the tree.
 const PATHS: usize = 40;
 
 const NOTHING: u8 = 0;
@@ -26,8 +28,8 @@ const FILE: u8 = 2;
 
 const LINK: u8 = 3;
 
-// A call as it is drawn: w, m, u, r for rmdir or n for rename, the number of its path, and another: a rename's destination, or the path that a write has as its data.
-// The seed is the generator's number behind it.
+// A call as it is drawn: w, m, u, r for rmdir or n for rename, the number of its path, and another: a rename's
+// destination, or the path that a write has as its data. The seed is the generator's number behind it.
 struct Call {
     letter: u8,
     path: usize,
@@ -97,7 +99,8 @@ fn is_below(a: usize, k: usize) -> bool {
     (up == a) | (parent(up) == a)
 }
 
-// An ancestor's part in the parents' rule: what is below it counts only where it is a directory, or is missing and made.
+// An ancestor's part in the parents' rule: what is below it counts only where it is a directory, or is missing and
+// made.
 fn through(made: bool, kind: u8, below: u64) -> u64 {
     if kind == DIRECTORY {
         return below;
@@ -490,8 +493,9 @@ fn counted(st: State, rec: Record, call: Call, number: u64, right: bool) -> Stat
     }
 }
 
-// A number is right where it is the plain rules', or is 11 where they accept and there is a limit. A rename's plan comes before the link that its walk meets, so that
-// 11 is right for 4 too; and its deleted source before a clash of types, so that 5 is right for 8.
+// A number is right where it is the plain rules', or is 11 where they accept and there is a limit. A rename's plan
+// comes before the link that its walk meets, so that 11 is right for 4 too; and its deleted source before a clash of
+// types, so that 5 is right for 8.
 fn is_number(number: u64, must: u64, call: Call) -> bool {
     let rename = call.letter == b'n';
     let limited = (number == 11) & (call.limit < LARGE);
@@ -500,7 +504,8 @@ fn is_number(number: u64, must: u64, call: Call) -> bool {
         | (rename & (number == 5) & (must == 8))
 }
 
-// An accepted call keeps to its limit, or is a mkdir that changes nothing; a write answers its data's length, and the others 0.
+// An accepted call keeps to its limit, or is a mkdir that changes nothing; a write answers its data's length, and the
+// others 0.
 fn is_within(call: Call, charge: u64, after: u64, value: u64, n: u64) -> bool {
     let written = call.letter == b'w';
     let still = (call.letter == b'm') & (after == charge);

@@ -1,6 +1,7 @@
-// Renames a directory `d` to `e` with 100, 1,000 and 10,000 nodes below it, in four shapes. Without an argument it prints what each call answers
-// and leaves; with one, it prints the call's processor time in microseconds too.
-// Listing and table are made in memory. What it must print is worked out by hand from document 01: an entry is charged 256, its key, E and its body.
+// Renames a directory `d` to `e` with 100, 1,000 and 10,000 nodes below it, in four shapes. Without an argument it
+// prints what each call answers and leaves; with one, it prints the call's processor time in microseconds too. Listing
+// and table are made in memory. What it must print is worked out by hand from document 01: an entry is charged 256, its
+// key, E and its body.
 ghost use Prim.Native.Nat.{_+_, _*_, _≤_};
 ghost use lib.ListN.{length};
 use libc::STDOUT_FILENO;
@@ -11,8 +12,8 @@ const ENTRY_SIZE: u64 = 40;
 
 const NO_LIMIT: u64 = 1_000_000_000;
 
-// How many nodes are listed and how many are entries. They are files whose numbers rise by `step`: with 2, even ones are listed and odd ones entries;
-// or, if `deep`, listed directories in chains.
+// How many nodes are listed and how many are entries. They are files whose numbers rise by `step`: with 2, even ones
+// are listed and odd ones entries; or, if `deep`, listed directories in chains.
 struct Shape {
     listed: usize,
     entered: usize,
@@ -44,7 +45,8 @@ fn path_of(i: u64) -> [u8; 7] {
     ]
 }
 
-// A record of this kind (1 directory, 2 file), in a buffer that is all 0 from there on, as its mtime bits and its size are.
+// A record of this kind (1 directory, 2 file), in a buffer that is all 0 from there on, as its mtime bits and its size
+// are.
 fn list(s: &mut [u8], at: usize, kind: u64, path: &[u8])
     requires { ⌜ at + 19 + length (now path) ≤ length (now s) ⌝ }
 {
@@ -81,7 +83,8 @@ fn list_files(s: &mut [u8], count: usize, step: u64)
     }
 }
 
-// The path of the last directory of a chain: that of a file and `/x` 24 times. Its first 7 bytes, 9 and so on are the paths of the chain.
+// The path of the last directory of a chain: that of a file and `/x` 24 times. Its first 7 bytes, 9 and so on are the
+// paths of the chain.
 fn deepest(number: u64) -> [u8; 55] {
     let mut path = [0u8; 55];
     let top = path_of(number);
@@ -94,7 +97,8 @@ fn deepest(number: u64) -> [u8; 55] {
     path
 }
 
-// The records of a chain, 25 directories of which each is in the one before it. A record has at most 74 bytes. Gives where they end.
+// The records of a chain, 25 directories of which each is in the one before it. A record has at most 74 bytes. Gives
+// where they end.
 fn list_chain(s: &mut [u8], at: usize, number: u64) -> usize
     requires { ⌜ at + 1850 ≤ length (now s) ⌝ }
     ensures { λ r. ⌜ r ≤ at + 1850 ⌝ }
@@ -122,7 +126,8 @@ fn list_chains(s: &mut [u8], count: usize) -> usize
     at
 }
 
-// An entry of this kind (1 own file, 3 directory), in a buffer that is all 0 from there on, as its mtime bits and its size are.
+// An entry of this kind (1 own file, 3 directory), in a buffer that is all 0 from there on, as its mtime bits and its
+// size are.
 fn enter(t: &mut [u8], at: usize, kind: u64, key: &[u8], body: &[u8])
     requires { ⌜ at + 24 + length (now key) + length (now body) ≤ length (now t) ⌝ }
 {
@@ -263,7 +268,8 @@ fn tell(number: u64, n: u64, run: Measured) {
     tell_time(run.micros);
 }
 
-// The shape of a number from 0 to 3: n files that are listed, n that are entries, n of which every second is listed, n directories in chains.
+// The shape of a number from 0 to 3: n files that are listed, n that are entries, n of which every second is listed, n
+// directories in chains.
 fn shape_of(number: u64, n: usize) -> Shape
     ensures { λ r. ⌜ (r .listed ≤ n) × (r .entered ≤ n) × (r .step ≤ 2) ⌝ }
 {
@@ -312,7 +318,8 @@ fn shapes_of(s: &mut [u8], table: &mut [u8], work: &mut [u8], n: usize)
     }
 }
 
-// The same, in buffers with the room that they can take: 50 bytes for `d` and `e`, and at most 110 for a node's two entries, in chains on average.
+// The same, in buffers with the room that they can take: 50 bytes for `d` and `e`, and at most 110 for a node's two
+// entries, in chains on average.
 fn fitted(s: &mut [u8], table: &mut [u8], work: &mut [u8], n: usize)
     requires { ⌜ n ≤ 10000 ⌝ }
     requires { ⌜ (800000 ≤ length (now s)) × (1200000 ≤ length (now table)) × (1200000 ≤ length (now work)) ⌝ }

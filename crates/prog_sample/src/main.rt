@@ -1,7 +1,8 @@
-// Replays a sample of what the Rust original answered: lists of calls, each run anew on an empty table, and compared row by row and byte by byte.
-// Usage: prog_sample SAMPLE. The file has less than 1 MiB; table, work buffer and report have 64 KiB each. Nothing is assumed of its bytes.
-// The file: mark `TSS1`, the number of lists (32 bits), then the lists up to the end. A list: the lengths (32 bits each) of a listing, a script, the
-// report and the entries that the original left; then these four, one behind the other, in the forms of docs/FORMATS.md.
+// Replays a sample of what the Rust original answered: lists of calls, each run anew on an empty table, and compared
+// row by row and byte by byte. Usage: prog_sample SAMPLE. The file has less than 1 MiB; table, work buffer and report
+// have 64 KiB each. Nothing is assumed of its bytes. The file: mark `TSS1`, the number of lists (32 bits), then the
+// lists up to the end. A list: the lengths (32 bits each) of a listing, a script, the report and the entries that the
+// original left; then these four, one behind the other, in the forms of docs/FORMATS.md.
 ghost use mathlib.Core.Path.{_≡_};
 ghost use Prim.Native.Nat.{_+_, _≤_, _<_};
 ghost use lib.ListN.{length};
@@ -32,7 +33,8 @@ struct Ended {
     used: u64,
 }
 
-// What a list came to: where it ends in the file, 0 if it does not end there; how many calls it has; and 1 if it differs, else 0.
+// What a list came to: where it ends in the file, 0 if it does not end there; how many calls it has; and 1 if it
+// differs, else 0.
 struct Seen {
     to: usize,
     calls: u64,
@@ -302,7 +304,8 @@ fn replay_file(sample: &[u8]) {
     replay_all(base_fields::le32(sample, 4), sample);
 }
 
-// Reads the file that the first argument names, and answers how many of its bytes are in the buffer: none if it cannot be read.
+// Reads the file that the first argument names, and answers how many of its bytes are in the buffer: none if it cannot
+// be read.
 fn read_file(buf: &mut [u8]) -> usize {
     let mut path = io::buffer();
     let length = os::arg(1, &mut path);

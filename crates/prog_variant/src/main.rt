@@ -1,6 +1,7 @@
-// Runs a script of calls on an empty table over a published plan, and prints what each call answered and the charge after it.
-// Usage: variant LISTING SCRIPT. Both are files of less than 1 MiB; the table has 1 MiB, and the report room for 32,768 calls.
-// The run is `run_calls::run_new`, whose contract has demand 3 in it. What is printed is read from its report.
+// Runs a script of calls on an empty table over a published plan, and prints what each call answered and the charge
+// after it. Usage: variant LISTING SCRIPT. Both are files of less than 1 MiB; the table has 1 MiB, and the report room
+// for 32,768 calls. The run is `run_calls::run_new`, whose contract has demand 3 in it. What is printed is read from
+// its report.
 mod show;
 
 use run_calls::RanNew;

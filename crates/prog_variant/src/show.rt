@@ -90,7 +90,8 @@ fn paths(script: &[u8], at: usize, kind: u8) -> usize
     to
 }
 
-// The line of a call: its step stands at `at` in the script, its row at `row` in the report. Answers where the step ends.
+// The line of a call: its step stands at `at` in the script, its row at `row` in the report. Answers where the step
+// ends.
 fn line(script: &[u8], at: usize, report: &[u8], row: usize) -> usize
     requires { ⌜ (at ≤ length (now script)) × (row ≤ length (now report)) ⌝ }
     ensures { λ r. ⌜ r ≤ length (now (script .entry)) ⌝ }

@@ -1,5 +1,4 @@
 -- What is known of the item that is told, and of the parts that a caller starts with.
--- Assumes nothing.
 use mathlib.Core.Path.{_≡_, ap}
 use mathlib.Core.List.{List, [], _∷_}
 use mathlib.Core.Bool.{Bool, true}

@@ -1,5 +1,4 @@
 -- Two ascending maps put together: the smaller of their first keys comes first, and what lies below a is put together as the whole is.
--- Assumes nothing.
 use mathlib.Core.Path.{_≡_, refl, ap, sym, _∙_}
 use mathlib.Core.List.{[], _∷_}
 use mathlib.Core.Bool.{false}

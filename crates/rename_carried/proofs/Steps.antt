@@ -1,5 +1,4 @@
 -- What two streams have to come: at each step the item of the one with the smaller key, then what the streams behind it have.
--- Assumes nothing.
 use mathlib.Core.Path.{_≡_, refl, ap, sym, _∙_}
 use mathlib.Core.List.{List, [], _∷_}
 use mathlib.Core.Bool.{Bool, true, false, not, _||_}

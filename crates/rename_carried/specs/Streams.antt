@@ -1,5 +1,5 @@
--- Two ascending streams below a, read as one: the table's entries in `own`, and the listing's uncovered records in `part`.
--- Assumes nothing.
+-- Two ascending streams below a, read as one: the table's entries in `own`, and the listing's uncovered records in
+-- `part`.
 use mathlib.Core.Path.{_≡_}
 use mathlib.Core.Bool.{Bool, true, false}
 use mathlib.Core.List.{List, []}
@@ -25,7 +25,8 @@ carriedBelow t l a = only (below a) (puts t (mapped asEntry (only (uncovered t a
 -- what is to come: the entries of `own` from the stream's place on, and the uncovered records of `part`, as entries
 abbrev pub ahead : Table → Path → Bytes → Bytes → Stream → Table
 ahead t a own part s =
-    puts (entriesAt own (s .entries .left) (s .entries .at)) (mapped asEntry (toCome t a part (s .listed .left) (s .listed .at)))
+    puts (entriesAt own (s .entries .left) (s .entries .at))
+    (mapped asEntry (toCome t a part (s .listed .left) (s .listed .at)))
 
 -- no more steps than these
 abbrev pub remaining : Stream → ℕ
@@ -37,17 +38,21 @@ pub record Streaming (own part table : Bytes) (a : Path) (f : List Bool) (s : St
   pub listed : ReadyAt part table a f (s .listed)
   pub under : every (below a) (keys (entriesAt own (s .entries .left) (s .entries .at))) ≡ true
 
--- the listed stream stands at an uncovered record of the part's tree l or at its end, and the entries to come are some of the table t
-pub record Carrying (own part table : Bytes) (a : Path) (t : Table) (l : Tree) (f : List Bool) (s : Stream) : Type 0 where
+-- the listed stream stands at an uncovered record of the part's tree l or at its end, and the entries to come are some
+-- of the table t
+pub record Carrying (own part table : Bytes) (a : Path) (t : Table) (l : Tree) (f : List Bool)
+    (s : Stream) : Type 0 where
   pub listed : AheadAt part table a t l f (s .listed)
   pub entries : (q : Path) → lookup t q ≡ none → lookup (entriesAt own (s .entries .left) (s .entries .at)) q ≡ none
 
 -- which stream is next, by the keys at their places
 abbrev pub Next : Bytes → Bytes → Stream → Head → Type 0
 Next own part s next.Entry =
-    (0 < s .entries .left) × (0 < s .listed .left → before (keyAt own (s .entries .at)) (recordAt part (s .listed .at) .path) ≡ true)
+    (0 < s .entries .left) × (0 < s .listed .left → before (keyAt own (s .entries .at))
+    (recordAt part (s .listed .at) .path) ≡ true)
 Next own part s next.Listed =
-    (0 < s .listed .left) × (0 < s .entries .left → before (keyAt own (s .entries .at)) (recordAt part (s .listed .at) .path) ≡ false)
+    (0 < s .listed .left) × (0 < s .entries .left → before (keyAt own (s .entries .at))
+    (recordAt part (s .listed .at) .path) ≡ false)
 Next own part s next.End = (s .entries .left ≡ 0) × (s .listed .left ≡ 0)
 
 -- what is next; at the end nothing is, and this says nothing

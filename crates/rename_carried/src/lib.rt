@@ -1,6 +1,7 @@
-// What rename carries from below its source, in ascending order: the table's entries there, and the listed paths there that no entry covers.
-// Assumes a part of a checked table and one of a checked listing, both below the source: only this repository's crates call.
-// A whole pass reads both parts and the table once, and at each step the two keys that are next once more, of at most 512 bytes each.
+// What rename carries from below its source, in ascending order: the table's entries there, and the listed paths there
+// that no entry covers. Assumes a part of a checked table and one of a checked listing, both below the source: only
+// this repository's crates call. A whole pass reads both parts and the table once, and at each step the two keys that
+// are next once more, of at most 512 bytes each.
 ghost use mathlib.Core.Path.{_≡_};
 ghost use mathlib.Core.Bool.{Bool, true, false};
 ghost use mathlib.Core.List.{List, [], _∷_};
@@ -15,7 +16,8 @@ ghost use Rattle.listing_records.specs.Place.{treeAt};
 ghost use Rattle.listing_records.specs.Place as listing;
 ghost use Rattle.table_entries.specs.Place.{Standing};
 ghost use Rattle.rename_uncovered.specs.Ahead.{PartBelow};
-ghost use Rattle.rename_carried.specs.Streams.{carriedBelow, ahead, remaining, Streaming, Carrying, Next, itemAt, Ending};
+ghost use Rattle.rename_carried.specs.Streams.{carriedBelow, ahead, remaining, Streaming, Carrying, Next, itemAt};
+ghost use Rattle.rename_carried.specs.Streams.{Ending};
 
 // Where both streams stand: the entries in the table's part below the source, the listed records in the listing's.
 pub struct Stream {
@@ -47,7 +49,8 @@ pub fn head_at(own: &[u8], part: &[u8], stream: Stream) -> Head
     ensures { λ r. ⌜ ((table : Bytes) (a : Path) (t : Table) (l : Tree) (f : List Bool)
         → Carrying (now (own .entry)) (now (part .entry)) table a t l f stream
         → Ending (ahead t a (now (own .entry)) (now (part .entry)) stream) r) ⌝ }
-    ensures { λ r. ⌜ ((t : Table) (a : Path) → ascends [] (ahead t a (now (own .entry)) (now (part .entry)) stream) ≡ true) ⌝ }
+    ensures { λ r. ⌜ ((t : Table) (a : Path) → ascends [] (ahead t a (now (own .entry)) (now (part .entry)) stream)
+        ≡ true) ⌝ }
 {
     let entries = stream.entries;
     let listed = stream.listed;
@@ -72,7 +75,8 @@ pub fn head_at(own: &[u8], part: &[u8], stream: Stream) -> Head
     Head::Listed
 }
 
-// Both streams at their first item: `count` entries in `own`, and the first uncovered one of `records` records in `part`, which is sought.
+// Both streams at their first item: `count` entries in `own`, and the first uncovered one of `records` records in
+// `part`, which is sought.
 pub fn first(
     flags: &mut [bool; 513],
     own: &[u8],
@@ -89,10 +93,12 @@ pub fn first(
     requires { ⌜ entriesAt (now own) count 0 ≡ only (below (now source)) (tableIn (now table) rec) ⌝ }
     requires { ⌜ PartBelow (now part) (now source) records ⌝ }
     ensures { λ r. ⌜ remaining r ≤ count + records ⌝ }
-    ensures { λ r. ⌜ Streaming (now (own .entry)) (now (part .entry)) (now (table .entry)) (now (source .entry)) (now (flags .exit)) r ⌝ }
+    ensures { λ r. ⌜ Streaming (now (own .entry)) (now (part .entry)) (now (table .entry)) (now (source .entry))
+        (now (flags .exit)) r ⌝ }
     ensures { λ r. ⌜ Carrying (now (own .entry)) (now (part .entry)) (now (table .entry)) (now (source .entry))
         (tableIn (now (table .entry)) rec) (treeAt (now (part .entry)) records 0) (now (flags .exit)) r ⌝ }
-    ensures { λ r. ⌜ ((l : Tree) → ascends [] l ≡ true → treeAt (now (part .entry)) records 0 ≡ only (below (now (source .entry))) l
+    ensures { λ r. ⌜ ((l : Tree) → ascends [] l ≡ true → treeAt (now (part .entry)) records 0
+        ≡ only (below (now (source .entry))) l
         → ahead (tableIn (now (table .entry)) rec) (now (source .entry)) (now (own .entry)) (now (part .entry)) r
         ≡ carriedBelow (tableIn (now (table .entry)) rec) l (now (source .entry))) ⌝ }
 {
@@ -104,8 +110,8 @@ pub fn first(
     }
 }
 
-// The streams behind what `head_at` told to be next. One of them goes on, over one entry, or up to the next uncovered record, and what lies
-// between is read once in a whole pass. At the end nothing is behind, and no caller comes there.
+// The streams behind what `head_at` told to be next. One of them goes on, over one entry, or up to the next uncovered
+// record, and what lies between is read once in a whole pass. At the end nothing is behind, and no caller comes there.
 pub fn advance(
     flags: &mut [bool; 513],
     own: &[u8],
@@ -119,10 +125,13 @@ pub fn advance(
     requires { ⌜ Next (now own) (now part) stream head ⌝ }
     requires { ⌜ 0 < remaining stream ⌝ }
     ensures { λ r. ⌜ remaining r < remaining stream ⌝ }
-    ensures { λ r. ⌜ Streaming (now (own .entry)) (now (part .entry)) (now (table .entry)) (now (source .entry)) (now (flags .exit)) r ⌝ }
+    ensures { λ r. ⌜ Streaming (now (own .entry)) (now (part .entry)) (now (table .entry)) (now (source .entry))
+        (now (flags .exit)) r ⌝ }
     ensures { λ r. ⌜ ((t : Table) (l : Tree)
-        → Carrying (now (own .entry)) (now (part .entry)) (now (table .entry)) (now (source .entry)) t l (now (flags .entry)) stream
-        → Carrying (now (own .entry)) (now (part .entry)) (now (table .entry)) (now (source .entry)) t l (now (flags .exit)) r
+        → Carrying (now (own .entry)) (now (part .entry)) (now (table .entry)) (now (source .entry)) t l
+        (now (flags .entry)) stream
+        → Carrying (now (own .entry)) (now (part .entry)) (now (table .entry)) (now (source .entry)) t l
+        (now (flags .exit)) r
         × (ahead t (now (source .entry)) (now (own .entry)) (now (part .entry)) stream
         ≡ itemAt (now (own .entry)) (now (part .entry)) stream head
         ∷ ahead t (now (source .entry)) (now (own .entry)) (now (part .entry)) r)) ⌝ }

@@ -1,5 +1,4 @@
 -- What each of rename's checks gives, from what the code has found: the root, a deleted source, a clash, a directory onto a directory.
--- Assumes nothing.
 use mathlib.Core.Path.{_≡_, refl, sym, ap, _∙_}
 use mathlib.Core.Bool.{Bool, true, false}
 use mathlib.Core.List.{[], _∷_}
@@ -14,7 +13,7 @@ use Rattle.model.specs.Checks.{Check, pass, refuse, notRoot}
 use Rattle.model.specs.Rename.{notDeleted, noClash, ifDirectory}
 use Rattle.table_entries.specs.declared.OverlayEntry.{OverlayEntry}
 use Rattle.table_entries.specs.Said as told
-use Rattle.check_one_path.proofs.Thens.{when, otherwise}
+use Rattle.check_judged.proofs.Thens.{when, otherwise}
 
 pub at-root : (w : ℕ) (p : Path) → length p ≡ 0 → refuse 4 w 0 ≡ notRoot w p
 at-root w [] h = refl

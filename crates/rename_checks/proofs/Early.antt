@@ -1,5 +1,4 @@
 -- rename's checks are those before its plan, and then the rest from the plan on.
--- Assumes nothing.
 use mathlib.Core.Path.{_≡_, refl}
 use mathlib.Core.Bool.{cond}
 use lib.ListN.{length}

@@ -1,6 +1,5 @@
 -- What is known once rename's checks before its plan pass: neither path is the root, the source shows a directory or a file, and nothing is at or below
 -- both paths, if these are not one.
--- Assumes nothing.
 use mathlib.Core.Path.{_≡_, ap, sym, _∙_}
 use mathlib.Core.Logic.{inl, inr}
 use mathlib.Core.List.{[], _∷_}

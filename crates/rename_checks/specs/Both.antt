@@ -1,5 +1,4 @@
 -- rename's checks of source and destination together, a stretch of `renameChecks`; and all before its plan.
--- Assumes nothing.
 use mathlib.Core.Bool.{cond}
 use lib.ListN.{length}
 use Rattle.model.specs.Path.{Path, below}
@@ -17,7 +16,8 @@ bothChecks t l a b =
     then cond (below a b) (refuse 10 0 (length a)) pass
     then present (length a) (kind f a)
 
--- "rename: roots; destination's parents; a link at the destination without an entry, 4; source's parents; source deleted 5, link 4; …"
+-- "rename: roots; destination's parents; a link at the destination without an entry, 4; source's parents; source
+-- deleted 5, link 4; …"
 abbrev pub earlyChecks : Table → Tree → Path → Path → Check
 earlyChecks t l a b =
     let f = shown t l in

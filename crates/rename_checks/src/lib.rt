@@ -15,9 +15,9 @@ ghost use Rattle.model.specs.Checks.{pass, refuse, _then_, parentChecks, notRoo
 ghost use Rattle.model.specs.Rename.{notLink, notDeleted, noClash, present, ifDirectory};
 ghost use Rattle.table_entries.specs.Said.{said, saidOf};
 ghost use Rattle.view_at.specs.Sight.{visibleKind};
-ghost use Rattle.check_parents.specs.Judged.{checkOf};
+ghost use Rattle.check_judged.specs.Judged.{checkOf};
 ghost use Rattle.rename_checks.specs.Both.{bothChecks, earlyChecks};
-use check_parents::Judged;
+use check_judged::Judged;
 use model::Record;
 use model::Refusal;
 use table_entries::OverlayEntry;
@@ -37,7 +37,7 @@ fn reject_roots(source: &[u8], destination: &[u8]) -> Judged
     ensures { λ r. ⌜ checkOf r ≡ (notRoot 0 (now (source .entry)) then notRoot 1 (now (destination .entry))) ⌝ }
 {
     let from = reject_mount_root(source, 0);
-    if check_parents::is_refused(from) {
+    if check_judged::is_refused(from) {
         return from;
     }
     reject_mount_root(destination, 1)
@@ -68,12 +68,13 @@ pub fn check_destination(listing: &[u8], table: &[u8], rec: Record, path: &[u8])
     requires { ⌜ isListing (now listing) ≡ true ⌝ }
     requires { ⌜ isTable (now table) rec ≡ true ⌝ }
     requires { ⌜ isPath (now path) ≡ true ⌝ }
-    ensures { λ r. ⌜ checkOf r ≡ (parentChecks 1 (shown (tableIn (now (table .entry)) rec) (treeIn (now (listing .entry)))) (now (path .entry))
+    ensures { λ r. ⌜ checkOf r ≡ (parentChecks 1 (shown (tableIn (now (table .entry)) rec)
+        (treeIn (now (listing .entry)))) (now (path .entry))
         then notLink 1 (length (now (path .entry))) (kind (shown (tableIn (now (table .entry)) rec)
         (treeIn (now (listing .entry)))) (now (path .entry)))) ⌝ }
 {
     let parents = check_parents::ensure_parent_exists(listing, table, rec, path, 1);
-    if check_parents::is_refused(parents) {
+    if check_judged::is_refused(parents) {
         return parents;
     }
     let visible = view_at::visible_at(listing, table, rec, path);
@@ -113,18 +114,19 @@ pub fn check_source(listing: &[u8], table: &[u8], rec: Record, path: &[u8]) -> J
     requires { ⌜ isListing (now listing) ≡ true ⌝ }
     requires { ⌜ isTable (now table) rec ≡ true ⌝ }
     requires { ⌜ isPath (now path) ≡ true ⌝ }
-    ensures { λ r. ⌜ checkOf r ≡ (parentChecks 0 (shown (tableIn (now (table .entry)) rec) (treeIn (now (listing .entry)))) (now (path .entry))
+    ensures { λ r. ⌜ checkOf r ≡ (parentChecks 0 (shown (tableIn (now (table .entry)) rec)
+        (treeIn (now (listing .entry)))) (now (path .entry))
         then notDeleted (length (now (path .entry))) (lookup (tableIn (now (table .entry)) rec) (now (path .entry)))
         then notLink 0 (length (now (path .entry))) (kind (shown (tableIn (now (table .entry)) rec)
         (treeIn (now (listing .entry)))) (now (path .entry)))) ⌝ }
 {
     let parents = check_parents::ensure_parent_exists(listing, table, rec, path, 0);
-    if check_parents::is_refused(parents) {
+    if check_judged::is_refused(parents) {
         return parents;
     }
     let entry = table_entries::get(table, rec, path);
     let deleted = reject_deleted(entry, path.len() as u64);
-    if check_parents::is_refused(deleted) {
+    if check_judged::is_refused(deleted) {
         return deleted;
     }
     let visible = view_at::visible_at(listing, table, rec, path);
@@ -135,7 +137,7 @@ pub fn check_source(listing: &[u8], table: &[u8], rec: Record, path: &[u8]) -> J
 fn reject_rename_type_mismatch(source: Visible, destination: Visible, len: u64) -> Judged
     ensures { λ r. ⌜ checkOf r ≡ noClash len (visibleKind source) (visibleKind destination) ⌝ }
 {
-    let directory = check_parents::is_directory(source);
+    let directory = view_at::is_directory(source);
     match destination {
         Visible::Nothing => {
             return Judged::Pass;
@@ -169,13 +171,14 @@ fn reject_rename_onto_nonempty_dir(
 ) -> Judged
     requires { ⌜ isListing (now listing) ≡ true ⌝ }
     requires { ⌜ isTable (now table) rec ≡ true ⌝ }
-    ensures { λ r. ⌜ checkOf r ≡ ifDirectory (visibleKind source) (ifDirectory (visibleKind destination) (noVisibleChild 1 (tableIn (now (table .entry)) rec)
+    ensures { λ r. ⌜ checkOf r ≡ ifDirectory (visibleKind source)
+        (ifDirectory (visibleKind destination) (noVisibleChild 1 (tableIn (now (table .entry)) rec)
         (treeIn (now (listing .entry))) (now (path .entry)))) ⌝ }
 {
-    if !check_parents::is_directory(source) {
+    if !view_at::is_directory(source) {
         return Judged::Pass;
     }
-    if !check_parents::is_directory(destination) {
+    if !view_at::is_directory(destination) {
         return Judged::Pass;
     }
     check_one_path::check_empty(listing, table, rec, path, 1)
@@ -183,9 +186,10 @@ fn reject_rename_onto_nonempty_dir(
 
 // 10 for a destination below the source.
 fn reject_below(source: &[u8], destination: &[u8]) -> Judged
-    ensures { λ r. ⌜ checkOf r ≡ cond (below (now (source .entry)) (now (destination .entry))) (refuse 10 0 (length (now (source .entry)))) pass ⌝ }
+    ensures { λ r. ⌜ checkOf r ≡ cond (below (now (source .entry)) (now (destination .entry)))
+        (refuse 10 0 (length (now (source .entry)))) pass ⌝ }
 {
-    if listing_records::is_below(source, destination) {
+    if base_paths::is_below(source, destination) {
         return Judged::Refused(Refusal::BelowSource(source.len() as u64));
     }
     Judged::Pass
@@ -227,15 +231,15 @@ pub fn check_both(
     let from = view_at::visible_at(listing, table, rec, source);
     let to = view_at::visible_at(listing, table, rec, destination);
     let clash = reject_rename_type_mismatch(from, to, destination.len() as u64);
-    if check_parents::is_refused(clash) {
+    if check_judged::is_refused(clash) {
         return clash;
     }
     let full = reject_rename_onto_nonempty_dir(listing, table, rec, from, to, destination);
-    if check_parents::is_refused(full) {
+    if check_judged::is_refused(full) {
         return full;
     }
     let inside = reject_below(source, destination);
-    if check_parents::is_refused(inside) {
+    if check_judged::is_refused(inside) {
         return inside;
     }
     reject_absent(from, source.len() as u64)
@@ -256,15 +260,15 @@ pub fn early_checks(
         (treeIn (now (listing .entry))) (now (source .entry)) (now (destination .entry)) ⌝ }
 {
     let roots = reject_roots(source, destination);
-    if check_parents::is_refused(roots) {
+    if check_judged::is_refused(roots) {
         return roots;
     }
     let to = check_destination(listing, table, rec, destination);
-    if check_parents::is_refused(to) {
+    if check_judged::is_refused(to) {
         return to;
     }
     let from = check_source(listing, table, rec, source);
-    if check_parents::is_refused(from) {
+    if check_judged::is_refused(from) {
         return from;
     }
     check_both(listing, table, rec, source, destination)

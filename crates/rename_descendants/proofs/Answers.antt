@@ -1,5 +1,4 @@
 -- What the walk comes to by its sums, one law for each answer of the code.
--- Assumes nothing.
 use mathlib.Core.Path.{_≡_, ap, sym, _∙_}
 use mathlib.Core.Bool.{Bool, true, false, cond, _||_, or-true}
 use mathlib.Core.List.{[]}

@@ -1,5 +1,4 @@
 -- The pass over the uncovered records of a part: what is summed, with what is to come, is the sum over all of them.
--- Assumes nothing.
 use mathlib.Core.Path.{_≡_, refl, ap, sym, _∙_}
 use mathlib.Core.Bool.{Bool, true, false, _||_, or-true, or-false, or-assoc}
 use mathlib.Core.List.{List, _∷_}

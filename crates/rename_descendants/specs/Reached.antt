@@ -1,5 +1,5 @@
--- The listed paths that rename's walk comes to where no link ends it, and what it adds for them. Their order changes neither.
--- Assumes nothing.
+-- The listed paths that rename's walk comes to where no link ends it, and what it adds for them. Their order changes
+-- neither.
 use mathlib.Core.Bool.{Bool, true, false, _&&_, _||_}
 use mathlib.Core.List.{[], _∷_}
 use Prim.Native.Nat.{ℕ, _+_, _*_}

@@ -1,7 +1,8 @@
-// `collect_real_descendants` of overlay.rs: rename's walk, by the sum of what it adds and by whether a link is reached. Neither depends on its order,
-// so it is made in its order only where a link is reached and the budget is exceeded too.
-// Assumes a listing and a table that were checked, and a path: only this repository's crates call.
-// It reads the listing once up to the end of what is below the source, then that part and the table once; rename_walk says what its order costs.
+// `collect_real_descendants` of overlay.rs: rename's walk, by the sum of what it adds and by whether a link is reached.
+// Neither depends on its order, so it is made in its order only where a link is reached and the budget is exceeded too.
+// Assumes a listing and a table that were checked, and a path: only this repository's crates call. It reads the listing
+// once up to the end of what is below the source, then that part and the table once; rename_walk says what its order
+// costs.
 ghost use mathlib.Core.Path.{_≡_};
 ghost use mathlib.Core.Bool.{true, _||_};
 ghost use mathlib.Core.Option.{some};
@@ -37,13 +38,13 @@ fn with_node(sums: Sums, found: Found, len: u64) -> Sums
     match found {
         Found::Directory(_) => {
             return Sums {
-                sum: sums.sum + (3 * len + 512),
+                sum: sums.sum + (3 * len + model::REAL_DESCENDANT_MEMORY_USAGE),
                 links: sums.links,
             };
         }
         Found::File(_, _) => {
             return Sums {
-                sum: sums.sum + (2 * len + 512),
+                sum: sums.sum + (2 * len + model::REAL_DESCENDANT_MEMORY_USAGE),
                 links: sums.links,
             };
         }
@@ -64,7 +65,8 @@ fn with_record(part: &[u8], here: Place, sums: Sums) -> Sums
     requires { ⌜ listing.Standing (now part) (here .left) (here .at) ⌝ }
     requires { ⌜ 0 < here .left ⌝ }
     requires { ⌜ (length (recordAt (now part) (here .at) .path) ≤ 512) × (sums .sum ≤ 0x4000_0000_0000_0000) ⌝ }
-    ensures { λ r. ⌜ (r .sum ≡ sums .sum + cost (recordAt (now (part .entry)) (here .at) .path) (nodeOf (recordAt (now (part .entry)) (here .at))))
+    ensures { λ r. ⌜ (r .sum ≡ sums .sum + cost (recordAt (now (part .entry)) (here .at) .path)
+        (nodeOf (recordAt (now (part .entry)) (here .at))))
         × (r .links ≡ (sums .links || isLink (nodeOf (recordAt (now (part .entry)) (here .at))))) ⌝ }
 {
     let path = listing_records::record_path(part, here);
@@ -84,8 +86,10 @@ fn sum_uncovered(
     requires { ⌜ length (now flags) ≡ 513 ⌝ }
     requires { ⌜ PartBelow (now part) (now source) count ⌝ }
     requires { ⌜ isTable (now table) rec ≡ true ⌝ }
-    ensures { λ r. ⌜ (r .sum ≡ costs (toCome (tableIn (now (table .entry)) rec) (now (source .entry)) (now (part .entry)) count 0))
-        × (r .links ≡ anyLink (toCome (tableIn (now (table .entry)) rec) (now (source .entry)) (now (part .entry)) count 0)) ⌝ }
+    ensures { λ r. ⌜ (r .sum ≡ costs (toCome (tableIn (now (table .entry)) rec) (now (source .entry))
+        (now (part .entry)) count 0))
+        × (r .links ≡ anyLink (toCome (tableIn (now (table .entry)) rec) (now (source .entry))
+        (now (part .entry)) count 0)) ⌝ }
     ensures { λ r. ⌜ r .sum ≤ 0x4000_0000_0000_0000 ⌝ }
 {
     let mut sums = Sums {
@@ -104,14 +108,16 @@ fn sum_uncovered(
     sums
 }
 
-// One pass over the listing's records below the source, with the table's entries beside it. A listing has at most 16777216 bytes, and fewer records,
-// each of which adds at most 2048.
+// One pass over the listing's records below the source, with the table's entries beside it. A listing has at most
+// 16777216 bytes, and fewer records, each of which adds at most 2048.
 pub fn sum_reached(listing: &[u8], table: &[u8], rec: Record, source: &[u8]) -> Sums
     requires { ⌜ isListing (now listing) ≡ true ⌝ }
     requires { ⌜ isTable (now table) rec ≡ true ⌝ }
     requires { ⌜ isPath (now source) ≡ true ⌝ }
-    ensures { λ r. ⌜ (r .sum ≡ costs (reached (tableIn (now (table .entry)) rec) (treeIn (now (listing .entry))) (now (source .entry))))
-        × (r .links ≡ anyLink (reached (tableIn (now (table .entry)) rec) (treeIn (now (listing .entry))) (now (source .entry)))) ⌝ }
+    ensures { λ r. ⌜ (r .sum ≡ costs (reached (tableIn (now (table .entry)) rec) (treeIn (now (listing .entry)))
+        (now (source .entry))))
+        × (r .links ≡ anyLink (reached (tableIn (now (table .entry)) rec) (treeIn (now (listing .entry)))
+        (now (source .entry)))) ⌝ }
     ensures { λ r. ⌜ r .sum ≤ 0x4000_0000_0000_0000 ⌝ }
 {
     let mut flags: [bool; 513] = [false; 513];
@@ -122,8 +128,9 @@ pub fn sum_reached(listing: &[u8], table: &[u8], rec: Record, source: &[u8]) -> 
     sum_uncovered(&mut flags, part, listed.count, table, rec, source)
 }
 
-// The walk by its sums. Where a link is reached it ends there, if nothing that it adds takes it above the budget. Where none is, it comes to the whole
-// sum, or goes above the budget with its last addition at the latest.
+// The walk by its sums. The Rust's function of this name collects what the walk finds; here nothing is collected, and
+// the sum decides. Where a link is reached it ends there, if nothing that it adds takes it above the budget. Where none
+// is, it comes to the whole sum, or goes above the budget with its last addition at the latest.
 pub fn collect_real_descendants(
     listing: &[u8],
     table: &[u8],
@@ -134,7 +141,8 @@ pub fn collect_real_descendants(
     requires { ⌜ isListing (now listing) ≡ true ⌝ }
     requires { ⌜ isTable (now table) rec ≡ true ⌝ }
     requires { ⌜ isPath (now source) ≡ true ⌝ }
-    ensures { λ r. ⌜ walkOf r ≡ walkFrom (tableIn (now (table .entry)) rec) (treeIn (now (listing .entry))) (some budget) (now (source .entry)) ⌝ }
+    ensures { λ r. ⌜ walkOf r ≡ walkFrom (tableIn (now (table .entry)) rec) (treeIn (now (listing .entry)))
+        (some budget) (now (source .entry)) ⌝ }
 {
     let sums = sum_reached(listing, table, rec, source);
     let total = 2 * source.len() as u64 + 1 + sums.sum;

@@ -1,5 +1,4 @@
 -- A listed record's node as an entry: its fields, and its body.
--- Assumes nothing.
 use mathlib.Core.Path.{_≡_, sym, ap, _∙_}
 use mathlib.Core.Bool.{Bool, true, false, cond}
 use mathlib.Core.List.{[]}

@@ -1,5 +1,4 @@
 -- The item that is told to be next: what its readers ask, and what they answer.
--- Assumes nothing.
 use mathlib.Core.Path.{_≡_, ap, _∙_}
 use Prim.Native.Nat.{_+_, _≤_}
 use lib.ListN.{length}

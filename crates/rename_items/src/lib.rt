@@ -1,6 +1,6 @@
-// Key, stored fields and body of the item that comes next in what rename carries: an entry of the table, or a listed node as an entry.
-// Assumes a stream over parts of a checked table and of a checked listing: only this repository's crates call.
-// Each function reads the item's head alone; keys and bodies are parts of the slices that are lent.
+// Key, stored fields and body of the item that comes next in what rename carries: an entry of the table, or a listed
+// node as an entry. Assumes a stream over parts of a checked table and of a checked listing: only this repository's
+// crates call. Each function reads the item's head alone; keys and bodies are parts of the slices that are lent.
 ghost use mathlib.Core.Path.{_≡_};
 ghost use mathlib.Core.Option.{some};
 ghost use Prim.Native.Nat.{_<_};
@@ -12,6 +12,9 @@ ghost use Rattle.listing_records.specs.Found.{foundOf, foundKind};
 ghost use Rattle.listing_records.specs.Place as listing;
 ghost use Rattle.table_entries.specs.Place.{Standing};
 ghost use Rattle.rename_carried.specs.Streams.{Next, itemAt, remaining};
+use model::DELETED;
+use model::DIRECTORY;
+use model::REFERENCE;
 use rename_carried::Head;
 use rename_carried::Stream;
 use table_entries::Fields;
@@ -28,36 +31,38 @@ fn is_file(found: listing_records::Found) -> bool
     }
 }
 
-// A listed node's fields as an entry: a directory, a file as a reference to its path; a link, at which the walk has ended, as a deleted one.
+// A listed node's fields as an entry: a directory, a file as a reference to its path; a link, at which the walk has
+// ended, as a deleted one.
 fn listed_fields(found: listing_records::Found) -> Fields
     ensures { λ r. ⌜ ((q : ListingRecord) → found ≡ foundOf (some (nodeOf q))
-        → (r .kind ≡ typeOf (asEntry (nodeOf q))) × (r .mtime ≡ mtimeOf (asEntry (nodeOf q))) × (r .size ≡ sizeOf (asEntry (nodeOf q)))) ⌝ }
+        → (r .kind ≡ typeOf (asEntry (nodeOf q))) × (r .mtime ≡ mtimeOf (asEntry (nodeOf q)))
+        × (r .size ≡ sizeOf (asEntry (nodeOf q)))) ⌝ }
 {
     match found {
         listing_records::Found::Directory(mtime) => {
             return Fields {
-                kind: 3,
+                kind: DIRECTORY,
                 mtime: mtime,
                 size: 0,
             };
         }
         listing_records::Found::File(mtime, size) => {
             return Fields {
-                kind: 2,
+                kind: REFERENCE,
                 mtime: mtime,
                 size: size,
             };
         }
         listing_records::Found::Link => {
             return Fields {
-                kind: 4,
+                kind: DELETED,
                 mtime: 0,
                 size: 0,
             };
         }
         listing_records::Found::Absent => {
             return Fields {
-                kind: 4,
+                kind: DELETED,
                 mtime: 0,
                 size: 0,
             };
@@ -114,7 +119,7 @@ pub fn item_fields(own: &[u8], part: &[u8], stream: Stream, head: Head) -> Field
         }
         Head::End => {
             return Fields {
-                kind: 4,
+                kind: DELETED,
                 mtime: 0,
                 size: 0,
             };

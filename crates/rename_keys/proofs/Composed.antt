@@ -1,5 +1,4 @@
 -- Two writes from the buffer's start on, one behind the other: what stands there afterwards.
--- Assumes nothing.
 use mathlib.Core.Path.{_≡_, ap, _∙_}
 use mathlib.Core.List.{_++_}
 use Prim.Native.Nat.{ℕ, _+_, _-_, _≤_}

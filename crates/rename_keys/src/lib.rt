@@ -1,17 +1,13 @@
-// A moved key: the destination standing where the source stood; and whether a key is short enough (12).
-// Assumes that what is composed has room: only this repository's crates call.
-// Composing is one pass over the key, and a copy of 512 bytes; counting components one pass over the path.
+// A moved key: the destination standing where the source stood. Composing is one pass over the key, and a copy of 512
+// bytes. Assumes that what is composed has room: only this repository's crates call.
 ghost use mathlib.Core.Path.{_≡_};
-ghost use mathlib.Core.Bool.{cond};
 ghost use mathlib.Core.List.{_++_};
 ghost use Prim.Native.Nat.{_+_, _-_, _≤_};
-ghost use lib.Dec.{eqb};
 ghost use lib.ListN.{length, take, drop};
-ghost use Rattle.model.specs.Path.{components, short};
 
 // `format!` of the Rust becomes this: the first `len` of 512 bytes.
 pub struct Key {
-    pub bytes: [u8; 512],
+    pub bytes: [u8; model::PATH_MAX],
     pub len: usize,
 }
 
@@ -34,7 +30,7 @@ pub fn moved_key(destination: &[u8], path: &[u8], from: usize) -> Key
     ensures { λ r. ⌜ take (r .len) (r .bytes) ≡ now (destination .entry) ++ drop from (now (path .entry)) ⌝ }
     ensures { λ r. ⌜ r .len ≡ length (now (destination .entry)) + (length (now (path .entry)) - from) ⌝ }
 {
-    let mut bytes: [u8; 512] = [0; 512];
+    let mut bytes: [u8; model::PATH_MAX] = [0; model::PATH_MAX];
     let tail = &path[from..];
     let len = destination.len() + tail.len();
     compose(&mut bytes, destination, tail);
@@ -42,35 +38,4 @@ pub fn moved_key(destination: &[u8], path: &[u8], from: usize) -> Key
         bytes: bytes,
         len: len,
     }
-}
-
-// 1 for a slash, 0 for every other byte.
-fn slash(b: u8) -> u64
-    ensures { λ r. ⌜ r ≡ cond (eqb b 47) 1 0 ⌝ }
-{
-    if b == b'/' {
-        return 1;
-    }
-    0
-}
-
-// How many components a path has: one more than slashes.
-pub fn component_count(path: &[u8]) -> u64
-    ensures { λ r. ⌜ r ≡ length (components (now (path .entry))) ⌝ }
-{
-    let mut n: u64 = 1;
-    let mut i = 0;
-    while i < path.len() {
-        n += slash(path[i]);
-        i += 1;
-    }
-    n
-}
-
-// Whether a path has at most 512 bytes and 32 components.
-pub fn is_short(path: &[u8]) -> bool
-    ensures { λ r. ⌜ r ≡ short (now (path .entry)) ⌝ }
-{
-    let n = component_count(path);
-    (path.len() <= model::PATH_MAX) & (n <= model::DEPTH_MAX as u64)
 }

@@ -1,5 +1,4 @@
 -- One moved entry counted: its key is measured in the table if it fits 512 bytes, else it is only charged.
--- Assumes nothing.
 use mathlib.Core.Path.{_≡_, refl, ap, sym, subst, _∙_}
 use mathlib.Core.List.{_++_}
 use mathlib.Core.Bool.{Bool, true, false, not, _&&_, _||_}

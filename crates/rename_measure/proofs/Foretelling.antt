@@ -299,38 +299,38 @@ module _ (s g : Bytes) (r : Record) (h : isTable s r ≡ true) (i : isListing g 
 -- what the code measures, by the source's kind
 module _ (s g : Bytes) (r : Record) (h : isTable s r ≡ true) (i : isListing g ≡ true) (a : Path) (w : Bool) (x : Source (tableIn s r)
     (treeIn g) a w) where
-  pub gone-whole : w ≡ true → (o : Record) → o ≡ recordOf (r .«entry_size»)
+  pub deletions-whole : w ≡ true → (o : Record) → o ≡ recordOf (r .«entry_size»)
       (puts (each deleted (a ∷ keys (carriedBelow (tableIn s r) (treeIn g) a))) (tableIn s r))
       → o ≡ recordOf (r .«entry_size») (puts (each deleted (keys (carried (tableIn s r) (treeIn g) a))) (tableIn s r))
-  gone-whole e o f =
+  deletions-whole e o f =
       f
       ∙ ap (λ (y : Table). recordOf (r .«entry_size») (puts (each deleted (keys y)) (tableIn s r)))
       (sym (whole-carried (tableIn s r) (treeIn g) a (tree-up s g r h i a a) w x e))
 
-  pub gone-alone : w ≡ false → (o : Record) → o ≡ recordOf (r .«entry_size») (put a deleted (tableIn s r))
+  pub deletions-alone : w ≡ false → (o : Record) → o ≡ recordOf (r .«entry_size») (put a deleted (tableIn s r))
       → o ≡ recordOf (r .«entry_size») (puts (each deleted (keys (carried (tableIn s r) (treeIn g) a))) (tableIn s r))
-  gone-alone e o f =
+  deletions-alone e o f =
       f
       ∙ ap (λ (y : Table). recordOf (r .«entry_size») (puts (each deleted (keys y)) (tableIn s r)))
       (sym (alone-carried (tableIn s r) (treeIn g) a (tree-up s g r h i a a) w x e))
 
-  pub come-whole : w ≡ true → (b : Path) (n : ℕ)
+  pub moves-whole : w ≡ true → (b : Path) (n : ℕ)
       → ((e : Entry) → lookup (puts (tableIn s r) (mapped asEntry (only (uncovered (tableIn s r) a) (treeIn g)))) a ≡ some e → length (bodyOf e)
       ≡ n)
       → (m : Moves)
       → ((e : Entry) → length (bodyOf e) ≡ n
       → Moved (r .«entry_size») (tableIn s r) (rekey a b ((a, e) ∷ carriedBelow (tableIn s r) (treeIn g) a)) m)
       → Moved (r .«entry_size») (tableIn s r) (rekey a b (carried (tableIn s r) (treeIn g) a)) m
-  come-whole e b n l m f =
+  moves-whole e b n l m f =
       subst (λ (y : Table). Moved (r .«entry_size») (tableIn s r) (rekey a b y) m)
       (sym (whole-carried (tableIn s r) (treeIn g) a (tree-up s g r h i a a) w x e)) (f (x .entry) (l (x .entry) (x .top)))
 
-  pub come-alone : w ≡ false → (b : Path) (n : ℕ)
+  pub moves-alone : w ≡ false → (b : Path) (n : ℕ)
       → ((e : Entry) → lookup (puts (tableIn s r) (mapped asEntry (only (uncovered (tableIn s r) a) (treeIn g)))) a ≡ some e → length (bodyOf e)
       ≡ n)
       → (m : Moves)
       → ((e : Entry) → length (bodyOf e) ≡ n → Moved (r .«entry_size») (tableIn s r) (rekey a b ((a, e) ∷ [])) m)
       → Moved (r .«entry_size») (tableIn s r) (rekey a b (carried (tableIn s r) (treeIn g) a)) m
-  come-alone e b n l m f =
+  moves-alone e b n l m f =
       subst (λ (y : Table). Moved (r .«entry_size») (tableIn s r) (rekey a b y) m)
       (sym (alone-carried (tableIn s r) (treeIn g) a (tree-up s g r h i a a) w x e)) (f (x .entry) (l (x .entry) (x .top)))

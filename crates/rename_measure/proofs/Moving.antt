@@ -1,5 +1,4 @@
 -- The pass that measures moves: one for each item of the streams, with those to come, is all of them.
--- Assumes nothing.
 use mathlib.Core.Path.{_≡_, refl, ap, sym, subst, _∙_}
 use mathlib.Core.List.{List, [], _∷_, append-nil}
 use mathlib.Core.Bool.{Bool, true, false, not, _&&_, _||_, or-false}

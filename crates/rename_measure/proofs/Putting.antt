@@ -1,5 +1,4 @@
 -- Entries with ascending keys put in one pass that measures: what is put so far, with those still to put, is the whole.
--- Assumes nothing.
 use mathlib.Core.Path.{_≡_, refl, ap, sym, subst, _∙_}
 use mathlib.Core.List.{[], _∷_}
 use mathlib.Core.Bool.{true}

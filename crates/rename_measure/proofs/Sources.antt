@@ -1,5 +1,4 @@
 -- What stands at the source: it is small, and the checks before the move give what `projected_move` asks for.
--- Assumes nothing.
 use mathlib.Core.Path.{_≡_, ap, ap₂, sym, _∙_}
 use mathlib.Core.List.{List, [], _∷_}
 use mathlib.Core.Bool.{Bool, true, false, _&&_}

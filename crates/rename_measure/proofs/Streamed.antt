@@ -1,5 +1,4 @@
 -- What the streams below a have to come: how much it is, that it stands behind a, and that keys and bodies are short.
--- Assumes nothing.
 use mathlib.Core.Path.{_≡_, refl, ap}
 use mathlib.Core.List.{List, [], _∷_}
 use mathlib.Core.Bool.{Bool, true}

@@ -1,5 +1,5 @@
--- What is counted of the moved entries: those whose keys fit 512 bytes are measured in the table, the others only charged.
--- Assumes nothing.
+-- What is counted of the moved entries: those whose keys fit 512 bytes are measured in the table, the others only
+-- charged.
 use mathlib.Core.Path.{_≡_}
 use mathlib.Core.Bool.{Bool, true, false, cond, not, _||_}
 use mathlib.Core.Option.{some}
@@ -28,7 +28,8 @@ far q = not (near q)
 -- in y one entry more is counted than in x, with the key k and m bytes of body
 pub record Counted (s : Bytes) (k : Path) (m : ℕ) (x y : Tally) : Type 0 where
   pub measured : near k ≡ true → (t : Table) (j : Path) (v : Entry)
-      → Measured s t j (x .place .left) (x .place .at) (x .rec .«entry_size») (x .rec) → before j k ≡ true → length (bodyOf v) ≡ m
+      → Measured s t j (x .place .left) (x .place .at) (x .rec .«entry_size») (x .rec) → before j k ≡ true
+      → length (bodyOf v) ≡ m
       → Measured s (put k v t) k (y .place .left) (y .place .at) (x .rec .«entry_size») (y .rec)
   pub kept : near k ≡ true → y .extra ≡ x .extra
   pub passed : near k ≡ false → (y .place ≡ x .place) × (y .rec ≡ x .rec)
@@ -51,17 +52,17 @@ pub record Source (t : Table) (l : Tree) (a : Path) (whole : Bool) : Type 0 wher
   pub top : lookup (puts t (mapped asEntry (only (uncovered t a) l))) a ≡ some entry
   pub is : kind (shown t l) a ≡ cond whole aDirectory aFile
 
--- the record before, with what `gone` and `m` each add to it
+-- the record before, with what `deletions` and `moves` each add to it
 abbrev pub combined : Record → Record → Moves → Projected
-combined r gone m = record {
+combined r deletions moves = record {
   rec = record {
-    used = gone .used + m .rec .used - r .used;
-    count = gone .count + m .rec .count - r .count;
-    charge = gone .charge + m .rec .charge - r .charge;
+    used = deletions .used + moves .rec .used - r .used;
+    count = deletions .count + moves .rec .count - r .count;
+    charge = deletions .charge + moves .rec .charge - r .charge;
     «entry_size» = r .«entry_size»;
   };
-  charge = gone .charge + m .rec .charge - r .charge + m .extra;
-  long = m .long;
+  charge = deletions .charge + moves .rec .charge - r .charge + moves .extra;
+  long = moves .long;
 }
 
 -- r tells the charge that rename leaves, whether a moved key is too long, and, if none is, the record

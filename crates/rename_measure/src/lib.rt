@@ -24,8 +24,8 @@ ghost use Rattle.rename_measure.specs.Tallies.{Counted, Moved, Small, So
 use rename_carried::Head;
 use rename_carried::Stream;
 
-// Moved entries counted: the record with those put whose keys fit 512 bytes, and the place in the table behind the last of these; what the others
-// are charged; whether some key is too long or too deep (12).
+// Moved entries counted: the record with those put whose keys fit 512 bytes, and the place in the table behind the last
+// of these; what the others are charged; whether some key is too long or too deep (12).
 pub struct Tally {
     pub place: table_entries::Place,
     pub rec: model::Record,
@@ -64,9 +64,11 @@ pub fn measure_deletions<'a>(
     requires { ⌜ entriesAt (now own) count 0 ≡ only (below (now source)) (tableIn (now table) rec) ⌝ }
     requires { ⌜ PartBelow (now part) (now source) records ⌝ }
     requires { ⌜ (0 < length (now source)) × (length (now source) ≤ 512) ⌝ }
-    ensures { λ r. ⌜ ((l : Tree) → ascends [] l ≡ true → treeAt (now (part .entry)) records 0 ≡ only (below (now (source .entry))) l
+    ensures { λ r. ⌜ ((l : Tree) → ascends [] l ≡ true → treeAt (now (part .entry)) records 0
+        ≡ only (below (now (source .entry))) l
         → r ≡ recordOf (rec .«entry_size») (puts (each deleted (now (source .entry)
-        ∷ keys (carriedBelow (tableIn (now (table .entry)) rec) l (now (source .entry))))) (tableIn (now (table .entry)) rec))) ⌝ }
+        ∷ keys (carriedBelow (tableIn (now (table .entry)) rec) l (now (source .entry)))))
+        (tableIn (now (table .entry)) rec))) ⌝ }
     ensures { λ r. ⌜ Small r ⌝ }
 {
     let begin = table_entries::first_entry(table, rec);
@@ -91,21 +93,23 @@ pub fn measure_deletions<'a>(
     }
 }
 
-// One entry more: its key is the destination, then what stands in `key` behind its first `from` bytes, and its body has m bytes.
+// One entry more: its key is the destination, then what stands in `key` behind its first `from` bytes, and its body has
+// m bytes.
 fn counted(table: &[u8], tally: Tally, destination: &[u8], key: &[u8], from: usize, m: u64) -> Tally
     requires { ⌜ Counts (now table) (tally .place .left) (tally .place .at) (tally .rec) ⌝ }
     requires { ⌜ (tally .extra ≤ 0x4000_0000_0000_0000) × (m ≤ 16777216) ⌝ }
     requires { ⌜ (from ≤ length (now key)) × (length (now key) ≤ 512) × (length (now destination) ≤ 512) ⌝ }
-    ensures { λ r. ⌜ Counted (now (table .entry)) (now (destination .entry) ++ drop from (now (key .entry))) m tally r ⌝ }
+    ensures { λ r. ⌜ Counted (now (table .entry)) (now (destination .entry) ++ drop from (now (key .entry))) m tally
+        r ⌝ }
 {
     let n = destination.len() + (key.len() - from);
     let place = tally.place;
     let rec = tally.rec;
-    if 512 < n {
+    if model::PATH_MAX < n {
         return Tally {
             place: place,
             rec: rec,
-            extra: tally.extra + 256 + n as u64 + rec.entry_size + m,
+            extra: tally.extra + model::ENTRY_MEMORY_USAGE + n as u64 + rec.entry_size + m,
             long: true,
         };
     }
@@ -114,7 +118,7 @@ fn counted(table: &[u8], tally: Tally, destination: &[u8], key: &[u8], from: usi
     let end = moved.len;
     let new = &bytes[..end];
     let next = table_measure::projected(table, place, rec, new, m);
-    let fits = rename_keys::is_short(new);
+    let fits = base_paths::is_short(new);
     let behind = next.place;
     let after = next.rec;
     Tally {
@@ -146,7 +150,8 @@ fn with_move<'a>(
         × (length (itemAt (now own) (now part) stream head .0) ≤ 512)
         × (length (bodyOf (itemAt (now own) (now part) stream head .1)) ≤ 16777216) ⌝ }
     ensures { λ r. ⌜ Counted (now (table .entry))
-        (newKey (now (source .entry)) (now (destination .entry)) (itemAt (now (own .entry)) (now (part .entry)) stream head .0))
+        (newKey (now (source .entry)) (now (destination .entry))
+        (itemAt (now (own .entry)) (now (part .entry)) stream head .0))
         (length (bodyOf (itemAt (now (own .entry)) (now (part .entry)) stream head .1))) tally r ⌝ }
 {
     let key = rename_items::item_key(own, part, stream, head);
@@ -165,15 +170,17 @@ fn with_move<'a>(
 fn first_move(table: &[u8], rec: model::Record, destination: &[u8], m: u64) -> Tally
     requires { ⌜ isTable (now table) rec ≡ true ⌝ }
     requires { ⌜ (length (now destination) ≤ 512) × (m ≤ 16777216) ⌝ }
-    ensures { λ r. ⌜ ((t : Table) (j : Path) (v : Entry) → Measured (now (table .entry)) t j (rec .count) 0 (rec .«entry_size») rec
+    ensures { λ r. ⌜ ((t : Table) (j : Path) (v : Entry) → Measured (now (table .entry)) t j (rec .count) 0
+        (rec .«entry_size») rec
         → before j (now (destination .entry)) ≡ true → length (bodyOf v) ≡ m
-        → Measured (now (table .entry)) (put (now (destination .entry)) v t) (now (destination .entry)) (r .place .left) (r .place .at)
+        → Measured (now (table .entry)) (put (now (destination .entry)) v t) (now (destination .entry)) (r .place .left)
+        (r .place .at)
         (rec .«entry_size») (r .rec)) ⌝ }
     ensures { λ r. ⌜ (r .extra ≡ 0) × (r .long ≡ not (short (now (destination .entry)))) ⌝ }
 {
     let begin = table_entries::first_entry(table, rec);
     let next = table_measure::projected(table, begin, rec, destination, m);
-    let fits = rename_keys::is_short(destination);
+    let fits = base_paths::is_short(destination);
     let behind = next.place;
     let after = next.rec;
     Tally {
@@ -184,7 +191,8 @@ fn first_move(table: &[u8], rec: model::Record, destination: &[u8], m: u64) -> T
     }
 }
 
-// The source and all that is carried from below it, counted as they are moved; what stands at the source has a body of `first_len` bytes.
+// The source and all that is carried from below it, counted as they are moved; what stands at the source has a body of
+// `first_len` bytes.
 pub fn measure_moves<'a>(
     flags: &mut [bool; 513],
     own: &'a [u8],
@@ -203,9 +211,11 @@ pub fn measure_moves<'a>(
     requires { ⌜ entriesAt (now own) count 0 ≡ only (below (now source)) (tableIn (now table) rec) ⌝ }
     requires { ⌜ PartBelow (now part) (now source) records ⌝ }
     requires { ⌜ (0 < length (now destination)) × (length (now destination) ≤ 512) × («first_len» ≤ 16777216) ⌝ }
-    ensures { λ r. ⌜ ((l : Tree) (e : Entry) → ascends [] l ≡ true → treeAt (now (part .entry)) records 0 ≡ only (below (now (source .entry))) l
+    ensures { λ r. ⌜ ((l : Tree) (e : Entry) → ascends [] l ≡ true
+        → treeAt (now (part .entry)) records 0 ≡ only (below (now (source .entry))) l
         → length (bodyOf e) ≡ «first_len»
-        → Moved (rec .«entry_size») (tableIn (now (table .entry)) rec) (rekey (now (source .entry)) (now (destination .entry))
+        → Moved (rec .«entry_size») (tableIn (now (table .entry)) rec)
+        (rekey (now (source .entry)) (now (destination .entry))
         ((now (source .entry), e) ∷ carriedBelow (tableIn (now (table .entry)) rec) l (now (source .entry)))) r) ⌝ }
     ensures { λ r. ⌜ Small (r .rec) × (r .extra ≤ 0x4000_0000_0000_0000) ⌝ }
 {
@@ -232,7 +242,7 @@ pub fn measure_moves<'a>(
 }
 
 // The source and all that is carried from below it deleted.
-fn gone_below<'a>(
+fn deletions_below<'a>(
     listing: &'a [u8],
     table: &'a [u8],
     rec: model::Record,
@@ -280,8 +290,10 @@ fn moves_below<'a>(
     requires { ⌜ isTable (now table) rec ≡ true ⌝ }
     requires { ⌜ (0 < length (now destination)) × (length (now destination) ≤ 512) × («first_len» ≤ 16777216) ⌝ }
     ensures { λ r. ⌜ ((e : Entry) → length (bodyOf e) ≡ «first_len»
-        → Moved (rec .«entry_size») (tableIn (now (table .entry)) rec) (rekey (now (source .entry)) (now (destination .entry))
-        ((now (source .entry), e) ∷ carriedBelow (tableIn (now (table .entry)) rec) (treeIn (now (listing .entry))) (now (source .entry)))) r) ⌝ }
+        → Moved (rec .«entry_size») (tableIn (now (table .entry)) rec)
+        (rekey (now (source .entry)) (now (destination .entry))
+        ((now (source .entry), e) ∷ carriedBelow (tableIn (now (table .entry)) rec) (treeIn (now (listing .entry)))
+        (now (source .entry)))) r) ⌝ }
     ensures { λ r. ⌜ Small (r .rec) × (r .extra ≤ 0x4000_0000_0000_0000) ⌝ }
 {
     let mut flags: [bool; 513] = [false; 513];
@@ -308,7 +320,7 @@ fn moves_below<'a>(
 }
 
 // What is carried deleted: a file alone, a directory with all below it.
-fn gone<'a>(
+fn all_deletions<'a>(
     listing: &'a [u8],
     table: &'a [u8],
     rec: model::Record,
@@ -320,12 +332,13 @@ fn gone<'a>(
     requires { ⌜ (0 < length (now source)) × (length (now source) ≤ 512) ⌝ }
     requires { ⌜ Source (tableIn (now table) rec) (treeIn (now listing)) (now source) whole ⌝ }
     ensures { λ r. ⌜ r ≡ recordOf (rec .«entry_size»)
-        (puts (each deleted (keys (carried (tableIn (now (table .entry)) rec) (treeIn (now (listing .entry))) (now (source .entry)))))
+        (puts (each deleted (keys (carried (tableIn (now (table .entry)) rec) (treeIn (now (listing .entry)))
+        (now (source .entry)))))
         (tableIn (now (table .entry)) rec)) ⌝ }
     ensures { λ r. ⌜ Small r ⌝ }
 {
     if whole {
-        return gone_below(listing, table, rec, source);
+        return deletions_below(listing, table, rec, source);
     }
     table_insert::projected_record(table, rec, source, 0)
 }
@@ -335,11 +348,12 @@ fn one_move(table: &[u8], rec: model::Record, destination: &[u8], m: u64) -> Mov
     requires { ⌜ isTable (now table) rec ≡ true ⌝ }
     requires { ⌜ (0 < length (now destination)) × (length (now destination) ≤ 512) × (m ≤ 16777216) ⌝ }
     ensures { λ r. ⌜ ((a : Path) (e : Entry) → length (bodyOf e) ≡ m
-        → Moved (rec .«entry_size») (tableIn (now (table .entry)) rec) (rekey a (now (destination .entry)) ((a, e) ∷ [])) r) ⌝ }
+        → Moved (rec .«entry_size») (tableIn (now (table .entry)) rec)
+        (rekey a (now (destination .entry)) ((a, e) ∷ [])) r) ⌝ }
     ensures { λ r. ⌜ Small (r .rec) × (r .extra ≤ 0x4000_0000_0000_0000) ⌝ }
 {
     let after = table_insert::projected_record(table, rec, destination, m);
-    let fits = rename_keys::is_short(destination);
+    let fits = base_paths::is_short(destination);
     Moves {
         rec: after,
         extra: 0,
@@ -348,7 +362,7 @@ fn one_move(table: &[u8], rec: model::Record, destination: &[u8], m: u64) -> Mov
 }
 
 // What is carried moved.
-fn come<'a>(
+fn all_moves<'a>(
     listing: &'a [u8],
     table: &'a [u8],
     rec: model::Record,
@@ -361,9 +375,11 @@ fn come<'a>(
     requires { ⌜ isTable (now table) rec ≡ true ⌝ }
     requires { ⌜ (0 < length (now destination)) × (length (now destination) ≤ 512) × («first_len» ≤ 16777216) ⌝ }
     requires { ⌜ Source (tableIn (now table) rec) (treeIn (now listing)) (now source) whole ⌝ }
-    requires { ⌜ ((e : Entry) → lookup (puts (tableIn (now table) rec) (mapped asEntry (only (uncovered (tableIn (now table) rec) (now source))
+    requires { ⌜ ((e : Entry) → lookup (puts (tableIn (now table) rec)
+        (mapped asEntry (only (uncovered (tableIn (now table) rec) (now source))
         (treeIn (now listing))))) (now source) ≡ some e → length (bodyOf e) ≡ «first_len») ⌝ }
-    ensures { λ r. ⌜ Moved (rec .«entry_size») (tableIn (now (table .entry)) rec) (rekey (now (source .entry)) (now (destination .entry))
+    ensures { λ r. ⌜ Moved (rec .«entry_size») (tableIn (now (table .entry)) rec)
+        (rekey (now (source .entry)) (now (destination .entry))
         (carried (tableIn (now (table .entry)) rec) (treeIn (now (listing .entry))) (now (source .entry)))) r ⌝ }
     ensures { λ r. ⌜ Small (r .rec) × (r .extra ≤ 0x4000_0000_0000_0000) ⌝ }
 {
@@ -374,17 +390,17 @@ fn come<'a>(
 }
 
 // Deletions and moves together, since they have no key in common.
-fn together(rec: model::Record, gone: model::Record, moves: Moves) -> Projected
-    requires { ⌜ Small gone × Small (moves .rec) × (moves .extra ≤ 0x4000_0000_0000_0000) ⌝ }
-    requires { ⌜ (rec .used ≤ gone .used + moves .rec .used) × (rec .count ≤ gone .count + moves .rec .count)
-        × (rec .charge ≤ gone .charge + moves .rec .charge) ⌝ }
-    ensures { λ r. ⌜ r ≡ combined rec gone moves ⌝ }
+fn together(rec: model::Record, deletions: model::Record, moves: Moves) -> Projected
+    requires { ⌜ Small deletions × Small (moves .rec) × (moves .extra ≤ 0x4000_0000_0000_0000) ⌝ }
+    requires { ⌜ (rec .used ≤ deletions .used + moves .rec .used) × (rec .count ≤ deletions .count + moves .rec .count)
+        × (rec .charge ≤ deletions .charge + moves .rec .charge) ⌝ }
+    ensures { λ r. ⌜ r ≡ combined rec deletions moves ⌝ }
 {
     let after = moves.rec;
-    let charge = gone.charge + after.charge - rec.charge;
+    let charge = deletions.charge + after.charge - rec.charge;
     let sums = model::Record {
-        used: gone.used + after.used - rec.used,
-        count: gone.count + after.count - rec.count,
+        used: deletions.used + after.used - rec.used,
+        count: deletions.count + after.count - rec.count,
         charge: charge,
         entry_size: rec.entry_size,
     };
@@ -410,13 +426,16 @@ pub fn projected_move<'a>(
     requires { ⌜ (0 < length (now source)) × (length (now source) ≤ 512) ⌝ }
     requires { ⌜ (0 < length (now destination)) × (length (now destination) ≤ 512) ⌝ }
     requires { ⌜ Source (tableIn (now table) rec) (treeIn (now listing)) (now source) whole ⌝ }
-    requires { ⌜ ((e : Entry) → lookup (puts (tableIn (now table) rec) (mapped asEntry (only (uncovered (tableIn (now table) rec) (now source))
+    requires { ⌜ ((e : Entry) → lookup (puts (tableIn (now table) rec)
+        (mapped asEntry (only (uncovered (tableIn (now table) rec) (now source))
         (treeIn (now listing))))) (now source) ≡ some e → length (bodyOf e) ≡ «first_len») ⌝ }
-    requires { ⌜ (same (now source) (now destination) ≡ false → (q r : Path) → rest (now source) q ≡ some r → rest (now destination) q ≡ none) ⌝ }
-    ensures { λ r. ⌜ Foretold (rec .«entry_size») (tableIn (now (table .entry)) rec) (treeIn (now (listing .entry))) (now (source .entry))
+    requires { ⌜ (same (now source) (now destination) ≡ false → (q r : Path) → rest (now source) q ≡ some r
+        → rest (now destination) q ≡ none) ⌝ }
+    ensures { λ r. ⌜ Foretold (rec .«entry_size») (tableIn (now (table .entry)) rec) (treeIn (now (listing .entry)))
+        (now (source .entry))
         (now (destination .entry)) r ⌝ }
 {
-    let moves = come(listing, table, rec, source, destination, whole, first_len);
+    let moves = all_moves(listing, table, rec, source, destination, whole, first_len);
     let after = moves.rec;
     if base_fields::is_same(source, destination) {
         return Projected {
@@ -425,6 +444,6 @@ pub fn projected_move<'a>(
             long: moves.long,
         };
     }
-    let deletions = gone(listing, table, rec, source, whole);
+    let deletions = all_deletions(listing, table, rec, source, whole);
     together(rec, deletions, moves)
 }

@@ -1,5 +1,4 @@
 -- The plan's sum over what is below the source alone; what the plan gives, by the two comparisons.
--- Assumes nothing.
 use mathlib.Core.Path.{_≡_, refl, ap, _∙_}
 use mathlib.Core.Bool.{true}
 use mathlib.Core.List.{[], _∷_}

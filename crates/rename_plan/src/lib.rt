@@ -1,6 +1,7 @@
-// rename's plan and walk as one check, for a source that is a directory: both ask whether the limit allows what moving it may take.
-// Assumes a listing, a table and two paths that were checked: only this repository's crates call.
-// The plan reads heads and keys of the table up to the last below the source, and those below it twice; rename_descendants says what the walk costs.
+// rename's plan and walk as one check, for a source that is a directory: both ask whether the limit allows what moving
+// it may take. Assumes a listing, a table and two paths that were checked: only this repository's crates call. The plan
+// reads heads and keys of the table up to the last below the source, and those below it twice; rename_descendants says
+// what the walk costs.
 ghost use mathlib.Core.Path.{_≡_};
 ghost use mathlib.Core.Bool.{true};
 ghost use mathlib.Core.Option.{some};
@@ -13,9 +14,9 @@ ghost use Rattle.model.specs.Table.{tableIn, isTable};
 ghost use Rattle.model.specs.Checks.{_then_, limited};
 ghost use Rattle.model.specs.Rename.{ifDirectory, planned, plan, walkFrom};
 ghost use Rattle.model.specs.Rename as rename;
-ghost use Rattle.check_parents.specs.Judged.{checkOf};
+ghost use Rattle.check_judged.specs.Judged.{checkOf};
 ghost use Rattle.rename_walk.specs.Walked.{walkOf};
-use check_parents::Judged;
+use check_judged::Judged;
 use model::Record;
 use model::Refusal;
 
@@ -68,7 +69,8 @@ fn walk_checks(listing: &[u8], table: &[u8], rec: Record, source: &[u8], budget:
     requires { ⌜ isTable (now table) rec ≡ true ⌝ }
     requires { ⌜ isPath (now source) ≡ true ⌝ }
     ensures { λ r. ⌜ checkOf r ≡ ifDirectory (kind (lookup (treeIn (now (listing .entry)))) (now (source .entry)))
-        (rename.walked (length (now (source .entry))) (walkFrom (tableIn (now (table .entry)) rec) (treeIn (now (listing .entry)))
+        (rename.walked (length (now (source .entry))) (walkFrom (tableIn (now (table .entry)) rec)
+        (treeIn (now (listing .entry)))
         (some budget) (now (source .entry)))) ⌝ }
 {
     if is_listed_directory(listing, source) {
@@ -84,7 +86,8 @@ fn walk_checks(listing: &[u8], table: &[u8], rec: Record, source: &[u8], budget:
     Judged::Pass
 }
 
-// 11 if the charge exceeds the limit, or the plan's sum what the charge leaves of it; what both leave is the walk's budget.
+// 11 if the charge exceeds the limit, or the plan's sum what the charge leaves of it; what both leave is the walk's
+// budget.
 pub fn plan_checks(
     listing: &[u8],
     table: &[u8],
@@ -96,10 +99,14 @@ pub fn plan_checks(
     requires { ⌜ isListing (now listing) ≡ true ⌝ }
     requires { ⌜ isTable (now table) rec ≡ true ⌝ }
     requires { ⌜ (isPath (now source) ≡ true) × (isPath (now destination) ≡ true) ⌝ }
-    ensures { λ r. ⌜ checkOf r ≡ (plan (limited (rec .«entry_size») limit) (tableIn (now (table .entry)) rec) (now (source .entry))
-        (now (destination .entry)) then ifDirectory (kind (lookup (treeIn (now (listing .entry)))) (now (source .entry)))
-        (rename.walked (length (now (source .entry))) (walkFrom (tableIn (now (table .entry)) rec) (treeIn (now (listing .entry)))
-        (rename.budget (limited (rec .«entry_size») limit) (tableIn (now (table .entry)) rec) (now (source .entry)) (now (destination .entry)))
+    ensures { λ r. ⌜ checkOf r ≡ (plan (limited (rec .«entry_size») limit) (tableIn (now (table .entry)) rec)
+        (now (source .entry))
+        (now (destination .entry)) then ifDirectory (kind (lookup (treeIn (now (listing .entry))))
+        (now (source .entry)))
+        (rename.walked (length (now (source .entry))) (walkFrom (tableIn (now (table .entry)) rec)
+        (treeIn (now (listing .entry)))
+        (rename.budget (limited (rec .«entry_size») limit) (tableIn (now (table .entry)) rec) (now (source .entry))
+        (now (destination .entry)))
         (now (source .entry))))) ⌝ }
 {
     if limit < rec.charge {

@@ -1,5 +1,4 @@
 -- 11, 12 and 13 by what was measured; what the checks before them give that the measuring asks for.
--- Assumes nothing.
 use mathlib.Core.Path.{_≡_, refl, ap, sym, _∙_}
 use mathlib.Core.List.{[], _∷_}
 use mathlib.Core.Bool.{Bool, true, false, cond, not}

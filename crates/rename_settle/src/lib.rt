@@ -1,6 +1,6 @@
-// 11, 12 and 13 of rename: the record that it leaves, or why it is refused, before anything is written.
-// Assumes a listing, a table and two paths that were checked, up to the plan and the walk: only this repository's crates call.
-// A constant number of passes over listing, table and paths.
+// 11, 12 and 13 of rename: the record that it leaves, or why it is refused, before anything is written. Assumes a
+// listing, a table and two paths that were checked, up to the plan and the walk: only this repository's crates call. A
+// constant number of passes over listing, table and paths.
 ghost use mathlib.Core.Path.{_≡_};
 ghost use mathlib.Core.Bool.{true, cond};
 ghost use mathlib.Core.Option.{none};
@@ -27,7 +27,8 @@ pub enum Settled {
     Refused(Refusal),
 }
 
-// The length of the body that is carried from the source itself, where the table has no entry there: a listed file's body is its path.
+// The length of the body that is carried from the source itself, where the table has no entry there: a listed file's
+// body is its path.
 fn listed_len(listing: &[u8], source: &[u8]) -> u64
     requires { ⌜ isListing (now listing) ≡ true ⌝ }
     ensures { λ r. ⌜ r ≡ length (bodyOf (topOf none (lookup (treeIn (now (listing .entry))) (now (source .entry))))) ⌝ }
@@ -53,7 +54,8 @@ fn listed_len(listing: &[u8], source: &[u8]) -> u64
 fn first_len(listing: &[u8], table: &[u8], rec: Record, source: &[u8]) -> u64
     requires { ⌜ isListing (now listing) ≡ true ⌝ }
     requires { ⌜ isTable (now table) rec ≡ true ⌝ }
-    ensures { λ r. ⌜ r ≡ length (bodyOf (top (tableIn (now (table .entry)) rec) (treeIn (now (listing .entry))) (now (source .entry)))) ⌝ }
+    ensures { λ r. ⌜ r ≡ length (bodyOf (top (tableIn (now (table .entry)) rec) (treeIn (now (listing .entry)))
+        (now (source .entry)))) ⌝ }
 {
     let first = table_entries::first_entry(table, rec);
     let got = table_entries::get_from(table, first, source);
@@ -67,7 +69,7 @@ fn first_len(listing: &[u8], table: &[u8], rec: Record, source: &[u8]) -> u64
 }
 
 // 11, 12 and 13, for a table of `room` bytes.
-fn settle(projected: Projected, limit: u64, room: u64) -> Settled
+fn settled_by(projected: Projected, limit: u64, room: u64) -> Settled
     ensures { λ r. ⌜ r ≡ settledOf projected limit room ⌝ }
 {
     let after = projected.rec;
@@ -85,7 +87,7 @@ fn settle(projected: Projected, limit: u64, room: u64) -> Settled
 }
 
 // What the call is refused with by 11, 12 and 13, or the record that it leaves, once all checks before these passed.
-pub fn measure<'a>(
+pub fn last_checks<'a>(
     listing: &'a [u8],
     table: &'a [u8],
     rec: Record,
@@ -98,10 +100,13 @@ pub fn measure<'a>(
     requires { ⌜ isTable (now table) rec ≡ true ⌝ }
     requires { ⌜ (isPath (now source) ≡ true) × (isPath (now destination) ≡ true) ⌝ }
     requires { ⌜ earlyChecks (tableIn (now table) rec) (treeIn (now listing)) (now source) (now destination) ≡ pass ⌝ }
-    requires { ⌜ kind (shown (tableIn (now table) rec) (treeIn (now listing))) (now source) ≡ cond whole aDirectory aFile ⌝ }
-    ensures { λ r. ⌜ settledCheck r ≡ lastChecks (limited (rec .«entry_size») limit) (length (now (table .entry))) (tableIn (now (table .entry)) rec)
+    requires { ⌜ kind (shown (tableIn (now table) rec) (treeIn (now listing))) (now source)
+        ≡ cond whole aDirectory aFile ⌝ }
+    ensures { λ r. ⌜ settledCheck r ≡ lastChecks (limited (rec .«entry_size») limit) (length (now (table .entry)))
+        (tableIn (now (table .entry)) rec)
         (treeIn (now (listing .entry))) (now (source .entry)) (now (destination .entry)) ⌝ }
-    ensures { λ r. ⌜ ((after : Record) → r ≡ settled.Done after → after ≡ recordOf (rec .«entry_size») (moved (tableIn (now (table .entry)) rec)
+    ensures { λ r. ⌜ ((after : Record) → r ≡ settled.Done after
+        → after ≡ recordOf (rec .«entry_size») (moved (tableIn (now (table .entry)) rec)
         (treeIn (now (listing .entry))) (now (source .entry)) (now (destination .entry)))) ⌝ }
 {
     let len = first_len(listing, table, rec, source);
@@ -114,5 +119,5 @@ pub fn measure<'a>(
         whole,
         len,
     );
-    settle(projected, limit, table.len() as u64)
+    settled_by(projected, limit, table.len() as u64)
 }

@@ -1,5 +1,4 @@
 -- Two lists with ascending keys as one: all keys of the first are at a or below it, all of the second at b or below it, and no path is both.
--- Assumes nothing but what each law names.
 use mathlib.Core.Path.{_≡_, refl, ap, sym, _∙_}
 use mathlib.Core.Logic.{inl, inr}
 use mathlib.Core.List.{[], _∷_, _++_}

@@ -1,5 +1,4 @@
 -- What is put for source and destination, as the lists of the definition; and that all their keys are at these paths or below them.
--- Assumes nothing but what each law names.
 use mathlib.Core.Path.{_≡_, refl, ap, sym, _∙_}
 use mathlib.Core.List.{[], _∷_, append-nil}
 use mathlib.Core.Bool.{Bool, true, false, cond, not}

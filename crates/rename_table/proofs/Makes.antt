@@ -1,5 +1,4 @@
 -- Two lists without a common key, put into a table in one order: the same as both, one over the other.
--- Assumes nothing but what each law names.
 use mathlib.Core.Path.{_≡_, refl, _∙_}
 use mathlib.Core.List.{[], _∷_, _++_}
 use mathlib.Core.Bool.{true}

@@ -1,5 +1,4 @@
 -- Which entry is carried from the source itself.
--- Assumes nothing but what each law names.
 use mathlib.Core.Path.{_≡_, refl, ap, sym, _∙_}
 use mathlib.Core.List.{[]}
 use mathlib.Core.Bool.{Bool, true, false, cond}

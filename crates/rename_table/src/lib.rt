@@ -1,6 +1,6 @@
-// The table that rename leaves, written anew as the definition has it.
-// Assumes a checked table and a checked listing, paths that passed rename's checks before its plan, short new keys, and buffers with room:
-// only this repository's crates call, once all checks passed.
+// The table that rename leaves, written anew as the definition has it. Assumes a checked table and a checked listing,
+// paths that passed rename's checks before its plan, short new keys, and buffers with room: only this repository's
+// crates call, once all checks passed.
 ghost use mathlib.Core.Path.{_≡_};
 ghost use mathlib.Core.Bool.{true, cond};
 ghost use Prim.Native.Nat.{_≤_};
@@ -28,12 +28,15 @@ pub fn write_move(
     requires { ⌜ isTable (now table) rec ≡ true ⌝ }
     requires { ⌜ isListing (now listing) ≡ true ⌝ }
     requires { ⌜ earlyChecks (tableIn (now table) rec) (treeIn (now listing)) (now source) (now destination) ≡ pass ⌝ }
-    requires { ⌜ kind (shown (tableIn (now table) rec) (treeIn (now listing))) (now source) ≡ cond whole aDirectory aFile ⌝ }
+    requires { ⌜ kind (shown (tableIn (now table) rec) (treeIn (now listing))) (now source)
+        ≡ cond whole aDirectory aFile ⌝ }
     requires { ⌜ every short (keys (rekey (now source) (now destination)
         (carried (tableIn (now table) rec) (treeIn (now listing)) (now source)))) ≡ true ⌝ }
-    requires { ⌜ length (encode (moved (tableIn (now table) rec) (treeIn (now listing)) (now source) (now destination))) ≤ length (now table) ⌝ }
+    requires { ⌜ length (encode (moved (tableIn (now table) rec) (treeIn (now listing)) (now source) (now destination)))
+        ≤ length (now table) ⌝ }
     requires { ⌜ length (now table) ≤ length (now work) ⌝ }
-    ensures { λ _. ⌜ now (table .exit) ≡ padded (length (now (table .entry))) (encode (moved (tableIn (now (table .entry)) rec)
+    ensures { λ _. ⌜ now (table .exit) ≡ padded (length (now (table .entry)))
+        (encode (moved (tableIn (now (table .entry)) rec)
         (treeIn (now (listing .entry))) (now (source .entry)) (now (destination .entry)))) ⌝ }
     ensures { λ _. ⌜ now (work .exit) ≡ replicate (length (now (work .entry))) 0 ⌝ }
 {

@@ -1,5 +1,4 @@
 -- The part of a listing below a directory, as the cursor asks for it, and what is uncovered in it.
--- Assumes nothing.
 use mathlib.Core.Path.{_≡_, refl, ap, _∙_}
 use mathlib.Core.List.{List, [], _∷_}
 use mathlib.Core.Bool.{Bool, true, false, cond, _&&_}

@@ -1,5 +1,4 @@
 -- One step of the pass: a path's answer by its parent's flag, and the flags with its own.
--- Assumes nothing.
 use mathlib.Core.Path.{_≡_, sym, ap, _∙_}
 use mathlib.Core.Bool.{Bool, false, _&&_, _||_}
 use mathlib.Core.List.{List}
@@ -17,7 +16,8 @@ use Rattle.model.proofs.Orders.{bot, Tested, yea, nay, test}
 use Rattle.base_fields.specs.Read.{common}
 use Rattle.base_fields.proofs.Common.{common-first, take-common, Lt-take, Lt-front, before-Lt, Lt-before}
 use Rattle.base_paths.proofs.Ancestors.{before-slash}
-use Rattle.rename_uncovered.specs.Cover.{Parted, Covering, Following}
+use Rattle.base_paths.specs.Ancestors.{Parted}
+use Rattle.rename_uncovered.specs.Cover.{Covering, Following}
 use Rattle.rename_uncovered.proofs.Parents.{below-longer-front, slash-there, child-uncovered, other-uncovered}
 
 module _ (t : Table) (a : Path) (l : Tree) (f : List Bool) (p q : Path) (c : Covering t a l f p) (w : Following a l p q) where

@@ -1,5 +1,4 @@
 -- The pass over the records of a part and the entries of a table, side by side, since both ascend: each record is read behind the last.
--- Assumes nothing.
 use mathlib.Core.Path.{_≡_, refl, ap, sym, _∙_}
 use mathlib.Core.List.{List, [], _∷_}
 use mathlib.Core.Bool.{Bool, true, false}

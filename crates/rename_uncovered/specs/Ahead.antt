@@ -1,5 +1,4 @@
 -- A cursor over the uncovered records of a listing's part below a, beside a cursor over the table.
--- Assumes nothing.
 use mathlib.Core.Path.{_≡_}
 use mathlib.Core.Bool.{Bool, true, false, _&&_}
 use mathlib.Core.List.{List}
@@ -24,7 +23,8 @@ fitting a q = below a q && leb (length q) 512
 
 -- with a listed path, every path between a and it is listed
 abbrev pub Placed : Path → Tree → Type 0
-Placed a l = (q k : Path) → isNone (lookup l q) ≡ false → below a k ≡ true → below k q ≡ true → isNone (lookup l k) ≡ false
+Placed a l = (q k : Path) → isNone (lookup l q) ≡ false → below a k ≡ true → below k q ≡ true
+    → isNone (lookup l k) ≡ false
 
 -- the n records of p are those of a listing that are below a
 pub record PartBelow (p : Bytes) (a : Path) (n : ℕ) : Type 0 where

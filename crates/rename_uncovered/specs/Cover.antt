@@ -1,13 +1,10 @@
--- The flags of the one pass over a listing's part below a: at k, whether the first k bytes of the path just read are uncovered.
--- Only flags of listed paths are asked for, so the others may say anything, and none is ever cleared.
--- Assumes nothing.
+-- The flags of the one pass over a listing's part below a: at k, whether the first k bytes of the path just read are
+-- uncovered. Only flags of listed paths are asked for, so the others may say anything, and none is ever cleared.
 use mathlib.Core.Path.{_≡_}
 use mathlib.Core.Bool.{Bool, true, false}
 use mathlib.Core.List.{List}
-use mathlib.Core.Logic.{_⊎_}
 use mathlib.Core.Option.{none}
-use Prim.Native.Nat.{ℕ, _≤_, _<_}
-use lib.Dec.{eqb}
+use Prim.Native.Nat.{ℕ, _≤_}
 use lib.ListN.{length, getD, take}
 use Rattle.model.specs.Bytes.{before}
 use Rattle.model.specs.Path.{Path, below}
@@ -15,18 +12,12 @@ use Rattle.model.specs.Map.{isNone, lookup}
 use Rattle.model.specs.Tree.{Table, Tree}
 use Rattle.model.specs.Rename.{uncovered}
 
--- behind place i no slash stands in p, and i is `from` or a slash stands there: p's parent ends at i, if it has `from` bytes or more
-pub record Parted (p : Path) (from i : ℕ) : Type 0 where
-  pub low : from ≤ i
-  pub high : i < length p
-  pub here : (i ≡ from) ⊎ (getD p i 0 ≡ 47)
-  pub behind : (j : ℕ) → i < j → j < length p → eqb (getD p j 0) 47 ≡ false
-
 -- the path p was read last, and the flags of its fronts that are listed in l are right
 pub record Covering (t : Table) (a : Path) (l : Tree) (f : List Bool) (p : Path) : Type 0 where
   pub flag : (k : ℕ) → k ≤ length p → isNone (lookup l (take k p)) ≡ false → getD f k false ≡ uncovered t a (take k p)
 
--- the path q is read behind p: it lies below a, nothing listed is between p and q, and every path between a and q is listed
+-- the path q is read behind p: it lies below a, nothing listed is between p and q, and every path between a and q is
+-- listed
 pub record Following (a : Path) (l : Tree) (p q : Path) : Type 0 where
   pub under : below a q ≡ true
   pub after : before p q ≡ true

@@ -1,5 +1,4 @@
 -- One node visited within a budget, as the code adds, and what an answer says of a node.
--- Assumes nothing.
 use mathlib.Core.Path.{_≡_, refl, ap, _∙_}
 use mathlib.Core.Bool.{true, false}
 use mathlib.Core.Option.{Option, some}

@@ -1,5 +1,4 @@
 -- Maps cut at a path: what stands at or behind it, and what is below a directory.
--- Assumes nothing.
 use mathlib.Core.Path.{_≡_, refl, sym, _∙_}
 use mathlib.Core.Logic.{_⊎_, inl, inr}
 use mathlib.Core.List.{[], _∷_, _++_}

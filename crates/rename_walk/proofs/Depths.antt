@@ -1,5 +1,4 @@
 -- How deep a walk goes: as deep as the tree or deeper is the same, and a listing is at most 32 deep.
--- Assumes nothing.
 use mathlib.Core.Path.{_≡_, refl}
 use mathlib.Core.List.{List, [], _∷_}
 use mathlib.Core.Bool.{true, _&&_, _||_}

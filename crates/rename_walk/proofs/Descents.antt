@@ -1,5 +1,4 @@
 -- What entering comes to at one record and at two halves of a stretch, and what the walk from the source comes to.
--- Assumes nothing.
 use mathlib.Core.Path.{_≡_, refl, ap, sym, _∙_}
 use mathlib.Core.List.{[], _∷_, _++_}
 use mathlib.Core.Bool.{Bool, true, false, _&&_}

@@ -1,6 +1,5 @@
 -- Directories entered last first: of two stretches the second comes before the first; and where two tables and two trees agree below a
 -- directory, so do its walks.
--- Assumes nothing.
 use mathlib.Core.Path.{_≡_, refl, ap, sym, _∙_}
 use mathlib.Core.List.{List, [], _∷_, _++_}
 use mathlib.Core.Bool.{Bool, true, false, _&&_}

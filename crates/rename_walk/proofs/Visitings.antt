@@ -1,5 +1,4 @@
 -- The children in a stretch visited: records and entries are passed side by side, since both ascend.
--- Assumes nothing.
 use mathlib.Core.Path.{_≡_, refl, ap, sym, _∙_}
 use mathlib.Core.List.{[], _∷_}
 use mathlib.Core.Bool.{Bool, true, false, _&&_}

@@ -1,5 +1,4 @@
 -- Stretches of a listing's records, and the directories found in one, entered last first.
--- Assumes nothing.
 use mathlib.Core.Path.{_≡_}
 use mathlib.Core.Bool.{cond}
 use mathlib.Core.List.{[], _∷_, _++_}
@@ -28,7 +27,8 @@ abbrev pub lead : Path → Tree → ℕ
 lead d [] = 0
 lead d (x ∷ xs) = let r = suc (lead d xs) in cond (below d (x .0)) r 0
 
--- of the n records from `at` on, those from d and a slash on are the m from `to` on, and the first `count` of these are those below d
+-- of the n records from `at` on, those from d and a slash on are the m from `to` on, and the first `count` of these are
+-- those below d
 pub record Under (s : Bytes) (d : Path) (n at m to count : ℕ) : Type 0 where
   pub stand : Standing s m to
   pub few : count ≤ m

@@ -1,5 +1,4 @@
 -- What the walk answers in code, as a walk of the definition.
--- Assumes nothing.
 use mathlib.Core.Bool.{Bool, true, false}
 use Rattle.model.specs.Rename.{Walk, sum, overBudget, atLink}
 use Rattle.rename_walk.specs.declared.Walked.{Walked}

@@ -1,10 +1,11 @@
-// rename's walk in its order: asked only where a link is reached and the budget is exceeded too, since there the one that comes first is the answer.
-// Assumes a listing and a table that were checked, and a path: only this repository's crates call.
-// A record or an entry is passed a few times at each of 32 levels, once for each of 20 halvings there, and for each directory whose path it begins with.
+// rename's walk in its order: asked only where a link is reached and the budget is exceeded too, since there the one
+// that comes first is the answer. Assumes a listing and a table that were checked, and a path: only this repository's
+// crates call. A record or an entry is passed a few times at each of 32 levels, once for each of 20 halvings there, and
+// for each directory whose path it begins with.
 ghost use mathlib.Core.Path.{_≡_};
 ghost use mathlib.Core.Bool.{true, _&&_};
 ghost use mathlib.Core.Option.{some};
-ghost use Prim.Native.Nat.{_+_, _-_, _*_, _≤_, _<_};
+ghost use Prim.Native.Nat.{_+_, _-_, _≤_, _<_};
 ghost use lib.ListN.{length};
 ghost use Rattle.model.specs.Path.{Path, isPath, child};
 ghost use Rattle.model.specs.Map.{lookup, isNone};
@@ -69,14 +70,15 @@ fn added(total: u64, cost: u64, budget: u64) -> Walked
 // One node visited, at a path of `len` bytes: a link ends the walk. A listed node is never absent.
 fn visit_from(total: u64, found: listing_records::Found, len: u64, budget: u64) -> Walked
     requires { ⌜ len ≤ 16777216 ⌝ }
-    ensures { λ r. ⌜ ((p : Path) (n : Node) → found ≡ foundOf (some n) → len ≡ length p → walkOf r ≡ visit (some budget) (rename.sum total) p n) ⌝ }
+    ensures { λ r. ⌜ ((p : Path) (n : Node) → found ≡ foundOf (some n) → len ≡ length p
+        → walkOf r ≡ visit (some budget) (rename.sum total) p n) ⌝ }
 {
     match found {
         listing_records::Found::Directory(_) => {
-            return added(total, 3 * len + 512, budget);
+            return added(total, 3 * len + model::REAL_DESCENDANT_MEMORY_USAGE, budget);
         }
         listing_records::Found::File(_, _) => {
-            return added(total, 2 * len + 512, budget);
+            return added(total, 2 * len + model::REAL_DESCENDANT_MEMORY_USAGE, budget);
         }
         listing_records::Found::Link => {
             return Walked::AtLink;
@@ -90,7 +92,8 @@ fn visit_from(total: u64, found: listing_records::Found, len: u64, budget: u64) 
 // The same of a walk that may have ended: then it stays so.
 fn visited(walked: Walked, found: listing_records::Found, len: u64, budget: u64) -> Walked
     requires { ⌜ len ≤ 16777216 ⌝ }
-    ensures { λ r. ⌜ ((p : Path) (n : Node) → found ≡ foundOf (some n) → len ≡ length p → walkOf r ≡ visit (some budget) (walkOf walked) p n) ⌝ }
+    ensures { λ r. ⌜ ((p : Path) (n : Node) → found ≡ foundOf (some n) → len ≡ length p
+        → walkOf r ≡ visit (some budget) (walkOf walked) p n) ⌝ }
 {
     match walked {
         Walked::Sum(total) => {
@@ -142,7 +145,8 @@ fn is_directory(found: listing_records::Found) -> bool
     }
 }
 
-// Whether the record at a place is a child of the directory and has no entry from the table's place on. The table is read up to the record's path.
+// Whether the record at a place is a child of the directory and has no entry from the table's place on. The table is
+// read up to the record's path.
 fn bare_child(
     records: &[u8],
     here: listing_records::Place,
@@ -153,16 +157,19 @@ fn bare_child(
     requires { ⌜ listing.Standing (now records) (here .left) (here .at) ⌝ }
     requires { ⌜ 0 < here .left ⌝ }
     requires { ⌜ Standing (now table) (place .left) (place .at) ⌝ }
-    ensures { λ r. ⌜ r .bare ≡ (child (now (dir .entry)) (recordAt (now (records .entry)) (here .at) .path) && isNone (lookup
-        (entriesAt (now (table .entry)) (place .left) (place .at)) (recordAt (now (records .entry)) (here .at) .path))) ⌝ }
-    ensures { λ r. ⌜ Sought (now (table .entry)) (recordAt (now (records .entry)) (here .at) .path) (place .left) (place .at) (r .place .left)
+    ensures { λ r. ⌜ r .bare ≡ (child (now (dir .entry)) (recordAt (now (records .entry)) (here .at) .path)
+        && isNone (lookup
+        (entriesAt (now (table .entry)) (place .left) (place .at))
+        (recordAt (now (records .entry)) (here .at) .path))) ⌝ }
+    ensures { λ r. ⌜ Sought (now (table .entry)) (recordAt (now (records .entry)) (here .at) .path) (place .left)
+        (place .at) (r .place .left)
         (r .place .at) ⌝ }
 {
     let path = listing_records::record_path(records, here);
     let got = table_entries::get_from(table, place, path);
     let entry = got.entry;
     let from = got.place;
-    let bare = table_below::is_child(dir, path) & table_entries::is_absent(entry);
+    let bare = base_paths::is_child(dir, path) & table_entries::is_absent(entry);
     Bare {
         bare: bare,
         place: from,
@@ -182,9 +189,11 @@ fn visit_record(
     requires { ⌜ listing.Standing (now records) (here .left) (here .at) ⌝ }
     requires { ⌜ 0 < here .left ⌝ }
     requires { ⌜ Standing (now table) (place .left) (place .at) ⌝ }
-    ensures { λ r. ⌜ walkOf (r .walked) ≡ visits (some budget) (walkOf walked) (children (entriesAt (now (table .entry)) (place .left) (place .at))
+    ensures { λ r. ⌜ walkOf (r .walked) ≡ visits (some budget) (walkOf walked)
+        (children (entriesAt (now (table .entry)) (place .left) (place .at))
         (treeAt (now (records .entry)) 1 (here .at)) (now (dir .entry))) ⌝ }
-    ensures { λ r. ⌜ Sought (now (table .entry)) (recordAt (now (records .entry)) (here .at) .path) (place .left) (place .at) (r .place .left)
+    ensures { λ r. ⌜ Sought (now (table .entry)) (recordAt (now (records .entry)) (here .at) .path) (place .left)
+        (place .at) (r .place .left)
         (r .place .at) ⌝ }
 {
     let child = bare_child(records, here, table, place, dir);
@@ -204,7 +213,8 @@ fn visit_record(
     }
 }
 
-// The children of a directory in a stretch visited in ascending order; records and entries are passed side by side, since both ascend.
+// The children of a directory in a stretch visited in ascending order; records and entries are passed side by side,
+// since both ascend.
 fn visit_children(
     records: &[u8],
     stretch: Stretch,
@@ -217,7 +227,8 @@ fn visit_children(
     requires { ⌜ listing.Standing (now records) (stretch .left) (stretch .at) ⌝ }
     requires { ⌜ stretch .count ≤ stretch .left ⌝ }
     requires { ⌜ Standing (now table) (place .left) (place .at) ⌝ }
-    ensures { λ r. ⌜ walkOf r ≡ visits (some budget) (walkOf walked) (children (entriesAt (now (table .entry)) (place .left) (place .at))
+    ensures { λ r. ⌜ walkOf r ≡ visits (some budget) (walkOf walked)
+        (children (entriesAt (now (table .entry)) (place .left) (place .at))
         (treeAt (now (records .entry)) (stretch .count) (stretch .at)) (now (dir .entry))) ⌝ }
 {
     let mut at = stretch.at;
@@ -245,8 +256,8 @@ fn visit_children(
     on
 }
 
-// The first record from a place on that does not come before all that is below a directory. From the directory's own record on, every record
-// passed begins with the directory's path, as `a-b` does between `a` and `a/b`.
+// The first record from a place on that does not come before all that is below a directory. From the directory's own
+// record on, every record passed begins with the directory's path, as `a-b` does between `a` and `a/b`.
 fn seek_below(records: &[u8], place: listing_records::Place, dir: &[u8]) -> listing_records::Place
     requires { ⌜ listing.Standing (now records) (place .left) (place .at) ⌝ }
     ensures { λ r. ⌜ listing.Standing (now (records .entry)) (r .left) (r .at) ⌝ }
@@ -258,7 +269,7 @@ fn seek_below(records: &[u8], place: listing_records::Place, dir: &[u8]) -> list
     while 0 < left {
         let here = listing_records::Place { at: at, left: left };
         let path = listing_records::record_path(records, here);
-        if table_below::is_before_with(path, dir, b'/') {
+        if base_paths::is_before_with(path, dir, b'/') {
             let next = listing_records::next_record(records, here);
             at = next.at;
             left = next.left;
@@ -280,7 +291,7 @@ fn count_below(records: &[u8], place: listing_records::Place, dir: &[u8]) -> u64
     while 0 < left {
         let here = listing_records::Place { at: at, left: left };
         let path = listing_records::record_path(records, here);
-        if listing_records::is_below(dir, path) {
+        if base_paths::is_below(dir, path) {
             let next = listing_records::next_record(records, here);
             at = next.at;
             left = next.left;
@@ -295,7 +306,8 @@ fn count_below(records: &[u8], place: listing_records::Place, dir: &[u8]) -> u64
 // The records below a directory, among those from a place on: one stretch, since their paths ascend.
 fn stretch_below(records: &[u8], place: listing_records::Place, dir: &[u8]) -> Stretch
     requires { ⌜ listing.Standing (now records) (place .left) (place .at) ⌝ }
-    ensures { λ r. ⌜ Under (now (records .entry)) (now (dir .entry)) (place .left) (place .at) (r .left) (r .at) (r .count) ⌝ }
+    ensures { λ r. ⌜ Under (now (records .entry)) (now (dir .entry)) (place .left) (place .at) (r .left) (r .at)
+        (r .count) ⌝ }
 {
     let first = seek_below(records, place, dir);
     let count = count_below(records, first, dir);
@@ -330,7 +342,8 @@ fn skip(records: &[u8], place: listing_records::Place, n: u64) -> listing_record
 fn halved(records: &[u8], stretch: Stretch) -> Halves
     requires { ⌜ listing.Standing (now records) (stretch .left) (stretch .at) ⌝ }
     requires { ⌜ (stretch .count ≤ stretch .left) × (1 < stretch .count) ⌝ }
-    ensures { λ r. ⌜ Halved (now (records .entry)) (stretch .left) (stretch .count) (stretch .at) (r .low .left) (r .low .count) (r .low .at)
+    ensures { λ r. ⌜ Halved (now (records .entry)) (stretch .left) (stretch .count) (stretch .at) (r .low .left)
+        (r .low .count) (r .low .at)
         (r .high .left) (r .high .count) (r .high .at) ⌝ }
 {
     let at = stretch.at;
@@ -351,8 +364,8 @@ fn halved(records: &[u8], stretch: Stretch) -> Halves
     Halves { low: a, high: b }
 }
 
-// The record at a place entered, if it is a directory among the children of `dir` without an entry: its own children are visited, and then the
-// directories among them entered, one level less deep. `depth` components may still follow.
+// The record at a place entered, if it is a directory among the children of `dir` without an entry: its own children
+// are visited, and then the directories among them entered, one level less deep. `depth` components may still follow.
 fn enter_record(
     records: &[u8],
     here: listing_records::Place,
@@ -385,8 +398,9 @@ fn enter_record(
     walked
 }
 
-// The directories among the children of `dir` in a stretch entered, the last found first: the second half comes before the first, so the order is
-// reversed with nothing stored. Both halves search the table from the stretch's first path on, so each search goes forward only.
+// The directories among the children of `dir` in a stretch entered, the last found first: the second half comes before
+// the first, so the order is reversed with nothing stored. Both halves search the table from the stretch's first path
+// on, so each search goes forward only.
 fn enter_stretch(
     records: &[u8],
     stretch: Stretch,
@@ -424,8 +438,9 @@ fn enter_stretch(
     enter_stretch(records, low, table, entries, dir, budget, on, depth)
 }
 
-// The walk below a source, from 2 × its length + 1 on: its children are visited, then the directories among them entered. A path has at most 32
-// components, so 32 levels, of which the source's children are the first, reach all that is listed.
+// The walk below a source, from 2 × its length + 1 on: its children are visited, then the directories among them
+// entered. A path has at most 32 components, so 32 levels, of which the source's children are the first, reach all that
+// is listed.
 pub fn walk_in_order(
     listing: &[u8],
     table: &[u8],
@@ -436,7 +451,8 @@ pub fn walk_in_order(
     requires { ⌜ isListing (now listing) ≡ true ⌝ }
     requires { ⌜ isTable (now table) rec ≡ true ⌝ }
     requires { ⌜ isPath (now source) ≡ true ⌝ }
-    ensures { λ r. ⌜ walkOf r ≡ walkFrom (tableIn (now (table .entry)) rec) (treeIn (now (listing .entry))) (some budget) (now (source .entry)) ⌝ }
+    ensures { λ r. ⌜ walkOf r ≡ walkFrom (tableIn (now (table .entry)) rec) (treeIn (now (listing .entry)))
+        (some budget) (now (source .entry)) ⌝ }
 {
     let start = 2 * source.len() as u64 + 1;
     let first = listing_records::first_record(listing);

@@ -1,5 +1,4 @@
 -- One item of what is carried: what it puts into the table.
--- Assumes nothing.
 use mathlib.Core.Path.{_≡_, refl, ap, sym, subst, _∙_}
 use mathlib.Core.Bool.{true}
 use mathlib.Core.List.{[], _++_}

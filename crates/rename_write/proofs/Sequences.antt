@@ -1,5 +1,4 @@
 -- Stretches one behind the other, and stretches of one entry.
--- Assumes nothing.
 use mathlib.Core.Path.{_≡_, refl, ap, sym, subst, _∙_}
 use mathlib.Core.Bool.{Bool, true, false, cond}
 use mathlib.Core.List.{List, [], _∷_, _++_, append-assoc, append-nil}
@@ -24,7 +23,7 @@ use Rattle.listing_records.specs.declared.Found.{Found}
 use Rattle.listing_records.specs.declared.Found.the-variants as found
 use Rattle.listing_records.specs.Parts.{PartOf}
 use Rattle.table_entries.specs.Place.{Standing, Sought, endOf}
-use Rattle.table_entries.specs.Cut.{firstAt}
+use Rattle.table_entries.specs.Cut.{firstIf}
 use Rattle.table_entries.specs.declared.Place.{Place}
 use Rattle.table_entries.proofs.Cuts.{lookup-first}
 use Rattle.table_measure.specs.Into.{into}
@@ -145,8 +144,8 @@ lower-movables p T a b from to n whole h o e m =
     }
 
 -- the first of the entries that were sought, if it has the key
-first-there : (s : Bytes) (a : Path) (m to : ℕ) → isNone (firstAt a (entriesAt s m to)) ≡ false
-    → (0 < m) × (firstAt a (entriesAt s m to) ≡ some (entryAt s to))
+first-there : (s : Bytes) (a : Path) (m to : ℕ) → isNone (firstIf a (entriesAt s m to)) ≡ false
+    → (0 < m) × (firstIf a (entriesAt s m to) ≡ some (entryAt s to))
 first-there s a zero to h = absurd (bot (cc))
 first-there s a (suc m) to h = elim (test (same (keyAt s to) a)) [
   | yea e ↦ (omega arith, cc)
@@ -168,8 +167,8 @@ module _ (s : Bytes) (r : Record) (q : Place) (a : Path) (b : Bool) (e : q ≡ r
       → (0 < m) × (entryAt s to ≡ topOf (lookup (tableIn s r) a) n)
   top-stored h st m to w =
       let t = entriesAt s (q .left) (q .at) in
-      let z : lookup t a ≡ firstAt a (entriesAt s m to) =
-      lookup-first a t (ascends-is [] t (st .up) .1) ∙ ap (firstAt a) (sym (w .are)) in
+      let z : lookup t a ≡ firstIf a (entriesAt s m to) =
+      lookup-first a t (ascends-is [] t (st .up) .1) ∙ ap (firstIf a) (sym (w .are)) in
       let y = first-there s a m to (ap isNone (sym z) ∙ sym f ∙ h) in
       let u : lookup (tableIn s r) a ≡ some (entryAt s to) =
       ap (λ (o : Place). lookup (entriesAt s (o .left) (o .at)) a) (sym e) ∙ z ∙ y .1 in

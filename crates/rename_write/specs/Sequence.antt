@@ -1,5 +1,4 @@
 -- Stretches one behind the other: what one asks and does, so that two in a row ask and do the same of both together.
--- Assumes nothing.
 use mathlib.Core.Path.{_≡_}
 use mathlib.Core.Bool.{Bool, true, cond}
 use mathlib.Core.List.{[], _∷_, _++_}
@@ -56,12 +55,14 @@ departures whole t l a = (a, deleted) ∷ turned deletion (lower whole t l a)
 abbrev pub arrivals : Bool → Table → Tree → Path → Path → Table
 arrivals whole t l a b = (b, top t l a) ∷ turned (move a b) (lower whole t l a)
 
--- all of it in one order: of two paths the one that is first comes with all below it, unless the other lies before what is below it
+-- all of it in one order: of two paths the one that is first comes with all below it, unless the other lies before what
+-- is below it
 abbrev pub ordered : Bool → Table → Tree → Path → Path → Table
 ordered whole t l a b =
     cond (same a b) (arrivals whole t l a b)
     (cond (before a b)
     (cond (before b (a ++ (47 ∷ []))) ((a, deleted) ∷ (arrivals whole t l a b ++ turned deletion (lower whole t l a)))
     (departures whole t l a ++ arrivals whole t l a b))
-    (cond (before a (b ++ (47 ∷ []))) ((b, top t l a) ∷ (departures whole t l a ++ turned (move a b) (lower whole t l a)))
+    (cond (before a (b ++ (47 ∷ []))) ((b, top t l a) ∷ (departures whole t l a
+    ++ turned (move a b) (lower whole t l a)))
     (arrivals whole t l a b ++ departures whole t l a)))

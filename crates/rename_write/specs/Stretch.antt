@@ -1,5 +1,5 @@
--- Stretches of entries with ascending keys that are put into a table one after the other, each entry made of one that rename carries.
--- Assumes nothing.
+-- Stretches of entries with ascending keys that are put into a table one after the other, each entry made of one that
+-- rename carries.
 use mathlib.Core.Path.{_≡_}
 use mathlib.Core.Bool.{Bool, true, _&&_}
 use mathlib.Core.List.{[], _∷_, _++_}
@@ -51,7 +51,8 @@ pub record Movables (p : Bytes) (T : Table) (a b : Path) (n : ℕ) : Type 0 wher
 -- the work buffer w has room up to the entry i, and for it
 pub record Room (s w : Bytes) (x : Merge) (i : Path × Entry) : Type 0 where
   pub stand : Standing s (x .left) (x .at)
-  pub fits : x .out + length (encode (upTo (i .0) (entriesAt s (x .left) (x .at)))) + (24 + length (i .0) + length (bodyOf (i .1))) ≤ length w
+  pub fits : x .out + length (encode (upTo (i .0) (entriesAt s (x .left) (x .at)))) +
+      (24 + length (i .0) + length (bodyOf (i .1))) ≤ length w
 
 -- the work buffer was w and is w′: the entry i was put
 pub record Put (s w w′ : Bytes) (x x′ : Merge) (i : Path × Entry) : Type 0 where
@@ -60,8 +61,10 @@ pub record Put (s w w′ : Bytes) (x x′ : Merge) (i : Path × Entry) : Type 0 
   pub long : length w′ ≡ length w
   pub end : endOf s (x′ .left) (x′ .at) ≡ endOf s (x .left) (x .at)
 
--- what is put for what is carried from below a, with T for the table and p for the listing's part, can be put, and after it what is put later
-pub record Puttable (g : Path × Entry → Path × Entry) (s w p : Bytes) (T : Table) (a : Path) (n : ℕ) (x : Merge) : Type 0 where
+-- what is put for what is carried from below a, with T for the table and p for the listing's part, can be put, and
+-- after it what is put later
+pub record Puttable (g : Path × Entry → Path × Entry) (s w p : Bytes) (T : Table) (a : Path) (n : ℕ)
+    (x : Merge) : Type 0 where
   pub l : Tree
   pub t : Table
   pub k : Path
@@ -78,8 +81,11 @@ pub record Behind (s w : Bytes) (t later : Table) (x : Merge) : Type 0 where
   pub up : ascends k later ≡ true
 
 -- the work buffer was w and is w′: all of it was put
-pub record PutAll (g : Path × Entry → Path × Entry) (s w w′ p : Bytes) (T : Table) (a : Path) (n : ℕ) (x x′ : Merge) : Type 0 where
-  pub merged : (l : Tree) (t : Table) (k : Path) (later : Table) → Listed p a n l → Merged s w t k (x .left) (x .at) (x .out)
-      → ascends k (turned g (carriedBelow T l a) ++ later) ≡ true → Behind s w′ (into (turned g (carriedBelow T l a)) t) later x′
+pub record PutAll (g : Path × Entry → Path × Entry) (s w w′ p : Bytes) (T : Table) (a : Path) (n : ℕ)
+    (x x′ : Merge) : Type 0 where
+  pub merged : (l : Tree) (t : Table) (k : Path) (later : Table) → Listed p a n l
+      → Merged s w t k (x .left) (x .at) (x .out)
+      → ascends k (turned g (carriedBelow T l a) ++ later) ≡ true
+      → Behind s w′ (into (turned g (carriedBelow T l a)) t) later x′
   pub long : length w′ ≡ length w
   pub end : endOf s (x′ .left) (x′ .at) ≡ endOf s (x .left) (x .at)

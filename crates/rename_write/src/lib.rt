@@ -1,8 +1,9 @@
-// The table that rename leaves, written anew: stretches of entries with ascending keys, each in one pass over what rename carries.
-// Assumes parts of a checked table and of a checked listing, and buffers with room: only this repository's crates call, once all checks passed.
-// A stretch reads the parts and the table once, and writes each byte of the new table once.
+// The table that rename leaves, written anew: stretches of entries with ascending keys, each in one pass over what
+// rename carries. Assumes parts of a checked table and of a checked listing, and buffers with room: only this
+// repository's crates call, once all checks passed. A stretch reads the parts and the table once, and writes each byte
+// of the new table once.
 ghost use mathlib.Core.Path.{_≡_};
-ghost use mathlib.Core.Bool.{true, false};
+ghost use mathlib.Core.Bool.{true};
 ghost use mathlib.Core.List.{[], _∷_, _++_};
 ghost use mathlib.Core.Option.{none};
 ghost use Prim.Native.Nat.{_≤_, _<_};
@@ -18,8 +19,12 @@ ghost use Rattle.table_entries.specs.Place.{Standing};
 ghost use Rattle.table_measure.specs.Into.{into};
 ghost use Rattle.rename_uncovered.specs.Ahead.{PartBelow};
 ghost use Rattle.rename_carried.specs.Streams.{remaining, Next, itemAt};
-ghost use Rattle.rename_write.specs.Stretch.{deletion, move, movable, turned, Movables, Room, Put, Puttable, PutAll};
+ghost use Rattle.rename_write.specs.Stretch.{deletion, move, movable, turned, Movables, Room, Put, Puttable};
+ghost use Rattle.rename_write.specs.Stretch.{PutAll};
 ghost use Rattle.rename_write.specs.Sequence.{Fits, AllPut, lower, topOf, top, departures, arrivals, ordered};
+use model::DELETED;
+use model::DIRECTORY;
+use model::REFERENCE;
 use rename_carried::Head;
 use rename_carried::Stream;
 use table_write::Merge;
@@ -43,7 +48,7 @@ fn put_deletion<'a>(
         (deletion (itemAt (now (own .entry)) (now (part .entry)) stream head)) ⌝ }
 {
     let key = rename_items::item_key(own, part, stream, head);
-    table_write::put_next(work, table, merge, key, 4, 0, 0, &key[..0])
+    table_write::put_next(work, table, merge, key, DELETED, 0, 0, &key[..0])
 }
 
 // A deleted entry at each key below the source that rename carries.
@@ -64,7 +69,8 @@ pub fn put_deletions<'a>(
     requires { ⌜ Standing (now own) count 0 ⌝ }
     requires { ⌜ entriesAt (now own) count 0 ≡ only (below (now source)) (tableIn (now table) rec) ⌝ }
     requires { ⌜ PartBelow (now part) (now source) records ⌝ }
-    requires { ⌜ Puttable deletion (now table) (now work) (now part) (tableIn (now table) rec) (now source) records merge ⌝ }
+    requires { ⌜ Puttable deletion (now table) (now work) (now part) (tableIn (now table) rec)
+        (now source) records merge ⌝ }
     ensures { λ r. ⌜ PutAll deletion (now (table .entry)) (now (work .entry)) (now (work .exit)) (now (part .entry))
         (tableIn (now (table .entry)) rec) (now (source .entry)) records merge r ⌝ }
 {
@@ -96,9 +102,11 @@ fn put_move<'a>(
     requires { ⌜ Next (now own) (now part) stream head ⌝ }
     requires { ⌜ 0 < remaining stream ⌝ }
     requires { ⌜ movable (now source) (now destination) (itemAt (now own) (now part) stream head) ≡ true ⌝ }
-    requires { ⌜ Room (now table) (now work) merge (move (now source) (now destination) (itemAt (now own) (now part) stream head)) ⌝ }
+    requires { ⌜ Room (now table) (now work) merge (move (now source) (now destination)
+        (itemAt (now own) (now part) stream head)) ⌝ }
     ensures { λ r. ⌜ Put (now (table .entry)) (now (work .entry)) (now (work .exit)) merge r
-        (move (now (source .entry)) (now (destination .entry)) (itemAt (now (own .entry)) (now (part .entry)) stream head)) ⌝ }
+        (move (now (source .entry)) (now (destination .entry))
+        (itemAt (now (own .entry)) (now (part .entry)) stream head)) ⌝ }
 {
     let path = rename_items::item_key(own, part, stream, head);
     let key = rename_keys::moved_key(destination, path, source.len());
@@ -137,10 +145,12 @@ pub fn put_moves<'a>(
     requires { ⌜ Standing (now own) count 0 ⌝ }
     requires { ⌜ entriesAt (now own) count 0 ≡ only (below (now source)) (tableIn (now table) rec) ⌝ }
     requires { ⌜ PartBelow (now part) (now source) records ⌝ }
-    requires { ⌜ Puttable (move (now source) (now destination)) (now table) (now work) (now part) (tableIn (now table) rec)
+    requires { ⌜ Puttable (move (now source) (now destination)) (now table) (now work) (now part)
+        (tableIn (now table) rec)
         (now source) records merge ⌝ }
     requires { ⌜ Movables (now part) (tableIn (now table) rec) (now source) (now destination) records ⌝ }
-    ensures { λ r. ⌜ PutAll (move (now (source .entry)) (now (destination .entry))) (now (table .entry)) (now (work .entry)) (now (work .exit))
+    ensures { λ r. ⌜ PutAll (move (now (source .entry)) (now (destination .entry))) (now (table .entry))
+        (now (work .entry)) (now (work .exit))
         (now (part .entry)) (tableIn (now (table .entry)) rec) (now (source .entry)) records merge r ⌝ }
 {
     let mut next = merge;
@@ -165,11 +175,12 @@ pub fn put_moves<'a>(
 }
 
 // A deleted entry at the source itself.
-fn put_source(work: &mut [u8], table: &[u8], source: &[u8], merge: Merge) -> Merge
+fn put_source_deletion(work: &mut [u8], table: &[u8], source: &[u8], merge: Merge) -> Merge
     requires { ⌜ Fits (now table) (now work) ((now source, deleted) ∷ []) merge ⌝ }
-    ensures { λ r. ⌜ AllPut (now (table .entry)) (now (work .entry)) (now (work .exit)) ((now (source .entry), deleted) ∷ []) merge r ⌝ }
+    ensures { λ r. ⌜ AllPut (now (table .entry)) (now (work .entry)) (now (work .exit))
+        ((now (source .entry), deleted) ∷ []) merge r ⌝ }
 {
-    table_write::put_next(work, table, merge, source, 4, 0, 0, &source[..0])
+    table_write::put_next(work, table, merge, source, DELETED, 0, 0, &source[..0])
 }
 
 // A deleted entry at each key below the source, if that is a directory.
@@ -184,9 +195,11 @@ fn put_lower_deletions<'a>(
 ) -> Merge
     requires { ⌜ isTable (now table) rec ≡ true ⌝ }
     requires { ⌜ isListing (now listing) ≡ true ⌝ }
-    requires { ⌜ Fits (now table) (now work) (turned deletion (lower whole (tableIn (now table) rec) (treeIn (now listing)) (now source))) merge ⌝ }
+    requires { ⌜ Fits (now table) (now work) (turned deletion
+        (lower whole (tableIn (now table) rec) (treeIn (now listing)) (now source))) merge ⌝ }
     ensures { λ r. ⌜ AllPut (now (table .entry)) (now (work .entry)) (now (work .exit))
-        (turned deletion (lower whole (tableIn (now (table .entry)) rec) (treeIn (now (listing .entry))) (now (source .entry)))) merge r ⌝ }
+        (turned deletion (lower whole (tableIn (now (table .entry)) rec) (treeIn (now (listing .entry)))
+        (now (source .entry)))) merge r ⌝ }
 {
     if !whole {
         return merge;
@@ -227,12 +240,15 @@ fn put_lower_moves<'a>(
 ) -> Merge
     requires { ⌜ isTable (now table) rec ≡ true ⌝ }
     requires { ⌜ isListing (now listing) ≡ true ⌝ }
-    requires { ⌜ every (movable (now source) (now destination)) (lower whole (tableIn (now table) rec) (treeIn (now listing)) (now source)) ≡ true ⌝ }
+    requires { ⌜ every (movable (now source) (now destination))
+        (lower whole (tableIn (now table) rec) (treeIn (now listing)) (now source)) ≡ true ⌝ }
     requires { ⌜ Fits (now table) (now work) (turned (move (now source) (now destination))
         (lower whole (tableIn (now table) rec) (treeIn (now listing)) (now source))) merge ⌝ }
-    ensures { λ r. ⌜ AllPut (now (table .entry)) (now (work .entry)) (now (work .exit)) (turned (move (now (source .entry)) (now
+    ensures { λ r. ⌜ AllPut (now (table .entry)) (now (work .entry)) (now (work .exit))
+        (turned (move (now (source .entry)) (now
         (destination .entry)))
-        (lower whole (tableIn (now (table .entry)) rec) (treeIn (now (listing .entry))) (now (source .entry)))) merge r ⌝ }
+        (lower whole (tableIn (now (table .entry)) rec) (treeIn (now (listing .entry))) (now (source .entry)))) merge
+        r ⌝ }
 {
     if !whole {
         return merge;
@@ -289,7 +305,8 @@ fn put_stored(
     )
 }
 
-// What is listed at the source, at the destination, as an entry; a deleted one where it is a link or nothing, and no caller comes there.
+// What is listed at the source, at the destination, as an entry; a deleted one where it is a link or nothing, and no
+// caller comes there.
 fn put_listed(
     work: &mut [u8],
     table: &[u8],
@@ -299,9 +316,11 @@ fn put_listed(
     merge: Merge,
 ) -> Merge
     requires { ⌜ isListing (now listing) ≡ true ⌝ }
-    requires { ⌜ Fits (now table) (now work) ((now destination, topOf none (lookup (treeIn (now listing)) (now source))) ∷ []) merge ⌝ }
+    requires { ⌜ Fits (now table) (now work) ((now destination, topOf none (lookup (treeIn (now listing)) (now source)))
+        ∷ []) merge ⌝ }
     ensures { λ r. ⌜ AllPut (now (table .entry)) (now (work .entry)) (now (work .exit))
-        ((now (destination .entry), topOf none (lookup (treeIn (now (listing .entry))) (now (source .entry)))) ∷ []) merge r ⌝ }
+        ((now (destination .entry), topOf none (lookup (treeIn (now (listing .entry))) (now (source .entry)))) ∷ [])
+        merge r ⌝ }
 {
     let found = listing_dir::find(listing, source);
     match found {
@@ -311,20 +330,29 @@ fn put_listed(
                 table,
                 merge,
                 destination,
-                3,
+                DIRECTORY,
                 mtime,
                 0,
                 &source[..0],
             );
         }
         listing_records::Found::File(mtime, size) => {
-            return table_write::put_next(work, table, merge, destination, 2, mtime, size, source);
+            return table_write::put_next(
+                work,
+                table,
+                merge,
+                destination,
+                REFERENCE,
+                mtime,
+                size,
+                source,
+            );
         }
         listing_records::Found::Link => {
-            return put_source(work, table, destination, merge);
+            return put_source_deletion(work, table, destination, merge);
         }
         listing_records::Found::Absent => {
-            return put_source(work, table, destination, merge);
+            return put_source_deletion(work, table, destination, merge);
         }
     }
 }
@@ -341,9 +369,16 @@ fn put_top(
 ) -> Merge
     requires { ⌜ isTable (now table) rec ≡ true ⌝ }
     requires { ⌜ isListing (now listing) ≡ true ⌝ }
-    requires { ⌜ Fits (now table) (now work) ((now destination, top (tableIn (now table) rec) (treeIn (now listing)) (now source)) ∷ []) merge ⌝ }
+    requires { ⌜ Fits (now table) (now work) ((
+      now destination,
+      top (tableIn (now table) rec) (treeIn (now listing)) (now source),
+    ) ∷ []) merge ⌝ }
     ensures { λ r. ⌜ AllPut (now (table .entry)) (now (work .entry)) (now (work .exit))
-        ((now (destination .entry), top (tableIn (now (table .entry)) rec) (treeIn (now (listing .entry))) (now (source .entry))) ∷ []) merge r ⌝ }
+        ((
+          now (destination .entry),
+          top (tableIn (now (table .entry)) rec) (treeIn (now (listing .entry)))
+              (now (source .entry)),
+        ) ∷ []) merge r ⌝ }
 {
     let first = table_entries::first_entry(table, rec);
     let got = table_entries::get_from(table, first, source);
@@ -367,11 +402,13 @@ fn put_departures<'a>(
 ) -> Merge
     requires { ⌜ isTable (now table) rec ≡ true ⌝ }
     requires { ⌜ isListing (now listing) ≡ true ⌝ }
-    requires { ⌜ Fits (now table) (now work) (departures whole (tableIn (now table) rec) (treeIn (now listing)) (now source)) merge ⌝ }
-    ensures { λ r. ⌜ AllPut (now (table .entry)) (now (work .entry)) (now (work .exit)) (departures whole (tableIn (now (table .entry)) rec) (treeIn
+    requires { ⌜ Fits (now table) (now work) (departures whole (tableIn (now table) rec) (treeIn (now listing))
+        (now source)) merge ⌝ }
+    ensures { λ r. ⌜ AllPut (now (table .entry)) (now (work .entry)) (now (work .exit))
+        (departures whole (tableIn (now (table .entry)) rec) (treeIn
         (now (listing .entry))) (now (source .entry))) merge r ⌝ }
 {
-    let next = put_source(work, table, source, merge);
+    let next = put_source_deletion(work, table, source, merge);
     put_lower_deletions(work, table, rec, listing, source, whole, next)
 }
 
@@ -388,10 +425,13 @@ fn put_arrivals<'a>(
 ) -> Merge
     requires { ⌜ isTable (now table) rec ≡ true ⌝ }
     requires { ⌜ isListing (now listing) ≡ true ⌝ }
-    requires { ⌜ every (movable (now source) (now destination)) (lower whole (tableIn (now table) rec) (treeIn (now listing)) (now source)) ≡ true ⌝ }
-    requires { ⌜ Fits (now table) (now work) (arrivals whole (tableIn (now table) rec) (treeIn (now listing)) (now source)
+    requires { ⌜ every (movable (now source) (now destination))
+        (lower whole (tableIn (now table) rec) (treeIn (now listing)) (now source)) ≡ true ⌝ }
+    requires { ⌜ Fits (now table) (now work) (arrivals whole (tableIn (now table) rec) (treeIn (now listing))
+        (now source)
         (now destination)) merge ⌝ }
-    ensures { λ r. ⌜ AllPut (now (table .entry)) (now (work .entry)) (now (work .exit)) (arrivals whole (tableIn (now (table .entry)) rec) (treeIn
+    ensures { λ r. ⌜ AllPut (now (table .entry)) (now (work .entry)) (now (work .exit))
+        (arrivals whole (tableIn (now (table .entry)) rec) (treeIn
         (now (listing .entry))) (now (source .entry)) (now (destination .entry))) merge r ⌝ }
 {
     let next = put_top(work, table, rec, listing, source, destination, merge);
@@ -411,11 +451,15 @@ fn put_source_first<'a>(
 ) -> Merge
     requires { ⌜ isTable (now table) rec ≡ true ⌝ }
     requires { ⌜ isListing (now listing) ≡ true ⌝ }
-    requires { ⌜ every (movable (now source) (now destination)) (lower whole (tableIn (now table) rec) (treeIn (now listing)) (now source)) ≡ true ⌝ }
-    requires { ⌜ Fits (now table) (now work) (departures whole (tableIn (now table) rec) (treeIn (now listing)) (now source) ++ arrivals whole
+    requires { ⌜ every (movable (now source) (now destination))
+        (lower whole (tableIn (now table) rec) (treeIn (now listing)) (now source)) ≡ true ⌝ }
+    requires { ⌜ Fits (now table) (now work) (departures whole (tableIn (now table) rec) (treeIn (now listing))
+        (now source) ++ arrivals whole
         (tableIn (now table) rec) (treeIn (now listing)) (now source) (now destination)) merge ⌝ }
-    ensures { λ r. ⌜ AllPut (now (table .entry)) (now (work .entry)) (now (work .exit)) (departures whole (tableIn (now (table .entry)) rec) (treeIn
-        (now (listing .entry))) (now (source .entry)) ++ arrivals whole (tableIn (now (table .entry)) rec) (treeIn (now (listing .entry))) (now
+    ensures { λ r. ⌜ AllPut (now (table .entry)) (now (work .entry)) (now (work .exit))
+        (departures whole (tableIn (now (table .entry)) rec) (treeIn
+        (now (listing .entry))) (now (source .entry)) ++ arrivals whole (tableIn (now (table .entry)) rec)
+        (treeIn (now (listing .entry))) (now
         (source .entry)) (now (destination .entry))) merge r ⌝ }
 {
     let next = put_departures(work, table, rec, listing, source, whole, merge);
@@ -435,11 +479,15 @@ fn put_destination_first<'a>(
 ) -> Merge
     requires { ⌜ isTable (now table) rec ≡ true ⌝ }
     requires { ⌜ isListing (now listing) ≡ true ⌝ }
-    requires { ⌜ every (movable (now source) (now destination)) (lower whole (tableIn (now table) rec) (treeIn (now listing)) (now source)) ≡ true ⌝ }
-    requires { ⌜ Fits (now table) (now work) (arrivals whole (tableIn (now table) rec) (treeIn (now listing)) (now source)
+    requires { ⌜ every (movable (now source) (now destination))
+        (lower whole (tableIn (now table) rec) (treeIn (now listing)) (now source)) ≡ true ⌝ }
+    requires { ⌜ Fits (now table) (now work) (arrivals whole (tableIn (now table) rec) (treeIn (now listing))
+        (now source)
         (now destination) ++ departures whole (tableIn (now table) rec) (treeIn (now listing)) (now source)) merge ⌝ }
-    ensures { λ r. ⌜ AllPut (now (table .entry)) (now (work .entry)) (now (work .exit)) (arrivals whole (tableIn (now (table .entry)) rec) (treeIn
-        (now (listing .entry))) (now (source .entry)) (now (destination .entry)) ++ departures whole (tableIn (now (table .entry)) rec) (treeIn (now
+    ensures { λ r. ⌜ AllPut (now (table .entry)) (now (work .entry)) (now (work .exit))
+        (arrivals whole (tableIn (now (table .entry)) rec) (treeIn
+        (now (listing .entry))) (now (source .entry)) (now (destination .entry))
+        ++ departures whole (tableIn (now (table .entry)) rec) (treeIn (now
         (listing .entry))) (now (source .entry))) merge r ⌝ }
 {
     let next = put_arrivals(work, table, rec, listing, source, destination, whole, merge);
@@ -459,14 +507,19 @@ fn put_destination_within<'a>(
 ) -> Merge
     requires { ⌜ isTable (now table) rec ≡ true ⌝ }
     requires { ⌜ isListing (now listing) ≡ true ⌝ }
-    requires { ⌜ every (movable (now source) (now destination)) (lower whole (tableIn (now table) rec) (treeIn (now listing)) (now source)) ≡ true ⌝ }
-    requires { ⌜ Fits (now table) (now work) ((now source, deleted) ∷ (arrivals whole (tableIn (now table) rec) (treeIn (now listing)) (now source)
-        (now destination) ++ turned deletion (lower whole (tableIn (now table) rec) (treeIn (now listing)) (now source)))) merge ⌝ }
-    ensures { λ r. ⌜ AllPut (now (table .entry)) (now (work .entry)) (now (work .exit)) ((now (source .entry), deleted) ∷ (arrivals whole (tableIn
-        (now (table .entry)) rec) (treeIn (now (listing .entry))) (now (source .entry)) (now (destination .entry)) ++ turned deletion (lower whole
+    requires { ⌜ every (movable (now source) (now destination))
+        (lower whole (tableIn (now table) rec) (treeIn (now listing)) (now source)) ≡ true ⌝ }
+    requires { ⌜ Fits (now table) (now work) ((now source, deleted)
+        ∷ (arrivals whole (tableIn (now table) rec) (treeIn (now listing)) (now source)
+        (now destination) ++ turned deletion (lower whole (tableIn (now table) rec) (treeIn (now listing))
+        (now source)))) merge ⌝ }
+    ensures { λ r. ⌜ AllPut (now (table .entry)) (now (work .entry)) (now (work .exit))
+        ((now (source .entry), deleted) ∷ (arrivals whole (tableIn
+        (now (table .entry)) rec) (treeIn (now (listing .entry))) (now (source .entry)) (now (destination .entry))
+        ++ turned deletion (lower whole
         (tableIn (now (table .entry)) rec) (treeIn (now (listing .entry))) (now (source .entry))))) merge r ⌝ }
 {
-    let first = put_source(work, table, source, merge);
+    let first = put_source_deletion(work, table, source, merge);
     let next = put_arrivals(work, table, rec, listing, source, destination, whole, first);
     put_lower_deletions(work, table, rec, listing, source, whole, next)
 }
@@ -484,16 +537,22 @@ fn put_source_within<'a>(
 ) -> Merge
     requires { ⌜ isTable (now table) rec ≡ true ⌝ }
     requires { ⌜ isListing (now listing) ≡ true ⌝ }
-    requires { ⌜ every (movable (now source) (now destination)) (lower whole (tableIn (now table) rec) (treeIn (now listing)) (now source)) ≡ true ⌝ }
-    requires { ⌜ Fits (now table) (now work) ((now destination, top (tableIn (now table) rec) (treeIn (now listing)) (now source)) ∷
-        (departures whole (tableIn (now table) rec) (treeIn (now listing)) (now source) ++ turned (move (now source) (now destination)) (lower whole
+    requires { ⌜ every (movable (now source) (now destination))
+        (lower whole (tableIn (now table) rec) (treeIn (now listing)) (now source)) ≡ true ⌝ }
+    requires { ⌜ Fits (now table) (now work) ((
+      now destination,
+      top (tableIn (now table) rec) (treeIn (now listing)) (now source),
+    ) ∷
+        (departures whole (tableIn (now table) rec) (treeIn (now listing)) (now source)
+        ++ turned (move (now source) (now destination)) (lower whole
         (tableIn (now table) rec) (treeIn (now listing)) (now source)))) merge ⌝ }
     ensures { λ r. ⌜ AllPut (now (table .entry)) (now (work .entry)) (now (work .exit)) ((
       now (destination .entry),
       top (tableIn (now
           (table .entry)) rec) (treeIn (now (listing .entry))) (now (source .entry)),
     ) ∷ (departures whole (tableIn (now (table .entry)) rec) (treeIn
-        (now (listing .entry))) (now (source .entry)) ++ turned (move (now (source .entry)) (now (destination .entry))) (lower whole (tableIn (now
+        (now (listing .entry))) (now (source .entry)) ++ turned (move (now (source .entry)) (now (destination .entry)))
+        (lower whole (tableIn (now
         (table .entry)) rec) (treeIn (now (listing .entry))) (now (source .entry))))) merge r ⌝ }
 {
     let first = put_top(work, table, rec, listing, source, destination, merge);
@@ -514,16 +573,19 @@ fn put_ordered<'a>(
 ) -> Merge
     requires { ⌜ isTable (now table) rec ≡ true ⌝ }
     requires { ⌜ isListing (now listing) ≡ true ⌝ }
-    requires { ⌜ every (movable (now source) (now destination)) (lower whole (tableIn (now table) rec) (treeIn (now listing)) (now source)) ≡ true ⌝ }
-    requires { ⌜ Fits (now table) (now work) (ordered whole (tableIn (now table) rec) (treeIn (now listing)) (now source) (now destination)) merge ⌝ }
-    ensures { λ r. ⌜ AllPut (now (table .entry)) (now (work .entry)) (now (work .exit)) (ordered whole (tableIn (now (table .entry)) rec) (treeIn
+    requires { ⌜ every (movable (now source) (now destination))
+        (lower whole (tableIn (now table) rec) (treeIn (now listing)) (now source)) ≡ true ⌝ }
+    requires { ⌜ Fits (now table) (now work) (ordered whole (tableIn (now table) rec) (treeIn (now listing))
+        (now source) (now destination)) merge ⌝ }
+    ensures { λ r. ⌜ AllPut (now (table .entry)) (now (work .entry)) (now (work .exit))
+        (ordered whole (tableIn (now (table .entry)) rec) (treeIn
         (now (listing .entry))) (now (source .entry)) (now (destination .entry))) merge r ⌝ }
 {
     if base_fields::is_same(source, destination) {
         return put_arrivals(work, table, rec, listing, source, destination, whole, merge);
     }
     if base_fields::is_before(source, destination) {
-        if table_below::is_before_with(destination, source, 47) {
+        if base_paths::is_before_with(destination, source, b'/') {
             return put_destination_within(
                 work,
                 table,
@@ -537,7 +599,7 @@ fn put_ordered<'a>(
         }
         return put_source_first(work, table, rec, listing, source, destination, whole, merge);
     }
-    if table_below::is_before_with(source, destination, 47) {
+    if base_paths::is_before_with(source, destination, b'/') {
         return put_source_within(work, table, rec, listing, source, destination, whole, merge);
     }
     put_destination_first(work, table, rec, listing, source, destination, whole, merge)
@@ -555,13 +617,18 @@ pub fn write_ordered(
 )
     requires { ⌜ isTable (now table) rec ≡ true ⌝ }
     requires { ⌜ isListing (now listing) ≡ true ⌝ }
-    requires { ⌜ every (movable (now source) (now destination)) (lower whole (tableIn (now table) rec) (treeIn (now listing)) (now source)) ≡ true ⌝ }
-    requires { ⌜ ascends [] (ordered whole (tableIn (now table) rec) (treeIn (now listing)) (now source) (now destination)) ≡ true ⌝ }
-    requires { ⌜ length (encode (into (ordered whole (tableIn (now table) rec) (treeIn (now listing)) (now source) (now destination))
+    requires { ⌜ every (movable (now source) (now destination))
+        (lower whole (tableIn (now table) rec) (treeIn (now listing)) (now source)) ≡ true ⌝ }
+    requires { ⌜ ascends [] (ordered whole (tableIn (now table) rec) (treeIn (now listing)) (now source)
+        (now destination)) ≡ true ⌝ }
+    requires { ⌜ length (encode (into (ordered whole (tableIn (now table) rec) (treeIn (now listing)) (now source)
+        (now destination))
         (tableIn (now table) rec))) ≤ length (now table) ⌝ }
     requires { ⌜ length (now table) ≤ length (now work) ⌝ }
-    ensures { λ _. ⌜ now (table .exit) ≡ padded (length (now (table .entry))) (encode (into (ordered whole (tableIn (now (table .entry)) rec)
-        (treeIn (now (listing .entry))) (now (source .entry)) (now (destination .entry))) (tableIn (now (table .entry)) rec))) ⌝ }
+    ensures { λ _. ⌜ now (table .exit) ≡ padded (length (now (table .entry)))
+        (encode (into (ordered whole (tableIn (now (table .entry)) rec)
+        (treeIn (now (listing .entry))) (now (source .entry)) (now (destination .entry)))
+        (tableIn (now (table .entry)) rec))) ⌝ }
     ensures { λ _. ⌜ now (work .exit) ≡ replicate (length (now (work .entry))) 0 ⌝ }
 {
     let merge = Merge {

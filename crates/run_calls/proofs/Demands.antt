@@ -1,5 +1,4 @@
 -- Demand 3 on a script's calls: what the script leaves is what its list of requests leaves, and its mtimes have 64 bits.
--- Assumes nothing.
 use mathlib.Core.Path.{_≡_, refl, ap, ap₂, sym, _∙_, subst, subst⁻¹}
 use mathlib.Core.Bool.{Bool, true, false, cond}
 use mathlib.Core.List.{List, [], _∷_}
@@ -20,13 +19,13 @@ use Rattle.model.proofs.Words.{WordedCall, IsBytes}
 use Rattle.model.proofs.Formed.{bytes-drop, number-below}
 use Rattle.model.proofs.Reached.{WordedCalls}
 use Rattle.model.proofs.Demand3 as demand
-use Rattle.check_parents.specs.Judged.{asCheck, refuses}
-use Rattle.check_parents.proofs.Checked.{refusal-refuses}
+use Rattle.check_judged.specs.Judged.{asCheck, refuses}
+use Rattle.check_judged.proofs.Checked.{refusal-refuses}
 use Rattle.call_answer.specs.Meets.{stored}
 use Rattle.call_values.specs.declared.Kind.{Kind}
 use Rattle.call_values.specs.declared.Kind.the-variants.{Write, Mkdir, Unlink, Rmdir, Rename}
 use Rattle.call_values.specs.Values.{callBy}
-use Rattle.run_script.specs.Script.{Step, firstAt, secondAt, stepEnd, kindOf, kindAt, orderAt, stepAt, stepsFrom, stepCount, stepsIn}
+use Rattle.run_script.specs.Script.{Step, firstPart, secondPart, stepEnd, stepKind, kindAt, orderAt, stepAt, stepsFrom, stepCount, stepsIn}
 use Rattle.run_calls.specs.Runs.{requestOf, requests, leftAfter, Result, ranOn, asNew, ifOpened, ranNew, Gives, Holds}
 use Rattle.run_calls.specs.declared.Ran.{Ran}
 use Rattle.run_calls.specs.declared.RanNew.{RanNew}
@@ -44,9 +43,9 @@ ran-after listing (x ∷ xs) s work p =
 
 module _ (script : Bytes) (b : IsBytes script) where
   worded : (at : ℕ) → WordedCall (stepAt script at .call)
-  worded at = go (kindOf (kindAt script at))
+  worded at = go (stepKind (kindAt script at))
     where
-      go : (k : Kind) → WordedCall (callBy k (orderAt script at) (firstAt script at) (secondAt script at))
+      go : (k : Kind) → WordedCall (callBy k (orderAt script at) (firstPart script at) (secondPart script at))
       go Write = number-below 8 (drop (at + 8) script) (bytes-drop (at + 8) script b)
       go Mkdir = number-below 8 (drop (at + 8) script) (bytes-drop (at + 8) script b)
       go Unlink = tt

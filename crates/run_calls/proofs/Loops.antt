@@ -1,5 +1,4 @@
 -- The loop over a script's steps: what one step leaves, what holds before each, and what holds after the last.
--- Assumes nothing.
 use mathlib.Core.Path.{_≡_, refl, ap, ap₂, sym, _∙_, subst}
 use mathlib.Core.Bool.{true, _&&_}
 use Prim.Native.Nat.{ℕ, zero, suc, _+_, _-_, _*_, _<_, _≤_}
@@ -16,21 +15,21 @@ use Rattle.base_fields.proofs.Writes.{overwritten-none}
 use Rattle.call_answer.specs.Meets.{requested, stored, Meets}
 use Rattle.call_values.specs.declared.Order.{Order}
 use Rattle.call_values.specs.Values.{callOf, rowOf}
-use Rattle.run_script.specs.Script.{firstAt, secondAt, stepEnd, stepAt, orderAt, stepsFrom, stepCount, stepsIn, fits, headed, filled, marked, isScript}
-use Rattle.run_calls.specs.Runs.{requestOf, Left, leftAfter, rowBytes, rows, Finished}
+use Rattle.run_script.specs.Script.{firstPart, secondPart, stepEnd, stepAt, orderAt, stepsFrom, stepCount, stepsIn, fits, headed, filled, marked, isScript}
+use Rattle.run_calls.specs.Runs.{requestOf, RunLeft, leftAfter, rowBytes, rows, Finished}
 use Rattle.run_script.proofs.Steps.{fits-is, marked-long}
 use Rattle.run_calls.proofs.Rows.{row-then}
 
 module _ (listing script : Bytes) (at : ℕ) (s : Store) (work : Bytes) where
   -- the call that is made is the step's
-  pub step-met : {o : Order} {first second : Bytes} → o ≡ orderAt script at → first ≡ firstAt script at → second ≡ secondAt script at
+  pub step-met : {o : Order} {first second : Bytes} → o ≡ orderAt script at → first ≡ firstPart script at → second ≡ secondPart script at
       → {a : Answered} {table′ work′ : Bytes} → Meets (outcome listing (requested (callOf o first second) (o .limit) work) s) a table′ work′
       → Meets (outcome listing (requestOf (stepAt script at) work) s) a table′ work′
   step-met e f g {a} {table′} {work′} m =
       subst (λ (q : Request). Meets (outcome listing q s) a table′ work′) (λ i. requested (callOf (e i) (f i) (g i)) (e i .limit) work) m
 
 -- before a step is made: n steps stand from `at` on, and what they leave is what the script does
-pub record Going (listing script : Bytes) (x : Left) (table₀ work₀ report₀ : Bytes) (n at row : ℕ) (table work report : Bytes) (last : Record) : Type 0 where
+pub record Going (listing script : Bytes) (x : RunLeft) (table₀ work₀ report₀ : Bytes) (n at row : ℕ) (table work report : Bytes) (last : Record) : Type 0 where
   pub stand : filled script n at ≡ true
   pub place : row + 32 * n ≤ length report
   pub small : row + 32 * n < 0x20_0000_0000
@@ -60,7 +59,7 @@ module _ (script : Bytes) (h : isScript script ≡ true) where
     told = rw e;
   }
 
-module _ {listing script : Bytes} {x : Left} {table₀ work₀ report₀ : Bytes} {n at row : ℕ} {table work report : Bytes} {last : Record}
+module _ {listing script : Bytes} {x : RunLeft} {table₀ work₀ report₀ : Bytes} {n at row : ℕ} {table work report : Bytes} {last : Record}
     (k : Going listing script x table₀ work₀ report₀ n at row table work report last) where
   pub over : n ≤ 0 → Finished x report₀ last table work report
   over h = go n h (k .store) (k .buffer) (k .told)
@@ -114,9 +113,9 @@ module _ {listing script : Bytes} {x : Left} {table₀ work₀ report₀ : Bytes
               table-long = a ∙ k .table-long;
               work-long = b ∙ k .work-long;
               report-long = c ∙ k .report-long;
-              store = ap (λ (u : Left). u .store) l ∙ q;
-              buffer = ap (λ (u : Left). u .work) l ∙ r;
-              told = ap₂ (λ (t : Bytes) (u : Left). overwritten t (row + 32) (rows (u .told))) w l
+              store = ap (λ (u : RunLeft). u .store) l ∙ q;
+              buffer = ap (λ (u : RunLeft). u .work) l ∙ r;
+              told = ap₂ (λ (t : Bytes) (u : RunLeft). overwritten t (row + 32) (rows (u .told))) w l
                   ∙ row-then report row (rowOf (o .reply)) (o .store .rec .charge) (rows (leftAfter listing (stepsFrom script m (stepEnd script at)) (o .store) (o .work) .told)) (omega arith)
                   ∙ s;
             }

@@ -1,9 +1,8 @@
 -- From what the code found to the result that the definition gives.
--- Assumes nothing.
-use mathlib.Core.Path.{_≡_, refl, ap, ap₂, sym, _∙_, subst, subst⁻¹}
+use mathlib.Core.Path.{_≡_, refl, ap, ap₂, sym, _∙_, subst⁻¹}
 use mathlib.Core.Bool.{Bool, true, false, not}
 use mathlib.Core.List.{_++_}
-use Prim.Native.Nat.{ℕ, _+_, _*_, _≤_}
+use Prim.Native.Nat.{ℕ, _*_, _≤_}
 use native.Mathlib.Nat.{zero-add}
 use lib.Dec.{leb}
 use lib.ListN.{length, drop}
@@ -14,7 +13,7 @@ use Rattle.model.specs.declared.Record.{Record}
 use Rattle.model.proofs.Orders.{bot, and-true, test, yea, nay}
 use Rattle.call_answer.specs.Meets.{stored}
 use Rattle.run_script.specs.Script.{stepCount, stepsIn, filled, marked, isScript}
-use Rattle.run_calls.specs.Runs.{Left, leftAfter, rows, Result, done, unchanged, ranOn, asNew, Gives, Finished}
+use Rattle.run_calls.specs.Runs.{RunLeft, leftAfter, rows, Result, done, unchanged, ranOn, asNew, Gives, Finished}
 use Rattle.run_calls.specs.declared.Ran.{Ran}
 use Rattle.run_calls.specs.declared.Ran.the-variants as ran
 use Rattle.run_calls.specs.declared.RanNew.the-variants as new
@@ -81,7 +80,7 @@ module _ (listing : Bytes) (s : Store) (work script report : Bytes) where
     | yea e ↦ elim (test enough) [
       | nay f ↦ let x : new.ShortReport ≡ new.Done last = sym (ap (λ (x : Result Ran). asNew (x .answer)) (is-short e f)) ∙ h in absurd (bot (cc))
       | yea f ↦
-          let y : Left = leftAfter listing (stepsIn script) s work in
+          let y : RunLeft = leftAfter listing (stepsIn script) s work in
           let x : new.Done (y .store .rec) ≡ new.Done last = sym (ap (λ (x : Result Ran). asNew (x .answer)) (is-done e f)) ∙ h in
           ap₂ stored (ap (λ (x : Result Ran). x .table) (is-done e f)) (sym (cc))
     ]

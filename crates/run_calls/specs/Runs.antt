@@ -1,5 +1,4 @@
 -- What a script's calls answer and leave, and demand 3 of document 01 on them.
--- Assumes nothing.
 use mathlib.Core.Path.{_≡_}
 use mathlib.Core.Bool.{cond}
 use mathlib.Core.List.{List, [], _∷_, _++_}
@@ -36,17 +35,22 @@ pub record Told : Type 0 where
   pub charge : ℕ
 
 -- the store and the work buffer that a list of steps leaves, and what each of its calls answered
-pub record Left : Type 0 where
+pub record RunLeft : Type 0 where
   pub store : Store
   pub work : Bytes
   pub told : List Told
 
-abbrev pub leftAfter : Bytes → List Step → Store → Bytes → Left
+abbrev pub leftAfter : Bytes → List Step → Store → Bytes → RunLeft
 leftAfter listing [] s work = record { store = s; work = work; told = [] }
 leftAfter listing (x ∷ xs) s work =
     let o = outcome listing (requestOf x work) s in
     let l = leftAfter listing xs (o .store) (o .work) in
-    record { store = l .store; work = l .work; told = record { reply = o .reply; charge = o .store .rec .charge } ∷ l .told }
+    record {
+      store = l .store;
+      work = l .work;
+      told = record { reply = o .reply; charge = o .store .rec .charge }
+          ∷ l .told;
+    }
 
 -- a call's row in the report: number, path, length or value, and the charge, 64 bits each
 unfoldable pub rowBytes : Row → ℕ → Bytes
@@ -64,7 +68,7 @@ pub record Result (A : Type 0) : Type 0 where
   pub report : Bytes
 
 -- a report has the rows, then the bytes that stood there
-abbrev pub done : Left → Bytes → Result Ran
+abbrev pub done : RunLeft → Bytes → Result Ran
 done l report = record {
   answer = ran.Done (l .store .rec);
   table = l .store .table;
@@ -114,7 +118,7 @@ pub record Holds (listing : Bytes) (x : State) (calls : List Request) (s : Store
   pub leaves : after listing calls x .store ≡ s
 
 -- steps that are made: the table with its record, the work buffer, and their rows, from the report's start on
-pub record Finished (x : Left) (report : Bytes) (r : Record) (table′ work′ report′ : Bytes) : Type 0 where
+pub record Finished (x : RunLeft) (report : Bytes) (r : Record) (table′ work′ report′ : Bytes) : Type 0 where
   pub store : stored table′ r ≡ x .store
   pub buffer : work′ ≡ x .work
   pub rows-in : report′ ≡ overwritten report 0 (rows (x .told))

@@ -1,5 +1,5 @@
 // Running a script: its calls one after another, each answer told as a row of the report.
-// Nothing is assumed: all bytes are taken as script, listing, table, work buffer and report, and any record.
+// All bytes are taken as script, listing, table, work buffer and report, and any record.
 // A run costs the check of the script, and what its calls cost.
 ghost use mathlib.Core.Path.{_≡_};
 ghost use mathlib.Core.Bool.{true};
@@ -15,13 +15,12 @@ ghost use Rattle.base_fields.specs.Write.{overwritten};
 ghost use Rattle.call_answer.specs.Meets.{stored, Meets};
 ghost use Rattle.call_values.specs.Values.{rowOf};
 ghost use Rattle.run_script.specs.Script.{stepEnd, stepAt, stepCount, stepsIn, isScript};
-ghost use Rattle.run_calls.specs.Runs.{requestOf, requests, rowBytes, ranOn, ranNew, leftAfter, asNew, Gives, Holds, Finished};
+ghost use Rattle.run_calls.specs.Runs.{requestOf, requests, rowBytes, ranOn, ranNew, leftAfter, asNew, Gives};
+ghost use Rattle.run_calls.specs.Runs.{Holds, Finished};
 use model::Answer;
 use model::Answered;
 use model::Record;
-
-// The bytes of a row of the report.
-const ROW_SIZE: usize = 32;
+use run_script::ROW_SIZE;
 
 // What running a script gives: the record after its last call, or why it is not run.
 pub enum Ran {
@@ -49,7 +48,8 @@ fn put_pair(report: &mut [u8], at: usize, a: u64, b: u64)
 // A call's row, from `at` on: its answer, and the charge after it.
 fn put_row(report: &mut [u8], at: usize, answered: Answered, charge: u64)
     requires { ⌜ at + 32 ≤ length (now report) ⌝ }
-    ensures { λ _. ⌜ now (report .exit) ≡ overwritten (now (report .entry)) at (rowBytes (rowOf (told (answered .answer))) charge) ⌝ }
+    ensures { λ _. ⌜ now (report .exit) ≡ overwritten (now (report .entry)) at
+        (rowBytes (rowOf (told (answered .answer))) charge) ⌝ }
 {
     let answer = answered.answer;
     let row = call_values::told(answer);
@@ -67,16 +67,18 @@ fn run_step(
     at: usize,
 ) -> Answered
     requires { ⌜ (at + 24 ≤ length (now script)) × (stepEnd (now script) at ≤ length (now script)) ⌝ }
-    ensures { λ r. ⌜ Meets (outcome (now (listing .entry)) (requestOf (stepAt (now (script .entry)) at) (now (work .entry)))
+    ensures { λ r. ⌜ Meets (outcome (now (listing .entry)) (requestOf (stepAt (now (script .entry)) at)
+        (now (work .entry)))
         (stored (now (table .entry)) rec)) r (now (table .exit)) (now (work .exit)) ⌝ }
 {
     let order = run_script::order_at(script, at);
-    let first = run_script::first_at(script, at);
-    let second = run_script::second_at(script, at);
+    let first = run_script::first_part(script, at);
+    let second = run_script::second_part(script, at);
     call_order::make(listing, table, rec, work, first, second, order)
 }
 
-// Makes the calls of a script, one after another, each with the table, the record and the work buffer that the one before it left.
+// Makes the calls of a script, one after another, each with the table, the record and the work buffer that the one
+// before it left.
 fn run_steps(
     listing: &[u8],
     table: &mut [u8],
@@ -87,7 +89,8 @@ fn run_steps(
 ) -> Record
     requires { ⌜ isScript (now script) ≡ true ⌝ }
     requires { ⌜ 32 * stepCount (now script) ≤ length (now report) ⌝ }
-    ensures { λ r. ⌜ Finished (leftAfter (now (listing .entry)) (stepsIn (now (script .entry))) (stored (now (table .entry)) rec) (now (work .entry)))
+    ensures { λ r. ⌜ Finished (leftAfter (now (listing .entry)) (stepsIn (now (script .entry)))
+        (stored (now (table .entry)) rec) (now (work .entry)))
         (now (report .entry)) r (now (table .exit)) (now (work .exit)) (now (report .exit)) ⌝ }
 {
     let mut last = rec;
@@ -105,8 +108,8 @@ fn run_steps(
     last
 }
 
-// Runs the script on a table with its record: the calls in their order, and for each a row in the report. A malformed script, or a report without a
-// row for each call, changes nothing.
+// Runs the script on a table with its record: the calls in their order, and for each a row in the report. A malformed
+// script, or a report without a row for each call, changes nothing.
 pub fn run(
     listing: &[u8],
     table: &mut [u8],
@@ -115,7 +118,8 @@ pub fn run(
     script: &[u8],
     report: &mut [u8],
 ) -> Ran
-    ensures { λ r. ⌜ Gives (ranOn (now (listing .entry)) (stored (now (table .entry)) rec) (now (work .entry)) (now (script .entry))
+    ensures { λ r. ⌜ Gives (ranOn (now (listing .entry)) (stored (now (table .entry)) rec) (now (work .entry))
+        (now (script .entry))
         (now (report .entry))) r (now (table .exit)) (now (work .exit)) (now (report .exit)) ⌝ }
 {
     if !run_script::check(script) {
@@ -144,8 +148,9 @@ fn as_new(ran: Ran) -> RanNew
     }
 }
 
-// Opens the buffer as an empty table for entries of this size, and runs the script on it. Where it is done, demand 3 of document 01 holds of its calls.
-// A refused opening changes nothing; a malformed script or a short report leaves the table opened, and empty.
+// Opens the buffer as an empty table for entries of this size, and runs the script on it. Where it is done, demand 3 of
+// document 01 holds of its calls. A refused opening changes nothing; a malformed script or a short report leaves the
+// table opened, and empty.
 pub fn run_new(
     listing: &[u8],
     entry_size: u64,
@@ -154,11 +159,13 @@ pub fn run_new(
     script: &[u8],
     report: &mut [u8],
 ) -> RanNew
-    ensures { λ r. ⌜ Gives (ranNew (now (listing .entry)) «entry_size» (now (table .entry)) (now (work .entry)) (now (script .entry))
+    ensures { λ r. ⌜ Gives (ranNew (now (listing .entry)) «entry_size» (now (table .entry)) (now (work .entry))
+        (now (script .entry))
         (now (report .entry))) r (now (table .exit)) (now (work .exit)) (now (report .exit)) ⌝ }
     ensures { λ r. ⌜ ((last : model.Record) → r ≡ RanNew.Done last
         → Holds (now (listing .entry)) (begin (now (listing .entry)) «entry_size» (now (table .entry)))
-        (requests (now (listing .entry)) (stepsIn (now (script .entry))) (begin (now (listing .entry)) «entry_size» (now (table .entry)) .store)
+        (requests (now (listing .entry)) (stepsIn (now (script .entry)))
+        (begin (now (listing .entry)) «entry_size» (now (table .entry)) .store)
         (now (work .entry))) (stored (now (table .exit)) last)) ⌝ }
 {
     let opened = table_open::open(table, entry_size);

@@ -15,9 +15,9 @@ use Rattle.model.proofs.Words.{IsBytes}
 use Rattle.model.proofs.Orders.{bot, yea, nay, test, and-true, eqb-eq}
 use Rattle.base_fields.proofs.Pieces.{cut, part-length, piece, grouped}
 use Rattle.call_values.specs.Values.{callOf}
-use Rattle.run_script.specs.Script.{kindAt, flagsAt, firstLength, secondLength, mtimeAt, limitAt, firstAt, secondAt, stepEnd, stepAt}
+use Rattle.run_script.specs.Script.{kindAt, flagsAt, firstLength, secondLength, mtimeAt, limitAt, firstPart, secondPart, stepEnd, stepAt}
 use Rattle.run_script.specs.Script.{stepsFrom, ruled, fits, headed, filled}
-use Rattle.run_script.specs.Encoded.{Fields, fieldsOf, laid, stepBytes, stepsBytes}
+use Rattle.run_script.specs.Encoded.{StepFields, fieldsOf, laid, stepBytes, stepsBytes}
 use Rattle.run_script.proofs.Steps.{fits-is}
 use Rattle.run_script.proofs.Forth.{orderOf}
 
@@ -61,7 +61,7 @@ flags-back (suc (suc (suc (suc f)))) h = absurd (omega arith)
 
 -- where the numbers in some fields go together, the call that is read from them has these fields
 fields-back : (k f t limit : ℕ) (a b : Bytes) → Rules k f (length b) t
-    → let x : Fields = record { kind = k; flags = f; mtime = t; first = a; second = b } in fieldsOf (callOf (orderOf x limit) a b) ≡ x
+    → let x : StepFields = record { kind = k; flags = f; mtime = t; first = a; second = b } in fieldsOf (callOf (orderOf x limit) a b) ≡ x
 fields-back zero f t limit a b r = let z = r .some in absurd (omega arith)
 fields-back (suc zero) f t limit a b r =
     let e = nought f (r .flags) in
@@ -88,12 +88,12 @@ fields-back (suc (suc (suc (suc (suc (suc k)))))) f t limit a b r = let z = r .k
 
 module _ (s : Bytes) (bs : IsBytes s) (at : ℕ) (h : fits s at ≡ true) where
   -- what stands in the step's fields
-  abbrev fieldsAt : Fields
-  fieldsAt = record { kind = kindAt s at; flags = flagsAt s at; mtime = mtimeAt s at; first = firstAt s at; second = secondAt s at }
+  abbrev fieldsAt : StepFields
+  fieldsAt = record { kind = kindAt s at; flags = flagsAt s at; mtime = mtimeAt s at; first = firstPart s at; second = secondPart s at }
 
   numbers-stand : drop at s
       ≡ kindAt s at ∷ flagsAt s at ∷ (bytes 2 (firstLength s at) ++ (bytes 4 (secondLength s at) ++ (bytes 8 (mtimeAt s at) ++ (bytes 8 (limitAt s at)
-      ++ (firstAt s at ++ (secondAt s at ++ drop (stepEnd s at) s))))))
+      ++ (firstPart s at ++ (secondPart s at ++ drop (stepEnd s at) s))))))
   numbers-stand =
       let g = fits-is s at h .0 in
       let e : suc at ≡ at + 1 = omega arith in
@@ -105,12 +105,12 @@ module _ (s : Bytes) (bs : IsBytes s) (at : ℕ) (h : fits s at ≡ true) where
       ∙ ap (λ (l : Bytes). bytes 4 (secondLength s at) ++ l) (piece s bs (at + 8) 8 (at + 16) (omega arith) (omega arith)
       ∙ ap (λ (l : Bytes). bytes 8 (mtimeAt s at) ++ l) (piece s bs (at + 16) 8 (at + 24) (omega arith) (omega arith)
       ∙ ap (λ (l : Bytes). bytes 8 (limitAt s at) ++ l) (cut s (at + 24) (firstLength s at) (at + 24 + firstLength s at) refl
-      ∙ ap (λ (l : Bytes). firstAt s at ++ l) (cut s (at + 24 + firstLength s at) (secondLength s at) (stepEnd s at) refl)))))))
+      ∙ ap (λ (l : Bytes). firstPart s at ++ l) (cut s (at + 24 + firstLength s at) (secondLength s at) (stepEnd s at) refl)))))))
 
-  first-length : firstLength s at ≡ length (firstAt s at)
+  first-length : firstLength s at ≡ length (firstPart s at)
   first-length = let e = fits-is s at h .1 in sym (part-length s (at + 24) (firstLength s at) (omega arith))
 
-  second-length : secondLength s at ≡ length (secondAt s at)
+  second-length : secondLength s at ≡ length (secondPart s at)
   second-length = sym (part-length s (at + 24 + firstLength s at) (secondLength s at) (fits-is s at h .1))
 
   laid-here : drop at s ≡ laid fieldsAt (limitAt s at) ++ drop (stepEnd s at) s
@@ -118,17 +118,17 @@ module _ (s : Bytes) (bs : IsBytes s) (at : ℕ) (h : fits s at ≡ true) where
   laid-here =
       numbers-stand
       ∙ grouped (kindAt s at ∷ flagsAt s at ∷ []) (bytes 2 (firstLength s at)) (bytes 4 (secondLength s at)) (bytes 8 (mtimeAt s at))
-      (bytes 8 (limitAt s at)) (firstAt s at) (secondAt s at) (drop (stepEnd s at) s)
+      (bytes 8 (limitAt s at)) (firstPart s at) (secondPart s at) (drop (stepEnd s at) s)
       ∙ (let n = first-length in let m = second-length in
       λ i. (kindAt s at ∷ flagsAt s at ∷ (bytes 2 (n i) ++ (bytes 4 (m i) ++ (bytes 8 (mtimeAt s at) ++ (bytes 8 (limitAt s at)
-      ++ (firstAt s at ++ secondAt s at)))))) ++ drop (stepEnd s at) s)
+      ++ (firstPart s at ++ secondPart s at)))))) ++ drop (stepEnd s at) s)
 
   step-back : headed s at ≡ true → drop at s ≡ stepBytes (stepAt s at) ++ drop (stepEnd s at) s
   unfolding headed
   step-back g =
-      let r : Rules (kindAt s at) (flagsAt s at) (length (secondAt s at)) (mtimeAt s at)
-      = rules (kindAt s at) (flagsAt s at) (length (secondAt s at)) (mtimeAt s at) (rw (← second-length) g) in
-      let e = fields-back (kindAt s at) (flagsAt s at) (mtimeAt s at) (limitAt s at) (firstAt s at) (secondAt s at) r in
+      let r : Rules (kindAt s at) (flagsAt s at) (length (secondPart s at)) (mtimeAt s at)
+      = rules (kindAt s at) (flagsAt s at) (length (secondPart s at)) (mtimeAt s at) (rw (← second-length) g) in
+      let e = fields-back (kindAt s at) (flagsAt s at) (mtimeAt s at) (limitAt s at) (firstPart s at) (secondPart s at) r in
       laid-here ∙ (λ i. laid (sym e i) (limitAt s at) ++ drop (stepEnd s at) s)
 
 -- n steps from `at` on, up to the end

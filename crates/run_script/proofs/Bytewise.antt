@@ -1,15 +1,14 @@
 -- A script is made of bytes where the paths and the data of its calls are: so it can be lent.
--- Assumes nothing.
 use mathlib.Core.Bool.{true, false}
 use mathlib.Core.List.{List, [], _∷_, _++_}
-use Prim.Native.Nat.{ℕ, zero, suc, _+_, _/_, _<_}
+use Prim.Native.Nat.{ℕ, zero, suc, _/_, _<_}
 use native.Mathlib.Omega.{arith}
 use lib.ListN.{length}
 use Rattle.model.specs.Bytes.{Bytes, bytes}
 use Rattle.model.specs.Calls.{Call, write, mkdir, unlink, rmdir, rename}
 use Rattle.model.proofs.Words.{IsBytes}
 use Rattle.run_script.specs.Script.{Step}
-use Rattle.run_script.specs.Encoded.{Fields, fieldsOf, laid, stepBytes, stepsBytes, scriptOf}
+use Rattle.run_script.specs.Encoded.{StepFields, fieldsOf, laid, stepBytes, stepsBytes, scriptOf}
 
 bytes-append : (s t : Bytes) → IsBytes s → IsBytes t → IsBytes (s ++ t)
 bytes-append [] t a b = b
@@ -30,7 +29,7 @@ small (unlink p) = (omega arith, omega arith)
 small (rmdir p) = (omega arith, omega arith)
 small (rename a b) = (omega arith, omega arith)
 
-laid-bytes : (f : Fields) (limit : ℕ) → f .kind < 256 → f .flags < 256 → IsBytes (f .first) → IsBytes (f .second) → IsBytes (laid f limit)
+laid-bytes : (f : StepFields) (limit : ℕ) → f .kind < 256 → f .flags < 256 → IsBytes (f .first) → IsBytes (f .second) → IsBytes (laid f limit)
 unfolding laid
 laid-bytes f limit k g a b =
     let parts : Bytes = f .first ++ f .second in

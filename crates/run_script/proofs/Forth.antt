@@ -1,5 +1,4 @@
 -- Steps that are written and read again: they are the same, and they stand as a script's steps do.
--- Assumes nothing.
 use mathlib.Core.Path.{_≡_, refl, ap, ap₂, sym, _∙_}
 use mathlib.Core.Bool.{true, false, _&&_, or-true}
 use mathlib.Core.List.{List, [], _∷_, _++_, append-assoc, append-nil}
@@ -15,14 +14,14 @@ use Rattle.model.proofs.Orders.{and-true, eqb-true}
 use Rattle.model.proofs.Codec.{number-bytes}
 use Rattle.call_values.specs.declared.Order.{Order}
 use Rattle.call_values.specs.Values.{callOf}
-use Rattle.run_script.specs.Script.{Step, kindAt, flagsAt, firstLength, secondLength, mtimeAt, limitAt, firstAt, secondAt, stepEnd, kindOf, stepAt}
+use Rattle.run_script.specs.Script.{Step, kindAt, flagsAt, firstLength, secondLength, mtimeAt, limitAt, firstPart, secondPart, stepEnd, stepKind, stepAt}
 use Rattle.run_script.specs.Script.{stepsFrom, ruled, fits, headed, filled}
-use Rattle.run_script.specs.Encoded.{Fields, fieldsOf, laid, stepsBytes, fittingIn, fitting}
+use Rattle.run_script.specs.Encoded.{StepFields, fieldsOf, laid, stepsBytes, fittingIn, fitting}
 
 -- the order that is read from fields
-abbrev pub orderOf : Fields → ℕ → Order
+abbrev pub orderOf : StepFields → ℕ → Order
 orderOf f limit = record {
-  kind = kindOf (f .kind);
+  kind = stepKind (f .kind);
   parents = eqb (f .flags % 2) 1;
   «exist_ok» = eqb (f .flags / 2) 1;
   mtime = f .mtime;
@@ -51,18 +50,18 @@ rules-kept (unlink p) = refl
 rules-kept (rmdir p) = refl
 rules-kept (rename a b) = rw (or-true (eqb (length b) 0))
 
-laid-length : (f : Fields) (limit : ℕ) → length (laid f limit) ≡ 24 + length (f .first) + length (f .second)
+laid-length : (f : StepFields) (limit : ℕ) → length (laid f limit) ≡ 24 + length (f .first) + length (f .second)
 unfolding laid
 laid-length f limit = let l = length-append (f .first) (f .second) in omega arith
 
 -- a step's numbers fit their fields
-record Fit (f : Fields) (limit : ℕ) : Type 0 where
+record Fit (f : StepFields) (limit : ℕ) : Type 0 where
   first : length (f .first) < 0x1_0000
   second : length (f .second) < 0x1_0000_0000
   mtime : f .mtime < 0x1_0000_0000_0000_0000
   bound : limit < 0x1_0000_0000_0000_0000
 
-fit : (f : Fields) (limit : ℕ) → fittingIn f limit ≡ true → Fit f limit
+fit : (f : StepFields) (limit : ℕ) → fittingIn f limit ≡ true → Fit f limit
 unfolding fittingIn
 fit f limit h =
     let a = ltb (length (f .first)) 0x1_0000 in
@@ -80,7 +79,7 @@ fit f limit h =
     }
 
 -- a step that stands behind p, with q behind it, is read as it is
-module _ (p : Bytes) (f : Fields) (limit : ℕ) (q : Bytes) (h : Fit f limit) where
+module _ (p : Bytes) (f : StepFields) (limit : ℕ) (q : Bytes) (h : Fit f limit) where
   abbrev whole : Bytes
   whole = p ++ (laid f limit ++ q)
 
@@ -115,7 +114,7 @@ module _ (p : Bytes) (f : Fields) (limit : ℕ) (q : Bytes) (h : Fit f limit) wh
   unfolding laid
   behind = from 24 ∙ append-assoc (f .first) (f .second) q
 
-  read-first : firstAt whole (length p) ≡ f .first
+  read-first : firstPart whole (length p) ≡ f .first
   read-first = ap₂ take read-first-length behind ∙ take-append-seam (f .first) (f .second ++ q)
 
   behind-first : drop (length p + 24 + length (f .first)) whole ≡ f .second ++ q
@@ -124,7 +123,7 @@ module _ (p : Bytes) (f : Fields) (limit : ℕ) (q : Bytes) (h : Fit f limit) wh
       ∙ ap (drop (length (f .first))) behind
       ∙ drop-append-seam (f .first) (f .second ++ q)
 
-  read-second : secondAt whole (length p) ≡ f .second
+  read-second : secondPart whole (length p) ≡ f .second
   read-second =
       ap₂ take read-second-length (ap (λ (n : ℕ). drop (length p + 24 + n) whole) read-first-length ∙ behind-first)
       ∙ take-append-seam (f .second) q
@@ -171,7 +170,7 @@ pub read-steps : (xs : List Step) (p : Bytes) → every fitting xs ≡ true → 
 read-steps [] p h = record { stand = rw append-nil (eqb-true (length p)); steps = refl }
 read-steps (x ∷ xs) p h =
     let g = and-true (fitting x) (every fitting xs) h in
-    let f : Fields = fieldsOf (x .call) in
+    let f : StepFields = fieldsOf (x .call) in
     let l : ℕ = x .limit in
     let q : Bytes = stepsBytes xs in
     let b = fit f l (g .0) in

@@ -1,5 +1,4 @@
 -- The rules of a script's head and of one step, by the tests that the code makes: one law for each exit.
--- Assumes nothing.
 use mathlib.Core.Path.{_≡_, sym, _∙_}
 use mathlib.Core.Bool.{Bool, true, false, not, _&&_}
 use mathlib.Core.List.{[], _∷_}

@@ -1,5 +1,4 @@
 -- One turn of the check: what holds before a step is read, what each refusal gives, and what holds after it.
--- Assumes nothing.
 use mathlib.Core.Path.{_≡_, sym, _∙_}
 use mathlib.Core.Bool.{Bool, true, false, not, _&&_}
 use Prim.Native.Nat.{ℕ, zero, suc, _+_, _-_, _<_, _≤_}

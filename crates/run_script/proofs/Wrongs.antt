@@ -1,5 +1,4 @@
 -- Where bytes go wrong, by the turns of the check: one law for each exit, and that a script goes wrong nowhere.
--- Assumes nothing.
 use mathlib.Core.Path.{_≡_, sym, _∙_}
 use mathlib.Core.Bool.{Bool, true, false, not, cond, _&&_}
 use Prim.Native.Nat.{ℕ, zero, suc, _-_, _<_, _≤_}

@@ -1,6 +1,5 @@
--- The script that a list of calls, each with its limit, is written as; `stepsIn` of Script.antt reads the list again. And which steps can be written:
--- those whose numbers fit their fields.
--- Assumes nothing.
+-- The script that a list of calls, each with its limit, is written as; `stepsIn` of Script.antt reads the list again.
+-- And which steps can be written: those whose numbers fit their fields.
 use mathlib.Core.Bool.{Bool, cond, _&&_}
 use mathlib.Core.List.{List, [], _∷_, _++_}
 use Prim.Native.Nat.{ℕ, _+_}
@@ -11,7 +10,7 @@ use Rattle.model.specs.Calls.{Call, write, mkdir, unlink, rmdir, rename}
 use Rattle.run_script.specs.Script.{Step}
 
 -- what a call puts into its step; the limit stands beside it
-pub record Fields : Type 0 where
+pub record StepFields : Type 0 where
   pub kind : ℕ
   pub flags : ℕ
   pub mtime : ℕ
@@ -19,7 +18,7 @@ pub record Fields : Type 0 where
   pub second : Bytes
 
 -- 0, or empty, where the call has none
-abbrev pub fieldsOf : Call → Fields
+abbrev pub fieldsOf : Call → StepFields
 fieldsOf (write p m d) = record { kind = 1; flags = 0; mtime = m; first = p; second = d }
 fieldsOf (mkdir p up ok m) = record { kind = 2; flags = cond up 1 0 + cond ok 2 0; mtime = m; first = p; second = [] }
 fieldsOf (unlink p) = record { kind = 3; flags = 0; mtime = 0; first = p; second = [] }
@@ -27,7 +26,7 @@ fieldsOf (rmdir p) = record { kind = 4; flags = 0; mtime = 0; first = p; second 
 fieldsOf (rename a b) = record { kind = 5; flags = 0; mtime = 0; first = a; second = b }
 
 -- kind, flags, length of the first part, length of the second part, mtime bits, limit, then the two parts
-unfoldable pub laid : Fields → ℕ → Bytes
+unfoldable pub laid : StepFields → ℕ → Bytes
 laid f limit =
     f .kind
     ∷ f .flags
@@ -51,7 +50,7 @@ abbrev pub scriptOf : List Step → Bytes
 scriptOf xs = 84 ∷ 83 ∷ 67 ∷ 49 ∷ (bytes 4 (length xs) ++ stepsBytes xs)
 
 -- the first part's length fits 16 bits, the second part's 32, mtime bits and limit 64
-unfoldable pub fittingIn : Fields → ℕ → Bool
+unfoldable pub fittingIn : StepFields → ℕ → Bool
 fittingIn f limit =
     (ltb (length (f .first)) 0x1_0000 && ltb (length (f .second)) 0x1_0000_0000)
     && (ltb (f .mtime) 0x1_0000_0000_0000_0000 && ltb limit 0x1_0000_0000_0000_0000)

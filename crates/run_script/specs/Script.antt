@@ -1,5 +1,5 @@
--- A script: a list of changing calls, each with its limit, as bytes. Which bytes are one, and the calls that stand in it.
--- Assumes nothing.
+-- A script: a list of changing calls, each with its limit, as bytes. Which bytes are one, and the calls that stand in
+-- it.
 use mathlib.Core.Bool.{Bool, cond, _&&_, _||_}
 use mathlib.Core.List.{List, [], _∷_}
 use Prim.Native.Nat.{ℕ, zero, suc, _+_, _/_, _%_}
@@ -17,8 +17,8 @@ pub record Step : Type 0 where
   pub call : Call
   pub limit : ℕ
 
--- A step: kind (8 bits), flags (8 bits), length of the first part (16 bits), length of the second part (32 bits), mtime bits (64), limit (64), then the
--- two parts.
+-- A step: kind (8 bits), flags (8 bits), length of the first part (16 bits), length of the second part (32 bits), mtime
+-- bits (64), limit (64), then the two parts.
 abbrev pub kindAt : Bytes → ℕ → ℕ
 kindAt s at = getD s at 0
 
@@ -38,23 +38,23 @@ abbrev pub limitAt : Bytes → ℕ → ℕ
 limitAt s at = numberAt s (at + 16) 8
 
 -- the path, a rename's source; a write's data, a rename's destination
-abbrev pub firstAt : Bytes → ℕ → Bytes
-firstAt s at = take (firstLength s at) (drop (at + 24) s)
+abbrev pub firstPart : Bytes → ℕ → Bytes
+firstPart s at = take (firstLength s at) (drop (at + 24) s)
 
-abbrev pub secondAt : Bytes → ℕ → Bytes
-secondAt s at = take (secondLength s at) (drop (at + 24 + firstLength s at) s)
+abbrev pub secondPart : Bytes → ℕ → Bytes
+secondPart s at = take (secondLength s at) (drop (at + 24 + firstLength s at) s)
 
 abbrev pub stepEnd : Bytes → ℕ → ℕ
 stepEnd s at = at + 24 + firstLength s at + secondLength s at
 
 -- 1 write, 2 mkdir, 3 unlink, 4 rmdir, 5 rename
-abbrev pub kindOf : ℕ → Kind
-kindOf k = cond (eqb k 1) Write (cond (eqb k 2) Mkdir (cond (eqb k 3) Unlink (cond (eqb k 4) Rmdir Rename)))
+abbrev pub stepKind : ℕ → Kind
+stepKind k = cond (eqb k 1) Write (cond (eqb k 2) Mkdir (cond (eqb k 3) Unlink (cond (eqb k 4) Rmdir Rename)))
 
 -- bit 0 of the flags is parents, bit 1 exist_ok
 abbrev pub orderAt : Bytes → ℕ → Order
 orderAt s at = record {
-  kind = kindOf (kindAt s at);
+  kind = stepKind (kindAt s at);
   parents = eqb (flagsAt s at % 2) 1;
   «exist_ok» = eqb (flagsAt s at / 2) 1;
   mtime = mtimeAt s at;
@@ -62,7 +62,7 @@ orderAt s at = record {
 }
 
 abbrev pub stepAt : Bytes → ℕ → Step
-stepAt s at = record { call = callOf (orderAt s at) (firstAt s at) (secondAt s at); limit = limitAt s at }
+stepAt s at = record { call = callOf (orderAt s at) (firstPart s at) (secondPart s at); limit = limitAt s at }
 
 -- the n steps from `at` on
 abbrev pub stepsFrom : Bytes → ℕ → ℕ → List Step
@@ -76,7 +76,8 @@ stepCount s = numberAt s 4 4
 abbrev pub stepsIn : Bytes → List Step
 stepsIn s = stepsFrom s (stepCount s) 8
 
--- a kind k from 1 to 5; flags f only in mkdir; a second part, of m bytes, only in write and rename; mtime bits t only in write and mkdir
+-- a kind k from 1 to 5; flags f only in mkdir; a second part, of m bytes, only in write and rename; mtime bits t only
+-- in write and mkdir
 unfoldable pub ruled : ℕ → ℕ → ℕ → ℕ → Bool
 ruled k f m t =
     (ltb 0 k && ltb k 6)

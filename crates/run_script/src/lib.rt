@@ -1,13 +1,13 @@
-// Scripts: lists of changing calls as bytes, which of them are well-formed, and what stands in a step.
-// The check takes any bytes; what reads a step asks that its head stands there, or the whole step: only this repository's crates call it.
-// A check is one pass over the script's steps.
+// Scripts: lists of changing calls as bytes, which of them are well-formed, and what stands in a step. The check takes
+// any bytes; what reads a step asks that its head stands there, or the whole step: only this repository's crates call
+// it. A check is one pass over the script's steps.
 ghost use mathlib.Core.Path.{_≡_};
 ghost use mathlib.Core.Bool.{true, _&&_};
 ghost use Prim.Native.Nat.{_+_, _*_, _≤_, _<_};
 ghost use lib.Dec.{leb};
 ghost use lib.ListN.{length};
-ghost use Rattle.run_script.specs.Script.{ruled, fits, headed, marked, firstAt, secondAt, stepEnd, orderAt, stepCount, isScript, kindOf};
-ghost use Rattle.run_script.specs.Script.{wrongFrom};
+ghost use Rattle.run_script.specs.Script.{ruled, fits, headed, marked, firstPart, secondPart, stepEnd, orderAt};
+ghost use Rattle.run_script.specs.Script.{stepCount, isScript, wrongFrom, stepKind};
 use call_values::Kind;
 use call_values::Order;
 
@@ -15,6 +15,24 @@ use call_values::Order;
 pub const SCRIPT_HEAD: usize = 8;
 
 const STEP_HEAD: usize = 24;
+
+// The bytes of a report's row, which a run writes for each step.
+pub const ROW_SIZE: usize = 32;
+
+const ROW_BYTES: u64 = ROW_SIZE as u64;
+
+// The kinds of steps, and the number behind the last.
+const WRITE: u64 = 1;
+
+const MKDIR: u64 = 2;
+
+const UNLINK: u64 = 3;
+
+const RMDIR: u64 = 4;
+
+const RENAME: u64 = 5;
+
+const KIND_END: u64 = 6;
 
 fn wide(b: u8) -> u64
     ensures { λ r. ⌜ (r ≡ b) × (r < 256) ⌝ }
@@ -26,10 +44,10 @@ fn wide(b: u8) -> u64
 fn is_ruled(kind: u64, flags: u64, second: u64, mtime: u64) -> bool
     ensures { λ r. ⌜ r ≡ ruled kind flags second mtime ⌝ }
 {
-    ((0 < kind) & (kind < 6))
-        & (((flags == 0) | ((kind == 2) & (flags < 4)))
-            & (((second == 0) | ((kind == 1) | (kind == 5)))
-                & ((mtime == 0) | ((kind == 1) | (kind == 2)))))
+    ((0 < kind) & (kind < KIND_END))
+        & (((flags == 0) | ((kind == MKDIR) & (flags < 4)))
+            & (((second == 0) | ((kind == WRITE) | (kind == RENAME)))
+                & ((mtime == 0) | ((kind == WRITE) | (kind == MKDIR)))))
 }
 
 // Whether the bytes begin with a mark and a count.
@@ -87,7 +105,8 @@ fn is_step(script: &[u8], at: usize) -> bool
     is_headed(script, at)
 }
 
-// Whether the bytes are a script. What does not stand there ends the pass, so the time is linear in the bytes, whatever is counted.
+// Whether the bytes are a script. What does not stand there ends the pass, so the time is linear in the bytes, whatever
+// is counted.
 pub fn check(script: &[u8]) -> bool
     ensures { λ r. ⌜ r ≡ isScript (now (script .entry)) ⌝ }
 {
@@ -129,18 +148,18 @@ pub fn wrong_from(script: &[u8]) -> usize
 }
 
 fn kind_of(kind: u64) -> Kind
-    ensures { λ r. ⌜ r ≡ kindOf kind ⌝ }
+    ensures { λ r. ⌜ r ≡ stepKind kind ⌝ }
 {
-    if kind == 1 {
+    if kind == WRITE {
         return Kind::Write;
     }
-    if kind == 2 {
+    if kind == MKDIR {
         return Kind::Mkdir;
     }
-    if kind == 3 {
+    if kind == UNLINK {
         return Kind::Unlink;
     }
-    if kind == 4 {
+    if kind == RMDIR {
         return Kind::Rmdir;
     }
     Kind::Rename
@@ -165,18 +184,18 @@ pub fn order_at(script: &[u8], at: usize) -> Order
 }
 
 // The step's first part; then its second.
-pub fn first_at(script: &[u8], at: usize) -> &[u8]
+pub fn first_part(script: &[u8], at: usize) -> &[u8]
     requires { ⌜ (at + 24 ≤ length (now script)) × (stepEnd (now script) at ≤ length (now script)) ⌝ }
-    ensures { λ r. ⌜ now r ≡ firstAt (now (script .entry)) at ⌝ }
+    ensures { λ r. ⌜ now r ≡ firstPart (now (script .entry)) at ⌝ }
 {
     let from = at + STEP_HEAD;
     let to = from + base_fields::le16(script, at + 2) as usize;
     &script[from..to]
 }
 
-pub fn second_at(script: &[u8], at: usize) -> &[u8]
+pub fn second_part(script: &[u8], at: usize) -> &[u8]
     requires { ⌜ (at + 24 ≤ length (now script)) × (stepEnd (now script) at ≤ length (now script)) ⌝ }
-    ensures { λ r. ⌜ now r ≡ secondAt (now (script .entry)) at ⌝ }
+    ensures { λ r. ⌜ now r ≡ secondPart (now (script .entry)) at ⌝ }
 {
     let from = at + STEP_HEAD + base_fields::le16(script, at + 2) as usize;
     let to = end_of(script, at);
@@ -189,5 +208,5 @@ pub fn has_rows(script: &[u8], len: usize) -> bool
     ensures { λ r. ⌜ r ≡ leb (32 * stepCount (now (script .entry))) len ⌝ }
 {
     let count = base_fields::le32(script, 4);
-    32 * count <= len as u64
+    ROW_BYTES * count <= len as u64
 }

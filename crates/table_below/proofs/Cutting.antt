@@ -1,5 +1,4 @@
 -- The entries below a directory are those from its path with a slash up to its path with '0', and their bytes have them alone.
--- Assumes nothing.
 use mathlib.Core.Path.{_≡_, refl, ap, sym, _∙_}
 use mathlib.Core.Bool.{true, false}
 use mathlib.Core.List.{[], _∷_, _++_, append-assoc, append-nil}

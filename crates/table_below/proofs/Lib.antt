@@ -1,4 +1,3 @@
-pub mod Befores
 pub mod Children
 pub mod Cutting
 pub mod Sums

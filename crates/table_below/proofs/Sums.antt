@@ -1,5 +1,4 @@
 -- The plan's sum over the entries of a part, key by key.
--- Assumes nothing.
 use mathlib.Core.Path.{_≡_, ap, sym, _∙_}
 use mathlib.Core.Bool.{true}
 use mathlib.Core.List.{[], _∷_}

@@ -1,5 +1,4 @@
 -- The entries below a directory, as one part in the middle of a table.
--- Assumes nothing.
 use mathlib.Core.Path.{_≡_}
 use mathlib.Core.Bool.{Bool, true, false, not, _&&_}
 use Prim.Native.Nat.{ℕ, _≤_}
@@ -12,7 +11,8 @@ use Rattle.model.specs.Table.{entriesAt}
 use Rattle.base_fields.specs.Read.{part}
 use Rattle.table_entries.specs.Place.{Standing}
 
--- n entries in the bytes s from `from` up to `to` are those of the table t below d; the part has them by itself, and the whole has them there
+-- n entries in the bytes s from `from` up to `to` are those of the table t below d; the part has them by itself, and
+-- the whole has them there
 pub record PartOf (s : Bytes) (t : Table) (d : Path) (from to n : ℕ) : Type 0 where
   pub start : from ≤ to
   pub end : to ≤ length s

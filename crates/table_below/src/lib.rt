@@ -1,12 +1,13 @@
-// The entries below a directory as one part in the middle of a table (`prefix_iter` of overlay_state.rs), and what is asked of such a part.
-// Assumes a table that agrees with its record, and parts that `below` gave: only this repository's crates call, after a check.
-// `below` reads the heads and keys up to the part's end, the others those of the part.
+// The entries below a directory as one part in the middle of a table (`prefix_iter` of overlay_state.rs), and what is
+// asked of such a part. Assumes a table that agrees with its record, and parts that `below` gave: only this
+// repository's crates call, after a check. `below` reads the heads and keys up to the part's end, the others those of
+// the part.
 ghost use mathlib.Core.Path.{_≡_};
 ghost use mathlib.Core.Bool.{true, not, _&&_};
 ghost use mathlib.Core.List.{[], _∷_, _++_};
 ghost use Prim.Native.Nat.{_+_, _-_, _*_, _≤_, _<_};
 ghost use lib.ListN.{length};
-ghost use Rattle.model.specs.Bytes.{every, before};
+ghost use Rattle.model.specs.Bytes.{every};
 ghost use Rattle.model.specs.Path.{Path, below, child};
 ghost use Rattle.model.specs.Map.{keys};
 ghost use Rattle.model.specs.Table.{keyAt, entryAt, entriesAt, tableIn, isTable};
@@ -21,34 +22,19 @@ pub struct Part {
     pub count: u64,
 }
 
-// Whether a key comes before a directory's path with one byte behind it. With a slash, what is not before it and is before the same with '0' is below.
-pub fn is_before_with(key: &[u8], dir: &[u8], b: u8) -> bool
-    ensures { λ r. ⌜ r ≡ before (now (key .entry)) (now (dir .entry) ++ (b ∷ [])) ⌝ }
-{
-    let n = base_fields::shared(key, dir);
-    if key.len() <= n {
-        return true;
-    }
-    let x = key[n];
-    if n < dir.len() {
-        let y = dir[n];
-        return x < y;
-    }
-    x < b
-}
-
 // The first entry from a place on whose key is not before that.
 fn seek_with(table: &[u8], place: table_entries::Place, dir: &[u8], b: u8) -> table_entries::Place
     requires { ⌜ Standing (now table) (place .left) (place .at) ⌝ }
-    ensures { λ r. ⌜ Sought (now (table .entry)) (now (dir .entry) ++ (b ∷ [])) (place .left) (place .at) (r .left) (r .at) ⌝ }
+    ensures { λ r. ⌜ Sought (now (table .entry)) (now (dir .entry) ++ (b ∷ [])) (place .left) (place .at) (r .left)
+        (r .at) ⌝ }
 {
     let mut at = place.at;
     let mut left = place.left;
     while 0 < left {
-        let start = at + 24;
+        let start = at + model::ENTRY_HEAD;
         let to = start + base_fields::le16(table, at) as usize;
         let part = &table[start..to];
-        if is_before_with(part, dir, b) {
+        if base_paths::is_before_with(part, dir, b) {
             at = to + base_fields::le32(table, at + 4) as usize;
             left -= 1;
         } else {
@@ -58,14 +44,16 @@ fn seek_with(table: &[u8], place: table_entries::Place, dir: &[u8], b: u8) -> ta
     table_entries::Place { at: at, left: left }
 }
 
-// The entries below a directory: from its path with a slash up to, not including, its path with '0', the byte behind the slash.
+// The entries below a directory: from its path with a slash up to, not including, its path with '0', the byte behind
+// the slash.
 pub fn below(table: &[u8], rec: model::Record, dir: &[u8]) -> Part
     requires { ⌜ isTable (now table) rec ≡ true ⌝ }
-    ensures { λ r. ⌜ PartOf (now (table .entry)) (tableIn (now (table .entry)) rec) (now (dir .entry)) (r .from) (r .to) (r .count) ⌝ }
+    ensures { λ r. ⌜ PartOf (now (table .entry)) (tableIn (now (table .entry)) rec) (now (dir .entry)) (r .from) (r .to)
+        (r .count) ⌝ }
 {
     let first = table_entries::first_entry(table, rec);
-    let start = seek_with(table, first, dir, 47);
-    let end = seek_with(table, start, dir, 48);
+    let start = seek_with(table, first, dir, b'/');
+    let end = seek_with(table, start, dir, b'0');
     Part {
         from: start.at,
         to: end.at,
@@ -73,43 +61,19 @@ pub fn below(table: &[u8], rec: model::Record, dir: &[u8]) -> Part
     }
 }
 
-// Whether a path is a child of a directory: the directory's path, a slash, and one component.
-pub fn is_child(dir: &[u8], path: &[u8]) -> bool
-    ensures { λ r. ⌜ r ≡ child (now (dir .entry)) (now (path .entry)) ⌝ }
-{
-    let n = base_fields::shared(dir, path);
-    if n < dir.len() {
-        return false;
-    }
-    if path.len() <= n {
-        return false;
-    }
-    let b = path[n];
-    if b != 47 {
-        return false;
-    }
-    let mut i = n + 1;
-    while i < path.len() {
-        if path[i] == 47 {
-            return false;
-        }
-        i += 1;
-    }
-    true
-}
-
 // Whether the entry at a place is a child of a directory and not deleted.
 fn is_visible_child(part: &[u8], place: table_entries::Place, dir: &[u8]) -> bool
     requires { ⌜ Standing (now part) (place .left) (place .at) ⌝ }
     requires { ⌜ 0 < place .left ⌝ }
-    ensures { λ r. ⌜ r ≡ (child (now (dir .entry)) (keyAt (now (part .entry)) (place .at)) && not (isDeleted (entryAt (now (part .entry))
+    ensures { λ r. ⌜ r ≡ (child (now (dir .entry)) (keyAt (now (part .entry)) (place .at))
+        && not (isDeleted (entryAt (now (part .entry))
         (place .at)))) ⌝ }
 {
     let at = place.at;
     let kind = base_fields::le16(part, at + 2);
     let key = table_entries::entry_key(part, place);
-    let child = is_child(dir, key);
-    child & (kind != 4)
+    let child = base_paths::is_child(dir, key);
+    child & (kind != model::DELETED)
 }
 
 // Whether some entry of a part is a child of the directory and not deleted.
@@ -131,7 +95,8 @@ pub fn has_visible_child(part: &[u8], count: u64, dir: &[u8]) -> bool
     false
 }
 
-// What moving one key of n bytes may take. A key below a path of `from` bytes is longer than that; of a shorter one nothing is asked.
+// What moving one key of n bytes may take. A key below a path of `from` bytes is longer than that; of a shorter one
+// nothing is asked.
 fn plan_of(n: u64, from: u64, to: u64) -> u64
     requires { ⌜ (n ≤ 512) × (to ≤ 512) ⌝ }
     ensures { λ r. ⌜ (from ≤ n → r ≡ 2 * n + (to + (n - from)) + 256) × (r ≤ 2304) ⌝ }
@@ -142,11 +107,13 @@ fn plan_of(n: u64, from: u64, to: u64) -> u64
     2 * n + (to + (n - from)) + model::ENTRY_MEMORY_USAGE
 }
 
-// The plan's sum over a part: what moving its keys from below a path of `from` bytes to below one of `to` bytes may take.
+// The plan's sum over a part: what moving its keys from below a path of `from` bytes to below one of `to` bytes may
+// take.
 pub fn plan_sum(part: &[u8], count: u64, from: u64, to: u64) -> u64
     requires { ⌜ Standing (now part) count 0 ⌝ }
     requires { ⌜ (from ≤ 512) × (to ≤ 512) ⌝ }
-    ensures { λ r. ⌜ ((a b : Path) → length a ≡ from → length b ≡ to → every (below a) (keys (entriesAt (now (part .entry)) count 0)) ≡ true
+    ensures { λ r. ⌜ ((a b : Path) → length a ≡ from → length b ≡ to
+        → every (below a) (keys (entriesAt (now (part .entry)) count 0)) ≡ true
         → r ≡ planned a b (entriesAt (now (part .entry)) count 0)) ⌝ }
 {
     let mut at = 0;
@@ -156,7 +123,7 @@ pub fn plan_sum(part: &[u8], count: u64, from: u64, to: u64) -> u64
         let n = base_fields::le16(part, at);
         let m = base_fields::le32(part, at + 4);
         sum += plan_of(n, from, to);
-        at = at + 24 + n as usize + m as usize;
+        at = at + model::ENTRY_HEAD + n as usize + m as usize;
         left -= 1;
     }
     sum

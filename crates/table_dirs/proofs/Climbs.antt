@@ -1,5 +1,4 @@
 -- The prefixes of a path by where they end: where the ends climb, the prefixes ascend, and none is empty.
--- Assumes nothing.
 use mathlib.Core.Path.{_≡_, refl, ap, sym, _∙_}
 use mathlib.Core.List.{List, [], _∷_}
 use mathlib.Core.Bool.{true, _&&_}
@@ -15,7 +14,7 @@ use Rattle.model.specs.Path.{Path}
 use Rattle.model.specs.Map.{ascends, each}
 use Rattle.model.proofs.Orders.{Lt, and-true}
 use Rattle.base_fields.proofs.Common.{Lt-before}
-use Rattle.check_parents.specs.Dirs.{climbs, prefixes}
+use Rattle.base_paths.specs.Dirs.{climbs, prefixes}
 
 prefix-before : (p : Path) (a b : ℕ) → a < b → b ≤ length p → Lt (take a p) (take b p)
 prefix-before [] a b h g = absurd (omega arith)

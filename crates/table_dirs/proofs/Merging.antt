@@ -1,5 +1,4 @@
 -- Directories written one after the other in one pass: the room that each needs, and the whole at the end.
--- Assumes nothing.
 use mathlib.Core.Path.{_≡_, refl, ap, sym, subst, _∙_}
 use mathlib.Core.List.{List, [], _∷_}
 use mathlib.Core.Bool.{true}
@@ -19,7 +18,7 @@ use Rattle.table_write.specs.declared.Merge.{Merge}
 use Rattle.table_write.specs.Merge.{Merged}
 use Rattle.table_write.proofs.Merges.{merge-begun}
 use Rattle.table_insert.proofs.Inserts.{rest-fits, same-used, zeros-as-long}
-use Rattle.check_parents.specs.Dirs.{climbs}
+use Rattle.base_paths.specs.Dirs.{climbs}
 use Rattle.table_dirs.proofs.Passing.{dirs, Going, going-begun, going-first, going-above, going-whole, going-on, going-over}
 
 -- the pass that writes, with i directories put: w is the work buffer now, and w₀ as it came

@@ -1,5 +1,4 @@
 -- Directories put one after the other in one pass: what is put so far, with those still to put, is the whole.
--- Assumes nothing.
 use mathlib.Core.Path.{_≡_, refl, ap, ap₂, sym, subst, _∙_}
 use mathlib.Core.List.{List, [], _∷_}
 use mathlib.Core.Bool.{true}
@@ -24,7 +23,7 @@ use Rattle.table_measure.specs.Into.{into}
 use Rattle.table_measure.proofs.Passes.{bytes-append, bytes-cons}
 use Rattle.table_measure.proofs.Intos.{into-puts}
 use Rattle.table_insert.proofs.Inserts.{bounds, measure-first}
-use Rattle.check_parents.specs.Dirs.{climbs, prefixes}
+use Rattle.base_paths.specs.Dirs.{climbs, prefixes}
 use Rattle.table_dirs.proofs.Climbs.{climb-ascends}
 
 -- the prefixes of p that end at es, each with v

@@ -1,6 +1,7 @@
-// Up to 32 directories along one path put into a table together, for mkdir with parents: `check_replacements` of overlay_state.rs and the inserts
-// behind it. Assumes a table that agrees with its record, and ends that ascend along the path: only this repository's crates call, after a check.
-// The prefixes of a path ascend, so measuring them and writing them is one pass over the table each.
+// Up to 32 directories along one path put into a table together, for mkdir with parents: `check_replacements` of
+// overlay_state.rs and the inserts behind it. Assumes a table that agrees with its record, and ends that ascend along
+// the path: only this repository's crates call, after a check. The prefixes of a path ascend, so measuring them and
+// writing them is one pass over the table each.
 ghost use mathlib.Core.Path.{_≡_};
 ghost use mathlib.Core.Bool.{true};
 ghost use Prim.Native.Nat.{ℕ, _≤_};
@@ -9,20 +10,23 @@ ghost use Rattle.model.specs.Path.{isPath};
 ghost use Rattle.model.specs.Map.{puts, each};
 ghost use Rattle.model.specs.Tree.{directory};
 ghost use Rattle.model.specs.Table.{encode, padded, recordOf, tableIn, isTable};
-ghost use Rattle.check_parents.specs.Dirs.{endsOf, climbs, prefixes};
+ghost use Rattle.base_paths.specs.Dirs.{endsOf, climbs, prefixes};
 ghost use Rattle.table_insert.specs.Insert.{insertion, ifDone};
+use model::DIRECTORY;
 
-// The record as if these directories were put.
+// The record as if these directories were put. The Rust's function of this name compares the charge with the limit;
+// here `insert_all` does.
 pub fn check_replacements(
     table: &[u8],
     rec: model::Record,
     path: &[u8],
-    dirs: check_parents::Dirs,
+    dirs: base_paths::Dirs,
 ) -> model::Record
     requires { ⌜ isTable (now table) rec ≡ true ⌝ }
     requires { ⌜ isPath (now path) ≡ true ⌝ }
     requires { ⌜ (dirs .count ≤ 32) × (climbs 0 (length (now path)) (endsOf dirs) ≡ true) ⌝ }
-    ensures { λ r. ⌜ ((m : ℕ) → r ≡ recordOf (rec .«entry_size») (puts (each (directory m) (prefixes (now (path .entry)) (endsOf dirs)))
+    ensures { λ r. ⌜ ((m : ℕ) → r ≡ recordOf (rec .«entry_size»)
+        (puts (each (directory m) (prefixes (now (path .entry)) (endsOf dirs)))
         (tableIn (now (table .entry)) rec))) ⌝ }
 {
     let ends = dirs.ends;
@@ -53,15 +57,17 @@ fn insert_all_unchecked(
     work: &mut [u8],
     rec: model::Record,
     path: &[u8],
-    dirs: check_parents::Dirs,
+    dirs: base_paths::Dirs,
     mtime: u64,
 )
     requires { ⌜ isTable (now table) rec ≡ true ⌝ }
     requires { ⌜ isPath (now path) ≡ true ⌝ }
-    requires { ⌜ (dirs .count ≤ 32) × (climbs 0 (length (now path)) (endsOf dirs) ≡ true) × (length (now table) ≤ length (now work)) ⌝ }
+    requires { ⌜ (dirs .count ≤ 32) × (climbs 0 (length (now path)) (endsOf dirs) ≡ true)
+        × (length (now table) ≤ length (now work)) ⌝ }
     requires { ⌜ length (encode (puts (each (directory mtime) (prefixes (now path) (endsOf dirs)))
         (tableIn (now table) rec))) ≤ length (now table) ⌝ }
-    ensures { λ _. ⌜ now (table .exit) ≡ padded (length (now (table .entry))) (encode (puts (each (directory mtime) (prefixes (now (path .entry))
+    ensures { λ _. ⌜ now (table .exit) ≡ padded (length (now (table .entry)))
+        (encode (puts (each (directory mtime) (prefixes (now (path .entry))
         (endsOf dirs))) (tableIn (now (table .entry)) rec))) ⌝ }
     ensures { λ _. ⌜ now (work .exit) ≡ replicate (length (now (work .entry))) 0 ⌝ }
 {
@@ -75,29 +81,42 @@ fn insert_all_unchecked(
     let mut i: usize = 0;
     while i < count {
         let end = ends[i];
-        merge = table_write::put_next(work, table, merge, &path[..end], 3, mtime, 0, &path[..0]);
+        merge = table_write::put_next(
+            work,
+            table,
+            merge,
+            &path[..end],
+            DIRECTORY,
+            mtime,
+            0,
+            &path[..0],
+        );
         i += 1;
     }
     let used = rec.used as usize;
     table_write::finish(table, work, merge, used);
 }
 
-// These directories inserted, if the charge then is within the limit and the table then fits its buffer; else all stays as it is.
+// These directories inserted, if the charge then is within the limit and the table then fits its buffer; else all stays
+// as it is.
 pub fn insert_all(
     table: &mut [u8],
     work: &mut [u8],
     rec: model::Record,
     path: &[u8],
-    dirs: check_parents::Dirs,
+    dirs: base_paths::Dirs,
     mtime: u64,
     limit: u64,
 ) -> table_insert::Inserted
     requires { ⌜ isTable (now table) rec ≡ true ⌝ }
     requires { ⌜ isPath (now path) ≡ true ⌝ }
-    requires { ⌜ (dirs .count ≤ 32) × (climbs 0 (length (now path)) (endsOf dirs) ≡ true) × (length (now table) ≤ length (now work)) ⌝ }
-    ensures { λ r. ⌜ r ≡ insertion (rec .«entry_size») limit (length (now (table .entry))) (puts (each (directory mtime) (prefixes (now (path .entry))
+    requires { ⌜ (dirs .count ≤ 32) × (climbs 0 (length (now path)) (endsOf dirs) ≡ true)
+        × (length (now table) ≤ length (now work)) ⌝ }
+    ensures { λ r. ⌜ r ≡ insertion (rec .«entry_size») limit (length (now (table .entry)))
+        (puts (each (directory mtime) (prefixes (now (path .entry))
         (endsOf dirs))) (tableIn (now (table .entry)) rec)) ⌝ }
-    ensures { λ r. ⌜ now (table .exit) ≡ ifDone r (padded (length (now (table .entry))) (encode (puts (each (directory mtime)
+    ensures { λ r. ⌜ now (table .exit) ≡ ifDone r (padded (length (now (table .entry)))
+        (encode (puts (each (directory mtime)
         (prefixes (now (path .entry)) (endsOf dirs))) (tableIn (now (table .entry)) rec)))) (now (table .entry)) ⌝ }
     ensures { λ r. ⌜ now (work .exit) ≡ ifDone r (replicate (length (now (work .entry))) 0) (now (work .entry)) ⌝ }
 {

@@ -1,5 +1,4 @@
 -- What an answer says of an entry tells whether there is one.
--- Assumes nothing.
 use mathlib.Core.Path.{_≡_, refl}
 use mathlib.Core.Bool.{true, false}
 use mathlib.Core.Option.{Option, none, some}

@@ -12,7 +12,7 @@ use Rattle.model.specs.Tree.{Table}
 use Rattle.model.specs.Table.{entryBytes, encode, charge}
 use Rattle.model.proofs.Orders.{Lt, Lt-irrefl, Lt-trans, Lt-≢, Cmp, cmp, Split, split, test, yea, nay, bot}
 use Rattle.model.proofs.Maps.{Ascending, above-trans, lookup-low}
-use Rattle.table_entries.specs.Cut.{upTo, since, behind, firstAt}
+use Rattle.table_entries.specs.Cut.{upTo, since, behind, firstIf}
 
 -- how x stands to k, both ways round
 data Sides (x k : Path) : Type 0 where
@@ -70,7 +70,7 @@ module _ {A : Type 0} where
       ]
 
   -- and k itself is the first there, or not there
-  pub lookup-first : (k : Path) (t : Map A) → Ascending t → lookup t k ≡ firstAt k (since k t)
+  pub lookup-first : (k : Path) (t : Map A) → Ascending t → lookup t k ≡ firstIf k (since k t)
   lookup-first k [] h = refl
   lookup-first k (x ∷ xs) h =
       elim (sides (x .0) k) [

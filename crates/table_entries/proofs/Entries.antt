@@ -1,5 +1,4 @@
 -- What stands at a place in a table: the numbers read there are those of the entry, and behind it stands the next.
--- Assumes nothing.
 use mathlib.Core.Path.{_≡_, refl, ap, ap₂, sym, _∙_}
 use mathlib.Core.List.{[], _∷_, _++_, append-assoc}
 use mathlib.Core.Bool.{true}

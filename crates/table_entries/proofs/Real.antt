@@ -1,5 +1,4 @@
 -- Which 64 bits are a NaN's, and that zero by zero is the one NaN.
--- Assumes nothing.
 use mathlib.Core.Path.{_≡_, refl, sym, _∙_, subst}
 use mathlib.Core.Bool.{Bool, true, false, not}
 use Prim.Native.Nat.{ℕ, _≤_, _<_, _%_}

@@ -1,5 +1,4 @@
 -- What the code reads at a place is the entry's: its key, its body, and what its kind makes of the rest.
--- Assumes nothing.
 use mathlib.Core.Path.{_≡_, sym, _∙_}
 use mathlib.Core.Bool.{true, false}
 use mathlib.Core.Option.{some}

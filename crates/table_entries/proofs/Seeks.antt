@@ -1,5 +1,4 @@
 -- The search forward over a table's entries: its invariant, where it ends, and what stands there.
--- Assumes nothing.
 use mathlib.Core.Path.{_≡_, refl, ap, sym, _∙_}
 use mathlib.Core.List.{[]}
 use mathlib.Core.Bool.{Bool, true, false, cond}
@@ -15,7 +14,7 @@ use Rattle.model.specs.Table.{entryBytes, encode, keyAt, entryAt, entryEnd, ent
 use Rattle.model.specs.declared.Record.{Record}
 use Rattle.model.proofs.Maps.{ascends-is}
 use Rattle.table_entries.specs.Place.{Standing, Sought}
-use Rattle.table_entries.specs.Cut.{upTo, since, firstAt}
+use Rattle.table_entries.specs.Cut.{upTo, since, firstIf}
 use Rattle.table_entries.specs.Said.{noEntry, said, saidOf}
 use Rattle.table_entries.specs.declared.Place.{Place}
 use Rattle.table_entries.specs.declared.OverlayEntry.{OverlayEntry}
@@ -97,21 +96,21 @@ module _ (s : Bytes) (k : Path) (m to : ℕ) (h : m ≡ 0 → ⊥) where
       go (suc i) f = omega arith
 
   module _ (b : Bool) (q : Path) (e : q ≡ keyAt s to) (c : b ≡ same q k) where
-    opened : firstAt k (entriesAt s m to) ≡ cond b (some (entryAt s to)) none
+    opened : firstIf k (entriesAt s m to) ≡ cond b (some (entryAt s to)) none
     opened = rw (first-entry s m to some-left, c, e)
 
-    pub entry-here : b ≡ true → said (some (entryAt s to)) ≡ said (firstAt k (entriesAt s m to))
+    pub entry-here : b ≡ true → said (some (entryAt s to)) ≡ said (firstIf k (entriesAt s m to))
     entry-here z = rw (opened, z)
 
-    pub entry-other : b ≡ false → noEntry ≡ said (firstAt k (entriesAt s m to))
+    pub entry-other : b ≡ false → noEntry ≡ said (firstIf k (entriesAt s m to))
     entry-other z = rw (opened, z)
 
 -- and so what all the entries from the start on have there
 pub found : (s : Bytes) (k : Path) (n at m to : ℕ) → Standing s n at → Sought s k n at m to
-    → (r : OverlayEntry) → saidOf s r ≡ said (firstAt k (entriesAt s m to)) → saidOf s r ≡ said (lookup (entriesAt s n at) k)
+    → (r : OverlayEntry) → saidOf s r ≡ said (firstIf k (entriesAt s m to)) → saidOf s r ≡ said (lookup (entriesAt s n at) k)
 found s k n at m to w g r e =
     let t : Table = entriesAt s n at in
-    e ∙ ap (λ (l : Table). said (firstAt k l)) (g .are) ∙ sym (ap said (lookup-first k t (ascends-is [] t (w .up) .1)))
+    e ∙ ap (λ (l : Table). said (firstIf k l)) (g .are) ∙ sym (ap said (lookup-first k t (ascends-is [] t (w .up) .1)))
 
 -- from the first entry on, what the table has
 pub found-all : (s : Bytes) (k : Path) (c : Record) (q : Place) → q ≡ record { at = 0; left = c .count }

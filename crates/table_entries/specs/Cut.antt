@@ -1,5 +1,5 @@
 -- A map whose paths ascend, cut at a path.
--- Assumes nothing: each function is defined on every list.
+-- Each function is defined on every list.
 use mathlib.Core.Bool.{cond}
 use mathlib.Core.List.{[], _∷_}
 use mathlib.Core.Option.{Option, none, some}
@@ -28,6 +28,6 @@ module _ {A : Type 0} where
   behind k m = unlessFirst k (since k m)
 
   -- the value of the first, if that has the path k
-  abbrev pub firstAt : Path → Map A → Option A
-  firstAt k [] = none
-  firstAt k (x ∷ xs) = cond (same (x .0) k) (some (x .1)) none
+  abbrev pub firstIf : Path → Map A → Option A
+  firstIf k [] = none
+  firstIf k (x ∷ xs) = cond (same (x .0) k) (some (x .1)) none

@@ -1,5 +1,4 @@
 -- Places in a table's bytes: the entries from a place on.
--- Assumes nothing.
 use mathlib.Core.Path.{_≡_}
 use mathlib.Core.Bool.{true}
 use mathlib.Core.List.{[], _++_}
@@ -11,7 +10,8 @@ use Rattle.model.specs.Map.{ascends}
 use Rattle.model.specs.Table.{encode, entriesAt, formedEntry}
 use Rattle.table_entries.specs.Cut.{upTo, since}
 
--- n entries stand in the bytes s from `at` on, each as its encoding, with `rest` behind them; their keys ascend, and they are in form
+-- n entries stand in the bytes s from `at` on, each as its encoding, with `rest` behind them; their keys ascend, and
+-- they are in form
 pub record Standing (s : Bytes) (n at : ℕ) : Type 0 where
   pub small : length s ≤ 16777216
   pub within : at ≤ length s

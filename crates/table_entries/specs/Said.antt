@@ -1,5 +1,4 @@
 -- What an OverlayEntry says of an entry: its mtime as a float, its body by its place in the table's bytes.
--- Assumes nothing.
 use mathlib.Core.Option.{Option, none, some}
 use Prim.Native.Nat.{ℕ}
 use lib.Ieee.{Float, ofBits, binary64}

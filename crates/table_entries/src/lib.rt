@@ -10,13 +10,17 @@ ghost use lib.Ieee.{ofBits, binary64};
 ghost use Rattle.model.specs.Bytes.{Bytes, numberAt};
 ghost use Rattle.model.specs.Map.{isNone, lookup};
 ghost use Rattle.model.specs.Tree.{Entry};
-ghost use Rattle.model.specs.Table.{typeOf, mtimeOf, sizeOf, bodyOf, keyAt, entryAt, entryEnd, entriesAt, tableIn, isTable};
+ghost use Rattle.model.specs.Table.{typeOf, mtimeOf, sizeOf, bodyOf, keyAt, entryAt, entryEnd, entriesAt, tableIn};
+ghost use Rattle.model.specs.Table.{isTable};
 ghost use Rattle.table_entries.specs.Place.{Standing, Sought};
-ghost use Rattle.table_entries.specs.Cut.{firstAt};
+ghost use Rattle.table_entries.specs.Cut.{firstIf};
 ghost use Rattle.table_entries.specs.Said.{said, saidOf};
 
-// What the table has at a path. A file's content and a reference's listed path stay in the table: `len` bytes from `at` on.
-// The mtime is the float of the stored bits, for whoever computes with it; what is stored again is copied as bits.
+// `model::ENTRY_HEAD` as a number of 64 bits.
+const ENTRY_HEAD_64: u64 = model::ENTRY_HEAD as u64;
+
+// What the table has at a path. A file's content and a reference's listed path stay in the table: `len` bytes from `at`
+// on. The mtime is the float of the stored bits, for whoever computes with it; what is stored again is copied as bits.
 pub enum OverlayEntry {
     File {
         mtime: f64,
@@ -98,7 +102,7 @@ pub fn next_entry(table: &[u8], place: Place) -> Place
     let n = base_fields::le16(table, at) as usize;
     let m = base_fields::le32(table, at + 4) as usize;
     Place {
-        at: at + 24 + n + m,
+        at: at + model::ENTRY_HEAD + n + m,
         left: left - 1,
     }
 }
@@ -110,7 +114,7 @@ pub fn entry_key(table: &[u8], place: Place) -> &[u8]
     ensures { λ r. ⌜ now r ≡ keyAt (now (table .entry)) (place .at) ⌝ }
 {
     let at = place.at;
-    let start = at + 24;
+    let start = at + model::ENTRY_HEAD;
     let to = start + base_fields::le16(table, at) as usize;
     &table[start..to]
 }
@@ -121,7 +125,7 @@ pub fn entry_body(table: &[u8], place: Place) -> &[u8]
     ensures { λ r. ⌜ now r ≡ bodyOf (entryAt (now (table .entry)) (place .at)) ⌝ }
 {
     let at = place.at;
-    let key = at + 24;
+    let key = at + model::ENTRY_HEAD;
     let body = key + base_fields::le16(table, at) as usize;
     let to = body + base_fields::le32(table, at + 4) as usize;
     &table[body..to]
@@ -154,8 +158,8 @@ pub fn entry_at(table: &[u8], place: Place) -> OverlayEntry
     let n = base_fields::le16(table, at);
     let kind = base_fields::le16(table, at + 2);
     let len = base_fields::le32(table, at + 4);
-    let body = at as u64 + 24 + n;
-    if kind == 1 {
+    let body = at as u64 + ENTRY_HEAD_64 + n;
+    if kind == model::OWN_FILE {
         let mtime = mtime_at(table, at);
         return OverlayEntry::File {
             mtime: mtime,
@@ -163,7 +167,7 @@ pub fn entry_at(table: &[u8], place: Place) -> OverlayEntry
             len: len,
         };
     }
-    if kind == 2 {
+    if kind == model::REFERENCE {
         let mtime = mtime_at(table, at);
         let size = base_fields::le64(table, at + 16);
         return OverlayEntry::RealFileRef {
@@ -173,7 +177,7 @@ pub fn entry_at(table: &[u8], place: Place) -> OverlayEntry
             len: len,
         };
     }
-    if kind == 3 {
+    if kind == model::DIRECTORY {
         let mtime = mtime_at(table, at);
         return OverlayEntry::Directory { mtime: mtime };
     }
@@ -188,7 +192,7 @@ pub fn seek(table: &[u8], place: Place, key: &[u8]) -> Place
     let mut at = place.at;
     let mut left = place.left;
     while 0 < left {
-        let start = at + 24;
+        let start = at + model::ENTRY_HEAD;
         let to = start + base_fields::le16(table, at) as usize;
         let part = &table[start..to];
         if base_fields::is_before(part, key) {
@@ -204,7 +208,8 @@ pub fn seek(table: &[u8], place: Place, key: &[u8]) -> Place
 // The entry at a place, if it has this key.
 fn entry_if(table: &[u8], place: Place, key: &[u8]) -> OverlayEntry
     requires { ⌜ Standing (now table) (place .left) (place .at) ⌝ }
-    ensures { λ r. ⌜ saidOf (now (table .entry)) r ≡ said (firstAt (now (key .entry)) (entriesAt (now (table .entry)) (place .left) (place .at))) ⌝ }
+    ensures { λ r. ⌜ saidOf (now (table .entry)) r ≡ said (firstIf (now (key .entry))
+        (entriesAt (now (table .entry)) (place .left) (place .at))) ⌝ }
 {
     let left = place.left;
     if left == 0 {
@@ -217,13 +222,14 @@ fn entry_if(table: &[u8], place: Place, key: &[u8]) -> OverlayEntry
     OverlayEntry::Absent
 }
 
-// The entry at a key among those from a place on. Keys that ascend are looked up one behind the other in one pass, each from the place that
-// the one before gave.
+// The entry at a key among those from a place on. Keys that ascend are looked up one behind the other in one pass, each
+// from the place that the one before gave.
 pub fn get_from(table: &[u8], place: Place, key: &[u8]) -> Got
     requires { ⌜ Standing (now table) (place .left) (place .at) ⌝ }
     ensures { λ r. ⌜ saidOf (now (table .entry)) (r .entry) ≡ said (lookup
         (entriesAt (now (table .entry)) (place .left) (place .at)) (now (key .entry))) ⌝ }
-    ensures { λ r. ⌜ Sought (now (table .entry)) (now (key .entry)) (place .left) (place .at) (r .place .left) (r .place .at) ⌝ }
+    ensures { λ r. ⌜ Sought (now (table .entry)) (now (key .entry)) (place .left) (place .at) (r .place .left)
+        (r .place .at) ⌝ }
 {
     let found = seek(table, place, key);
     let entry = entry_if(table, found, key);
@@ -236,7 +242,8 @@ pub fn get_from(table: &[u8], place: Place, key: &[u8]) -> Got
 // The entry at a key.
 pub fn get(table: &[u8], rec: model::Record, key: &[u8]) -> OverlayEntry
     requires { ⌜ isTable (now table) rec ≡ true ⌝ }
-    ensures { λ r. ⌜ saidOf (now (table .entry)) r ≡ said (lookup (tableIn (now (table .entry)) rec) (now (key .entry))) ⌝ }
+    ensures { λ r. ⌜ saidOf (now (table .entry)) r ≡ said (lookup (tableIn (now (table .entry)) rec)
+        (now (key .entry))) ⌝ }
 {
     let first = first_entry(table, rec);
     let got = get_from(table, first, key);

@@ -1,5 +1,4 @@
 -- One entry put into a table: its record, the room that the writing needs, and where it ends.
--- Assumes nothing.
 use mathlib.Core.Path.{_≡_, ap, sym, subst, _∙_}
 use mathlib.Core.List.{[], _∷_}
 use mathlib.Core.Bool.{Bool, true, false}

@@ -1,5 +1,4 @@
 -- What inserting answers, and what it leaves.
--- Assumes nothing.
 use mathlib.Core.Bool.{cond}
 use Prim.Native.Nat.{ℕ}
 use lib.Dec.{leb}
@@ -10,7 +9,8 @@ use Rattle.model.specs.declared.Record.{Record}
 use Rattle.table_insert.specs.declared.Inserted.{Inserted}
 use Rattle.table_insert.specs.declared.Inserted.the-variants.{Done, MemoryUsageLimitExceeded, NoRoom}
 
--- the record r is to be that of a table in n bytes: "11 …: the charge after the call exceeds the limit; equal passes"; then 13
+-- the record r is to be that of a table in n bytes: "11 …: the charge after the call exceeds the limit; equal passes";
+-- then 13
 abbrev pub judged : Record → ℕ → ℕ → Inserted
 judged r limit n = cond (leb (r .charge) limit) (cond (leb (r .used) n) (Done r) NoRoom) MemoryUsageLimitExceeded
 

@@ -1,6 +1,7 @@
-// One entry inserted, or put in the place of the one with its key: `memory_usage`, `projected_usage`, `check_file_replacement`, `insert` and
-// `insert_unchecked` of overlay_state.rs. Assumes a table that agrees with its record, and a key that is not empty: only this repository's crates call,
-// after a check. Nothing is written before the charge and the room are known. Each call is a constant number of passes over table, work buffer and body.
+// One entry inserted, or put in the place of the one with its key: `memory_usage`, `projected_usage`,
+// `check_file_replacement`, `insert` and `insert_unchecked` of overlay_state.rs. Assumes a table that agrees with its
+// record, and a key that is not empty: only this repository's crates call, after a check. Nothing is written before the
+// charge and the room are known. Each call is a constant number of passes over table, work buffer and body.
 ghost use mathlib.Core.Path.{_≡_};
 ghost use mathlib.Core.Bool.{true};
 ghost use mathlib.Core.List.{[]};
@@ -96,8 +97,10 @@ pub fn insert_unchecked(
     body: &[u8],
 )
     requires { ⌜ isTable (now table) rec ≡ true ⌝ }
-    requires { ⌜ (before [] (now key) ≡ true) × Written kind mtime size (now body) × (length (now table) ≤ length (now work)) ⌝ }
-    requires { ⌜ length (encode (put (now key) (entryOf kind mtime size (now body)) (tableIn (now table) rec))) ≤ length (now table) ⌝ }
+    requires { ⌜ (before [] (now key) ≡ true) × Written kind mtime size (now body)
+        × (length (now table) ≤ length (now work)) ⌝ }
+    requires { ⌜ length (encode (put (now key) (entryOf kind mtime size (now body)) (tableIn (now table) rec))) ≤ length
+        (now table) ⌝ }
     ensures { λ _. ⌜ now (table .exit) ≡ padded (length (now (table .entry))) (encode (put (now (key .entry))
         (entryOf kind mtime size (now (body .entry))) (tableIn (now (table .entry)) rec))) ⌝ }
     ensures { λ _. ⌜ now (work .exit) ≡ replicate (length (now (work .entry))) 0 ⌝ }
@@ -112,7 +115,8 @@ pub fn insert_unchecked(
     table_write::finish(table, work, merge, used);
 }
 
-// The entry inserted if the charge then is within the limit and the table then fits its buffer; else all stays as it is.
+// The entry inserted if the charge then is within the limit and the table then fits its buffer; else all stays as it
+// is.
 pub fn insert(
     table: &mut [u8],
     work: &mut [u8],

@@ -1,5 +1,4 @@
 -- The steps of a pass: whether the entry at a place has a key, where the pass goes on, and the record then.
--- Assumes nothing.
 use mathlib.Core.Path.{_≡_, refl, ap, ap₂, sym, subst, _∙_}
 use mathlib.Core.List.{[], _∷_}
 use mathlib.Core.Bool.{Bool, true, false}

@@ -1,5 +1,4 @@
 -- Entries put into a table one after the other.
--- Assumes nothing.
 use mathlib.Core.List.{[], _∷_}
 use Rattle.model.specs.Map.{Map, put}
 

@@ -1,5 +1,4 @@
 -- A table changed by one pass over its bytes: entries are put with ascending keys, and what stands between them stays.
--- Assumes nothing.
 use mathlib.Core.Path.{_≡_}
 use mathlib.Core.Bool.{Bool, true, false}
 use mathlib.Core.List.{[], _∷_, _++_}
@@ -17,7 +16,8 @@ abbrev pub startsAt : Path → Table → Bool
 startsAt k [] = false
 startsAt k (x ∷ xs) = same (x .0) k
 
--- the record with one entry more, of n bytes of key and m of body; and with a body of m bytes in the place of one of `old`
+-- the record with one entry more, of n bytes of key and m of body; and with a body of m bytes in the place of one of
+-- `old`
 abbrev pub added : Record → ℕ → ℕ → Record
 added r n m = record {
   used = r .used + 24 + n + m;

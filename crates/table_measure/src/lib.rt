@@ -14,6 +14,9 @@ ghost use Rattle.table_entries.specs.Place.{Standing, endOf};
 ghost use Rattle.table_entries.specs.Cut.{unlessFirst};
 ghost use Rattle.table_measure.specs.Measure.{startsAt, added, replaced, Measured, Counts};
 
+// `model::ENTRY_HEAD` as a number of 64 bits.
+const ENTRY_HEAD_64: u64 = model::ENTRY_HEAD as u64;
+
 // The record with an entry put, and the place behind that entry's key.
 pub struct Projection {
     pub place: table_entries::Place,
@@ -39,7 +42,8 @@ pub fn behind_key(table: &[u8], place: table_entries::Place, key: &[u8]) -> tabl
     ensures { λ r. ⌜ Standing (now (table .entry)) (r .left) (r .at) ⌝ }
     ensures { λ r. ⌜ entriesAt (now (table .entry)) (r .left) (r .at)
         ≡ unlessFirst (now (key .entry)) (entriesAt (now (table .entry)) (place .left) (place .at)) ⌝ }
-    ensures { λ r. ⌜ endOf (now (table .entry)) (r .left) (r .at) ≡ endOf (now (table .entry)) (place .left) (place .at) ⌝ }
+    ensures { λ r. ⌜ endOf (now (table .entry)) (r .left) (r .at)
+        ≡ endOf (now (table .entry)) (place .left) (place .at) ⌝ }
 {
     if has_key(table, place, key) {
         return table_entries::next_entry(table, place);
@@ -49,13 +53,14 @@ pub fn behind_key(table: &[u8], place: table_entries::Place, key: &[u8]) -> tabl
 
 // The record with one entry more, of n bytes of key and m of body.
 fn with_entry(rec: model::Record, n: u64, m: u64) -> model::Record
-    requires { ⌜ (rec .used ≤ 0x4000_0000_0000_0000) × (rec .count ≤ 0x4000_0000_0000_0000) × (rec .charge ≤ 0x4000_0000_0000_0000) ⌝ }
+    requires { ⌜ (rec .used ≤ 0x4000_0000_0000_0000) × (rec .count ≤ 0x4000_0000_0000_0000)
+        × (rec .charge ≤ 0x4000_0000_0000_0000) ⌝ }
     requires { ⌜ (rec .«entry_size» ≤ 4096) × (n ≤ 512) × (m ≤ 0x8000_0000_0000_0000) ⌝ }
     ensures { λ r. ⌜ r ≡ added rec n m ⌝ }
 {
     let e = rec.entry_size;
     model::Record {
-        used: rec.used + 24 + n + m,
+        used: rec.used + ENTRY_HEAD_64 + n + m,
         count: rec.count + 1,
         charge: rec.charge + model::ENTRY_MEMORY_USAGE + n + e + m,
         entry_size: e,
@@ -64,7 +69,8 @@ fn with_entry(rec: model::Record, n: u64, m: u64) -> model::Record
 
 // The record with a body of m bytes in the place of one of `old`.
 fn with_body(rec: model::Record, old: u64, m: u64) -> model::Record
-    requires { ⌜ (rec .used ≤ 0x4000_0000_0000_0000) × (rec .charge ≤ 0x4000_0000_0000_0000) × (m ≤ 0x8000_0000_0000_0000) ⌝ }
+    requires { ⌜ (rec .used ≤ 0x4000_0000_0000_0000) × (rec .charge ≤ 0x4000_0000_0000_0000)
+        × (m ≤ 0x8000_0000_0000_0000) ⌝ }
     requires { ⌜ (old ≤ rec .used) × (old ≤ rec .charge) ⌝ }
     ensures { λ r. ⌜ r ≡ replaced rec old m ⌝ }
 {
@@ -76,7 +82,8 @@ fn with_body(rec: model::Record, old: u64, m: u64) -> model::Record
     }
 }
 
-// The record after an entry with this key and `len` bytes of body is put, in the place of the one that has the key, if any.
+// The record after an entry with this key and `len` bytes of body is put, in the place of the one that has the key, if
+// any.
 pub fn projected(
     table: &[u8],
     place: table_entries::Place,
@@ -86,9 +93,11 @@ pub fn projected(
 ) -> Projection
     requires { ⌜ Counts (now table) (place .left) (place .at) rec ⌝ }
     requires { ⌜ (length (now key) ≤ 512) × (len ≤ 0x8000_0000_0000_0000) ⌝ }
-    ensures { λ r. ⌜ ((t : Table) (k : Path) (v : Entry) → Measured (now (table .entry)) t k (place .left) (place .at) (rec .«entry_size») rec
+    ensures { λ r. ⌜ ((t : Table) (k : Path) (v : Entry) → Measured (now (table .entry)) t k (place .left) (place .at)
+        (rec .«entry_size») rec
         → before k (now (key .entry)) ≡ true → length (bodyOf v) ≡ len
-        → Measured (now (table .entry)) (put (now (key .entry)) v t) (now (key .entry)) (r .place .left) (r .place .at) (rec .«entry_size»)
+        → Measured (now (table .entry)) (put (now (key .entry)) v t) (now (key .entry)) (r .place .left) (r .place .at)
+        (rec .«entry_size»)
         (r .rec)) ⌝ }
 {
     let found = table_entries::seek(table, place, key);

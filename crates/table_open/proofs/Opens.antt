@@ -1,5 +1,4 @@
 -- What opening answers and leaves, for an entry size and a buffer in their limits and for others.
--- Assumes nothing.
 use mathlib.Core.Path.{_≡_, refl, sym, _∙_}
 use mathlib.Core.Bool.{Bool, true, false, not}
 use mathlib.Core.List.{[], _++_}

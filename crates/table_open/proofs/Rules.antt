@@ -1,5 +1,4 @@
 -- The rules of one entry are those of the entry that is read: its numbers are those that stand there, and it is in form; both ways.
--- Assumes nothing.
 use mathlib.Core.Path.{_≡_, refl, _∙_}
 use mathlib.Core.Logic.{_⊎_, inl, inr}
 use mathlib.Core.Bool.{Bool, true, false, cond, _&&_, _||_}

@@ -1,5 +1,4 @@
 -- One turn of the pass: what holds before an entry is read, what each refusal gives, and what holds after it.
--- Assumes nothing.
 use mathlib.Core.Path.{_≡_, sym, _∙_}
 use mathlib.Core.Bool.{Bool, true, false, not, _&&_}
 use mathlib.Core.List.{[]}

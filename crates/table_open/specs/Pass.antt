@@ -1,5 +1,5 @@
--- The rules of a table in one pass: each entry by itself and by the key before it, then the record and the bytes behind the entries.
--- Assumes nothing.
+-- The rules of a table in one pass: each entry by itself and by the key before it, then the record and the bytes behind
+-- the entries.
 use mathlib.Core.Bool.{Bool, true, cond, _&&_, _||_}
 use mathlib.Core.List.{[]}
 use Prim.Native.Nat.{ℕ, zero, suc, _+_}
@@ -38,11 +38,13 @@ inOrder s at p = fits s at && (headed s at && (isPath (keyAt s at) && (referring
 abbrev pub chargeOf : ℕ → ℕ → ℕ → ℕ
 chargeOf E n m = 256 + n + E + bodyCharge m
 
--- n entries from `at` on are in order, behind the key p and with the charge c so far, and the record agrees with where they end
+-- n entries from `at` on are in order, behind the key p and with the charge c so far, and the record agrees with where
+-- they end
 abbrev pub run : Bytes → Record → ℕ → ℕ → Path → ℕ → Bool
 run s r zero at p c = (eqb at (r .used) && eqb c (r .charge)) && zeros (drop at s)
 run s r (suc n) at p c =
-    inOrder s at p && run s r n (entryEnd s at) (keyAt s at) (c + chargeOf (r .«entry_size») (numberAt s at 2) (numberAt s (at + 4) 4))
+    inOrder s at p && run s r n (entryEnd s at) (keyAt s at)
+    (c + chargeOf (r .«entry_size») (numberAt s at 2) (numberAt s (at + 4) 4))
 
 unfoldable pub passes : Bytes → Record → Bool
 passes s r = sized (r .«entry_size») (length s) && run s r (r .count) 0 [] 0

@@ -1,5 +1,5 @@
 // Whether bytes and a record are a table of document 01, in one pass, and opening a buffer as an empty table.
-// Assumes nothing: all bytes and all records are taken.
+// All bytes and all records are taken.
 ghost use mathlib.Core.Path.{_≡_};
 ghost use Prim.Native.Nat.{_+_, _-_, _≤_};
 ghost use lib.ListN.{length, take, drop};
@@ -9,9 +9,6 @@ ghost use Rattle.model.specs.Table.{keyAt, entryEnd, sized, isTable};
 ghost use Rattle.model.specs.Answer.{told};
 ghost use Rattle.model.specs.Outcome.{opened};
 ghost use Rattle.table_open.specs.Pass.{typeRule, fits, headed, referring, inOrder};
-
-// The bytes of an entry before its key.
-const ENTRY_HEAD: usize = 24;
 
 // Whether the entry size and the buffer's length are in their limits.
 fn is_sized(entry_size: u64, len: usize) -> bool
@@ -24,10 +21,10 @@ fn is_sized(entry_size: u64, len: usize) -> bool
 fn is_ruled(kind: u64, body: u64, mtime: u64, size: u64) -> bool
     ensures { λ r. ⌜ r ≡ typeRule kind body mtime size ⌝ }
 {
-    (((kind == 1) & (size == 0))
-        | ((kind == 2) & (size < 0x8000_0000_0000_0000))
-        | ((kind == 3) & ((body == 0) & (size == 0))))
-        | ((kind == 4) & ((body == 0) & ((size == 0) & (mtime == 0))))
+    (((kind == model::OWN_FILE) & (size == 0))
+        | ((kind == model::REFERENCE) & (size < model::SIGN))
+        | ((kind == model::DIRECTORY) & ((body == 0) & (size == 0))))
+        | ((kind == model::DELETED) & ((body == 0) & ((size == 0) & (mtime == 0))))
 }
 
 // Whether the entry that starts at `at` ends within the table.
@@ -35,12 +32,12 @@ fn is_inside(table: &[u8], at: usize) -> bool
     requires { ⌜ at ≤ 16777216 ⌝ }
     ensures { λ r. ⌜ r ≡ fits (now (table .entry)) at ⌝ }
 {
-    if table.len() < at + ENTRY_HEAD {
+    if table.len() < at + model::ENTRY_HEAD {
         return false;
     }
     let n = base_fields::le16(table, at) as usize;
     let m = base_fields::le32(table, at + 4) as usize;
-    at + ENTRY_HEAD + n + m <= table.len()
+    at + model::ENTRY_HEAD + n + m <= table.len()
 }
 
 // Whether the numbers of the entry at `at` go together.
@@ -61,7 +58,7 @@ fn is_keyed(table: &[u8], at: usize) -> bool
     ensures { λ r. ⌜ r ≡ isPath (keyAt (now (table .entry)) at) ⌝ }
 {
     let n = base_fields::le16(table, at) as usize;
-    let from = at + ENTRY_HEAD;
+    let from = at + model::ENTRY_HEAD;
     let to = from + n;
     let key = &table[from..to];
     base_paths::is_path(key)
@@ -73,10 +70,10 @@ fn is_referring(table: &[u8], at: usize) -> bool
     ensures { λ r. ⌜ r ≡ referring (now (table .entry)) at ⌝ }
 {
     let kind = base_fields::le16(table, at + 2);
-    if kind == 2 {
+    if kind == model::REFERENCE {
         let n = base_fields::le16(table, at) as usize;
         let m = base_fields::le32(table, at + 4) as usize;
-        let from = at + ENTRY_HEAD + n;
+        let from = at + model::ENTRY_HEAD + n;
         let to = from + m;
         let body = &table[from..to];
         return (0 < m) & base_paths::is_path(body);
@@ -91,7 +88,7 @@ fn is_behind(table: &[u8], at: usize, from: usize, to: usize) -> bool
     ensures { λ r. ⌜ r ≡ before (take (to - from) (drop from (now (table .entry)))) (keyAt (now (table .entry)) at) ⌝ }
 {
     let n = base_fields::le16(table, at) as usize;
-    let start = at + ENTRY_HEAD;
+    let start = at + model::ENTRY_HEAD;
     let end = start + n;
     let previous = &table[from..to];
     let key = &table[start..end];
@@ -119,9 +116,10 @@ fn is_in_order(table: &[u8], at: usize, from: usize, to: usize) -> bool
     is_behind(table, at, from, to)
 }
 
-// Whether the bytes are a table and the record is its own. The entries are read once, from the first to the last, and each costs a fixed
-// number of passes over its key and, in a reference, its body; then the bytes behind them are read once. So the time is linear in the
-// table's bytes, whatever the record counts: an entry that does not stand there ends the pass.
+// Whether the bytes are a table and the record is its own. The entries are read once, from the first to the last, and
+// each costs a fixed number of passes over its key and, in a reference, its body; then the bytes behind them are read
+// once. So the time is linear in the table's bytes, whatever the record counts: an entry that does not stand there ends
+// the pass.
 pub fn check(table: &[u8], rec: model::Record) -> bool
     ensures { λ b. ⌜ b ≡ isTable (now (table .entry)) rec ⌝ }
 {
@@ -129,7 +127,8 @@ pub fn check(table: &[u8], rec: model::Record) -> bool
     if !is_sized(entry_size, table.len()) {
         return false;
     }
-    // The key before the entry at `at` stands from `from` up to `to`. At first that is the empty one, and so no key is empty.
+    // The key before the entry at `at` stands from `from` up to `to`. At first that is the empty one, and so no key is
+    // empty.
     let mut left = rec.count;
     let mut at: usize = 0;
     let mut from: usize = 0;
@@ -141,7 +140,7 @@ pub fn check(table: &[u8], rec: model::Record) -> bool
         }
         let n = base_fields::le16(table, at);
         let m = base_fields::le32(table, at + 4);
-        from = at + ENTRY_HEAD;
+        from = at + model::ENTRY_HEAD;
         to = from + n as usize;
         at = to + m as usize;
         charge += model::ENTRY_MEMORY_USAGE + n + entry_size + m;
@@ -150,7 +149,8 @@ pub fn check(table: &[u8], rec: model::Record) -> bool
     (at as u64 == rec.used) & (charge == rec.charge) & base_fields::all_zero(table, at)
 }
 
-// Makes the buffer an empty table for entries of this size, and gives its record. What is too large is refused, and nothing changes.
+// Makes the buffer an empty table for entries of this size, and gives its record. What is too large is refused, and
+// nothing changes.
 pub fn open(buffer: &mut [u8], entry_size: u64) -> model::Answered
     ensures { λ r. ⌜ told (r .answer) ≡ opened «entry_size» (now (buffer .entry)) .reply ⌝ }
     ensures { λ r. ⌜ r .«record» ≡ opened «entry_size» (now (buffer .entry)) .store .rec ⌝ }

@@ -1,5 +1,4 @@
 -- One entry removed from a table: what stands before its key stays, then what stands behind it; the record is less by the entry between.
--- Assumes nothing.
 use mathlib.Core.Path.{_≡_, refl, ap, ap₂, sym, subst, _∙_}
 use mathlib.Core.List.{[], _∷_, _++_}
 use mathlib.Core.Bool.{true, false}

@@ -1,5 +1,4 @@
 -- The bytes of a table that is written anew: what each step adds to the work buffer, and what is copied back.
--- Assumes nothing.
 use mathlib.Core.Path.{_≡_, ap, ap₂, sym, _∙_}
 use mathlib.Core.List.{[], _∷_, _++_, append-assoc, append-nil}
 use mathlib.Core.Bool.{true}

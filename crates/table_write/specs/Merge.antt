@@ -1,5 +1,4 @@
 -- A table written anew into a work buffer, in one pass over the old one.
--- Assumes nothing.
 use mathlib.Core.Path.{_≡_}
 use Prim.Native.Nat.{ℕ}
 use lib.ListN.{length, take}
@@ -16,7 +15,8 @@ pub record Written (kind mtime size : ℕ) (body : Bytes) : Type 0 where
   pub long : sizeOf (entryOf kind mtime size body) ≡ size
   pub content : bodyOf (entryOf kind mtime size body) ≡ body
 
--- of the table t, what is passed stands in the first `out` bytes of the work buffer w, and what is ahead in the old table's bytes s from `at` on
+-- of the table t, what is passed stands in the first `out` bytes of the work buffer w, and what is ahead in the old
+-- table's bytes s from `at` on
 pub record Merged (s w : Bytes) (t : Table) (k : Path) (left at out : ℕ) : Type 0 where
   pub passed : Passed s t k left at
   pub front : take out w ≡ encode (passed .done)

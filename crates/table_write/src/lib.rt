@@ -1,6 +1,7 @@
-// A table written anew: what stays is copied from the old table's bytes into the work buffer, entries are put between, and the whole is copied back.
-// Assumes bytes in which entries stand and buffers with room: only this repository's crates call, once it is known that the new table fits.
-// All steps over ascending keys together read the old table once and write each byte of the new one once; `finish` adds a pass over each buffer.
+// A table written anew: what stays is copied from the old table's bytes into the work buffer, entries are put between,
+// and the whole is copied back. Assumes bytes in which entries stand and buffers with room: only this repository's
+// crates call, once it is known that the new table fits. All steps over ascending keys together read the old table once
+// and write each byte of the new one once; `finish` adds a pass over each buffer.
 ghost use mathlib.Core.Path.{_≡_};
 ghost use mathlib.Core.Bool.{true};
 ghost use mathlib.Core.List.{_++_};
@@ -16,7 +17,8 @@ ghost use Rattle.table_entries.specs.Place.{Standing, endOf};
 ghost use Rattle.table_entries.specs.Cut.{upTo};
 ghost use Rattle.table_write.specs.Merge.{Written, Merged};
 
-// How far a table is written: `left` entries of the old one stand from `at` on, and `out` bytes of the new one are in the work buffer.
+// How far a table is written: `left` entries of the old one stand from `at` on, and `out` bytes of the new one are in
+// the work buffer.
 pub struct Merge {
     pub at: usize,
     pub left: u64,
@@ -25,7 +27,8 @@ pub struct Merge {
 
 fn put_sizes(work: &mut [u8], at: usize, n: u64, kind: u64, m: u64)
     requires { ⌜ at + 8 ≤ length (now work) ⌝ }
-    ensures { λ _. ⌜ now (work .exit) ≡ overwritten (now (work .entry)) at (bytes 2 n ++ (bytes 2 kind ++ bytes 4 m)) ⌝ }
+    ensures { λ _. ⌜ now (work .exit) ≡ overwritten (now (work .entry)) at
+        (bytes 2 n ++ (bytes 2 kind ++ bytes 4 m)) ⌝ }
 {
     base_fields::put16(work, at, n);
     base_fields::put16(work, at + 2, kind);
@@ -58,8 +61,8 @@ pub fn put_entry(
     let n = key.len();
     put_sizes(work, at, n as u64, kind, body.len() as u64);
     put_times(work, at + 8, mtime, size);
-    base_fields::copy_in(work, at + 24, key);
-    base_fields::copy_in(work, at + 24 + n, body);
+    base_fields::copy_in(work, at + model::ENTRY_HEAD, key);
+    base_fields::copy_in(work, at + model::ENTRY_HEAD + n, body);
 }
 
 // What stays up to this key, then the entry; the old entry with this key, if any, is passed over.
@@ -75,14 +78,17 @@ pub fn put_next(
 ) -> Merge
     requires { ⌜ Standing (now table) (merge .left) (merge .at) ⌝ }
     requires { ⌜ Written kind mtime size (now body) ⌝ }
-    requires { ⌜ merge .out + length (encode (upTo (now key) (entriesAt (now table) (merge .left) (merge .at)))) + (24 + length (now key) + length
+    requires { ⌜ merge .out + length (encode (upTo (now key) (entriesAt (now table) (merge .left) (merge .at)))) +
+        (24 + length (now key) + length
         (now body)) ≤ length (now work) ⌝ }
-    ensures { λ r. ⌜ ((t : Table) (k : Path) → Merged (now (table .entry)) (now (work .entry)) t k (merge .left) (merge .at) (merge .out)
+    ensures { λ r. ⌜ ((t : Table) (k : Path) → Merged (now (table .entry)) (now (work .entry)) t k (merge .left)
+        (merge .at) (merge .out)
         → before k (now (key .entry)) ≡ true
         → Merged (now (table .entry)) (now (work .exit)) (put (now (key .entry))
         (entryOf kind mtime size (now (body .entry))) t) (now (key .entry)) (r .left) (r .at) (r .out)) ⌝ }
     ensures { λ _. ⌜ length (now (work .exit)) ≡ length (now (work .entry)) ⌝ }
-    ensures { λ r. ⌜ endOf (now (table .entry)) (r .left) (r .at) ≡ endOf (now (table .entry)) (merge .left) (merge .at) ⌝ }
+    ensures { λ r. ⌜ endOf (now (table .entry)) (r .left) (r .at)
+        ≡ endOf (now (table .entry)) (merge .left) (merge .at) ⌝ }
 {
     let at = merge.at;
     let left = merge.left;
@@ -97,15 +103,17 @@ pub fn put_next(
     Merge {
         at: next.at,
         left: next.left,
-        out: here + 24 + key.len() + body.len(),
+        out: here + model::ENTRY_HEAD + key.len() + body.len(),
     }
 }
 
-// What is left of the old table, whose entries end at `used`; then the new table back into its buffer, zeros behind it, and the work buffer all zero.
+// What is left of the old table, whose entries end at `used`; then the new table back into its buffer, zeros behind it,
+// and the work buffer all zero.
 pub fn finish(table: &mut [u8], work: &mut [u8], merge: Merge, used: usize)
     requires { ⌜ (merge .at ≤ used) × (used ≤ length (now table)) ⌝ }
     requires { ⌜ (merge .out + (used - merge .at) ≤ length (now table)) × (length (now table) ≤ length (now work)) ⌝ }
-    ensures { λ _. ⌜ ((t : Table) (k : Path) → Merged (now (table .entry)) (now (work .entry)) t k (merge .left) (merge .at) (merge .out)
+    ensures { λ _. ⌜ ((t : Table) (k : Path) → Merged (now (table .entry)) (now (work .entry)) t k (merge .left)
+        (merge .at) (merge .out)
         → used ≡ endOf (now (table .entry)) (merge .left) (merge .at)
         → now (table .exit) ≡ padded (length (now (table .entry))) (encode t)) ⌝ }
     ensures { λ _. ⌜ now (work .exit) ≡ replicate (length (now (work .entry))) 0 ⌝ }

@@ -1,7 +1,8 @@
-// Cases as a text, whose items each end before a bar. An item that begins with # is a title, and the table is opened anew; `+` prints the entries; `!` changes the
-// table's last byte from 0 to 1 and back. Every other item is a call, in columns: its name; from 8 a write's size, or p, e or b for mkdir's flags; from 10 the listing:
-// L the first, M the second, X the first without its last byte; from 12 what the record has wrong: u its used, e its E; from 14 the limit, or dashes; from 20 the
-// path, and for a rename, behind a space, its destination.
+// Cases as a text, whose items each end before a bar. An item that begins with # is a title, and the table is opened
+// anew; `+` prints the entries; `!` changes the table's last byte from 0 to 1 and back. Every other item is a call, in
+// columns: its name; from 8 a write's size, or p, e or b for mkdir's flags; from 10 the listing: L the first, M the
+// second, X the first without its last byte; from 12 what the record has wrong: u its used, e its E; from 14 the limit,
+// or dashes; from 20 the path, and for a rename, behind a space, its destination.
 ghost use Prim.Native.Nat.{_≤_};
 ghost use lib.ListN.{length};
 use crate::tell;
@@ -103,7 +104,8 @@ fn given(rec: Record, wrong: u8) -> Record {
     new
 }
 
-// What a call answered, and whether it kept what it must; a refused call's record is not handed on, since it may be a wrong one.
+// What a call answered, and whether it kept what it must; a refused call's record is not handed on, since it may be a
+// wrong one.
 fn reported(
     table: &[u8],
     old: &[u8],

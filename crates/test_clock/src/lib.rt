@@ -1,5 +1,5 @@
 // The processor time that the running program has used, for programs that tell how long a call takes.
-// Assumes nothing. The C library's clock counts microseconds, and answers -1 where it has no time to tell.
+// The C library's clock counts microseconds, and answers -1 where it has no time to tell.
 ghost use Prim.Native.Nat.{_<_};
 
 // The processor time used so far in microseconds, or 0 where the clock fails.

@@ -1,5 +1,4 @@
 -- The two sides of the test whether the copy has room for the table.
--- Assumes nothing.
 use mathlib.Core.Path.{_≡_, sym, ap}
 use mathlib.Core.Bool.{cond}
 use Prim.Native.Nat.{_-_, _<_, _≤_}

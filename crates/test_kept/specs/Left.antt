@@ -1,5 +1,4 @@
 -- What a call must have left, as a test over the bytes and the record.
--- Assumes nothing.
 use mathlib.Core.Bool.{Bool, _&&_}
 use lib.Dec.{eqb}
 use lib.ListN.{length, take}

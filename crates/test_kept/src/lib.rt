@@ -1,6 +1,6 @@
-// What a program sees to around each changing call: before it the table is copied and the work buffer filled with a byte; after it, a refused call must have
-// kept every byte and the record, and an accepted one must have left a well-formed table and the work buffer all 0.
-// Assumes nothing. Each function costs one pass over the buffers that it is lent.
+// What a program sees to around each changing call: before it the table is copied and the work buffer filled with a
+// byte; after it, a refused call must have kept every byte and the record, and an accepted one must have left a
+// well-formed table and the work buffer all 0. Each function costs one pass over the buffers that it is lent.
 ghost use mathlib.Core.Path.{_≡_};
 ghost use mathlib.Core.Bool.{cond};
 ghost use lib.Dec.{leb};

@@ -1,5 +1,4 @@
 -- Looks along a path: a prefix is searched for from where a shorter one was found.
--- Assumes nothing.
 use mathlib.Core.Path.{_≡_, refl, ap, sym, _∙_}
 use mathlib.Core.List.{[], _∷_}
 use mathlib.Core.Bool.{true, false}

@@ -1,5 +1,5 @@
--- A look at a path's prefixes, one after the other: what is visible there, and from where table and listing are searched on.
--- Assumes nothing.
+-- A look at a path's prefixes, one after the other: what is visible there, and from where table and listing are
+-- searched on.
 use mathlib.Core.Path.{_≡_}
 use mathlib.Core.Bool.{true}
 use Prim.Native.Nat.{ℕ, _≤_}
@@ -24,11 +24,12 @@ visibleKind visible.Directory = aDirectory
 visibleKind visible.File = aFile
 visibleKind visible.Link = aLink
 
--- g is good for every prefix of p of k or more bytes: each is looked up in the listing l by g's walk, and in the table s among the entries from
--- g's place on
+-- g is good for every prefix of p of k or more bytes: each is looked up in the listing l by g's walk, and in the table
+-- s among the entries from g's place on
 pub record Sees (l s : Bytes) (r : Record) (p : Path) (g : Sight) (k : ℕ) : Type 0 where
   pub listing : isListing l ≡ true
   pub table : isTable s r ≡ true
   pub walks : Walks l p (g .walk) k
   pub stand : Standing s (g .place .left) (g .place .at)
-  pub ahead : (j : ℕ) → k ≤ j → j ≤ length p → lookup (tableIn s r) (take j p) ≡ lookup (entriesAt s (g .place .left) (g .place .at)) (take j p)
+  pub ahead : (j : ℕ) → k ≤ j → j ≤ length p → lookup (tableIn s r) (take j p)
+      ≡ lookup (entriesAt s (g .place .left) (g .place .at)) (take j p)

@@ -57,7 +57,8 @@ fn of_target(target: listing_records::RealTarget) -> Visible
 
 // What is visible where the table has this entry, or none, and the listing this.
 fn over(entry: table_entries::OverlayEntry, target: listing_records::RealTarget) -> Visible
-    ensures { λ r. ⌜ ((s : Bytes) (e : Option Entry) (n : Option Node) → saidOf s entry ≡ said e → targetKind target ≡ kindOf n
+    ensures { λ r. ⌜ ((s : Bytes) (e : Option Entry) (n : Option Node) → saidOf s entry ≡ said e
+        → targetKind target ≡ kindOf n
         → visibleKind r ≡ kindOf (tree.over e n)) ⌝ }
 {
     match entry {
@@ -136,7 +137,8 @@ pub fn look(
 pub fn visible_at(listing: &[u8], table: &[u8], rec: model::Record, path: &[u8]) -> Visible
     requires { ⌜ isListing (now listing) ≡ true ⌝ }
     requires { ⌜ isTable (now table) rec ≡ true ⌝ }
-    ensures { λ r. ⌜ visibleKind r ≡ kind (shown (tableIn (now (table .entry)) rec) (treeIn (now (listing .entry)))) (now (path .entry)) ⌝ }
+    ensures { λ r. ⌜ visibleKind r ≡ kind (shown (tableIn (now (table .entry)) rec) (treeIn (now (listing .entry))))
+        (now (path .entry)) ⌝ }
 {
     if path.len() == 0 {
         return Visible::Directory;
@@ -144,4 +146,24 @@ pub fn visible_at(listing: &[u8], table: &[u8], rec: model::Record, path: &[u8])
     let entry = table_entries::get(table, rec, path);
     let target = listing_dir::kind_of(listing, path);
     over(entry, target)
+}
+
+// Whether what is visible is a directory.
+pub fn is_directory(visible: Visible) -> bool
+    ensures { λ r. ⌜ r ≡ isDirectory (visibleKind visible) ⌝ }
+{
+    match visible {
+        Visible::Nothing => {
+            return false;
+        }
+        Visible::Directory => {
+            return true;
+        }
+        Visible::File => {
+            return false;
+        }
+        Visible::Link => {
+            return false;
+        }
+    }
 }

@@ -1,5 +1,4 @@
 -- The search for a listed child without an entry: records and entries are passed side by side, since both ascend.
--- Assumes nothing.
 use mathlib.Core.Path.{_≡_, refl, ap, sym, _∙_}
 use mathlib.Core.List.{List, [], _∷_}
 use mathlib.Core.Bool.{Bool, true, false, _&&_, _||_}

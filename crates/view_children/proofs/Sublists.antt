@@ -1,5 +1,4 @@
 -- A child of a directory lies below it, so what is asked of children is asked of the part below it alone.
--- Assumes nothing.
 use mathlib.Core.Path.{_≡_, refl, ap, _∙_}
 use mathlib.Core.List.{[], _∷_}
 use mathlib.Core.Bool.{Bool, true, false, not, _&&_, _||_}

@@ -1,5 +1,4 @@
 -- The visible children of a directory, in two parts: entries that are not deleted, and listed paths without an entry.
--- Assumes nothing.
 use mathlib.Core.Bool.{Bool, _&&_}
 use Rattle.model.specs.Bytes.{some?}
 use Rattle.model.specs.Path.{Path, child}

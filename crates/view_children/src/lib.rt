@@ -1,6 +1,6 @@
-// Whether a directory has a visible child: `overlay_directory_has_children` and `real_directory_has_visible_children` of overlay.rs.
-// Assumes a listing and a table that were checked: only this repository's crates call.
-// Entries and records below a directory are one part each; both ascend, so each part is read once, beside one pass to find it.
+// Whether a directory has a visible child: `overlay_directory_has_children` and `real_directory_has_visible_children`
+// of overlay.rs. Assumes a listing and a table that were checked: only this repository's crates call. Entries and
+// records below a directory are one part each; both ascend, so each part is read once, beside one pass to find it.
 ghost use mathlib.Core.Path.{_≡_};
 ghost use mathlib.Core.Bool.{true, _||_};
 ghost use Rattle.model.specs.Map.{keys};
@@ -54,7 +54,7 @@ fn listed_without_entry(
             path,
         );
         let entry = got.entry;
-        if table_below::is_child(dir, path) & table_entries::is_absent(entry) {
+        if base_paths::is_child(dir, path) & table_entries::is_absent(entry) {
             return true;
         }
         let next = listing_records::next_record(part, here);
@@ -76,7 +76,8 @@ pub fn real_directory_has_visible_children(
 ) -> bool
     requires { ⌜ isListing (now listing) ≡ true ⌝ }
     requires { ⌜ isTable (now table) rec ≡ true ⌝ }
-    ensures { λ r. ⌜ r ≡ listedIn (tableIn (now (table .entry)) rec) (now (dir .entry)) (treeIn (now (listing .entry))) ⌝ }
+    ensures { λ r. ⌜ r ≡ listedIn (tableIn (now (table .entry)) rec) (now (dir .entry))
+        (treeIn (now (listing .entry))) ⌝ }
 {
     let part = listing_records::below(listing, dir);
     let from = part.from;
@@ -89,7 +90,8 @@ pub fn real_directory_has_visible_children(
 pub fn has_visible_children(listing: &[u8], table: &[u8], rec: model::Record, dir: &[u8]) -> bool
     requires { ⌜ isListing (now listing) ≡ true ⌝ }
     requires { ⌜ isTable (now table) rec ≡ true ⌝ }
-    ensures { λ r. ⌜ r ≡ (visibleChild (shown (tableIn (now (table .entry)) rec) (treeIn (now (listing .entry)))) (now (dir .entry)) (keys
+    ensures { λ r. ⌜ r ≡ (visibleChild (shown (tableIn (now (table .entry)) rec) (treeIn (now (listing .entry))))
+        (now (dir .entry)) (keys
         (tableIn (now (table .entry)) rec)) || visibleChild (shown (tableIn (now (table .entry)) rec)
         (treeIn (now (listing .entry)))) (now (dir .entry)) (keys (treeIn (now (listing .entry))))) ⌝ }
 {

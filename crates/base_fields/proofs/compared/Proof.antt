@@ -1,5 +1,4 @@
 -- `base_fields::compared` meets its contract: the bytes in common, and what stands behind them, decide the order.
--- Assumes nothing.
 use mathlib.Core.Path.{sym, ap}
 use Prim.Native.Nat.{ℕ, Ordering}
 use borrow.Author.Needs.{needs}

@@ -1,5 +1,5 @@
 -- `base_fields::copy_in` meets its contract. The invariant: t is t₀ with the first i bytes of src written over it.
--- The measure is what is left of src. Assumes nothing.
+-- The measure is what is left of src.
 use mathlib.Core.Path.{_≡_, ap, _∙_}
 use Prim.Native.Nat.{_-_, _≤_}
 use native.Mathlib.Omega.{arith}

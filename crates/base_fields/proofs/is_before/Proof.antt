@@ -1,5 +1,4 @@
 -- `base_fields::is_before` meets its contract: 0 is the code of a string before the other, and of no others.
--- Assumes nothing.
 use mathlib.Core.Path.{_≡_, refl, ap, _∙_}
 use mathlib.Core.Bool.{true, false}
 use Prim.Native.Nat.{ℕ, Ordering, Ordering·lt, Ordering·eq, Ordering·gt}

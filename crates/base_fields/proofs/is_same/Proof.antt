@@ -1,5 +1,4 @@
 -- `base_fields::is_same` meets its contract: 1 is the code of equal strings, and of no others.
--- Assumes nothing.
 use mathlib.Core.Path.{_≡_, refl, ap, _∙_}
 use Prim.Native.Nat.{ℕ, Ordering, Ordering·lt, Ordering·eq, Ordering·gt}
 use lib.Dec.{isEq, eqb}

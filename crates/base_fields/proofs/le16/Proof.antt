@@ -1,5 +1,4 @@
 -- `base_fields::le16` meets its contract: the two bytes, each at its weight, are the number there.
--- Assumes nothing.
 use native.Mathlib.Omega.{arith}
 use borrow.Author.Needs.{needs}
 use Rattle.base_fields.proofs.Numbers.{numberAt-sum}

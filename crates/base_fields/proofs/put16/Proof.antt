@@ -1,5 +1,4 @@
 -- `base_fields::put16` meets its contract: two stores are one write of two bytes.
--- Assumes nothing.
 use native.Mathlib.Omega.{arith}
 use lib.ListN.{length-set}
 use borrow.Author.Needs.{needs}

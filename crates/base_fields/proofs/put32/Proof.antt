@@ -1,5 +1,4 @@
 -- `base_fields::put32` meets its contract: a number is written in two halves.
--- Assumes nothing.
 use mathlib.Core.Path.{_∙_}
 use borrow.Author.Needs.{needs}
 use Rattle.base_fields.proofs.Writes.{number-twice}

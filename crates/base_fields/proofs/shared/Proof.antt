@@ -1,5 +1,5 @@
 -- `base_fields::shared` meets its contract. The invariant: what is in common from i on, and i, are what is in common.
--- The measure is what is left of the first. Assumes nothing.
+-- The measure is what is left of the first.
 use mathlib.Core.Path.{_≡_}
 use Prim.Native.Nat.{_+_, _-_, _≤_}
 use native.Mathlib.Omega.{arith}

@@ -1,5 +1,5 @@
 -- `base_fields::zero_from` meets its contract. The invariant is `Zeroed`: zeros stand from `from` up to `at`.
--- The measure is what is left of the buffer. Assumes nothing.
+-- The measure is what is left of the buffer.
 use Prim.Native.Nat.{_-_}
 use native.Mathlib.Omega.{arith}
 use lib.ListN.{length, length-set}

@@ -1,13 +1,12 @@
 -- `base_paths::is_path` meets its contract. The loop's invariant: what the two states ask of the bytes to come is what the definition
 -- asks of all of them. The measure is how many are to come.
--- Assumes nothing.
 use mathlib.Core.Path.{refl}
 use Prim.Native.Nat.{_-_}
 use native.Mathlib.Omega.{arith}
 use lib.ListN.{length}
 use borrow.Author.Needs.{needs}
 use Rattle.model.specs.Utf8.{characters}
-use Rattle.base_paths.specs.Scan.{pending, rest}
+use Rattle.base_paths.specs.Scan.{pending, completes}
 use Rattle.base_paths.proofs.Pass.{Kept, advance, too-long, root, judged}
 use Rattle.base_paths.proofs.is_path.Statement.{statement}
 use Rattle.base_paths.proofs.is_path.Tie as tie
@@ -54,7 +53,7 @@ loop-again c =
     let t = x .next-tail in
     let n = c .next-names in
     let texts = advance (characters (pending (l .t))) (characters (pending (t .result))) in
-    let names = advance (rest (l .n)) (rest (n .result)) in
+    let names = advance (completes (l .n)) (completes (n .result)) in
     record {
       within = omega arith;
       few-bytes = omega arith;

@@ -1,5 +1,4 @@
 -- `answered` meets its contract: each case is answered as the definition does.
--- Assumes nothing.
 use mathlib.Core.Path.{ap, sym}
 use borrow.Author.Needs.{needs}
 use Rattle.table_insert.specs.declared.Inserted.{Inserted}

@@ -1,5 +1,4 @@
 -- `at_path` meets its contract: each case gives what the definition gives for it.
--- Assumes nothing.
 use borrow.Author.Needs.{needs}
 use Rattle.call_mkdir.proofs.Steps.{at-case, at-taken}
 use Rattle.call_mkdir.proofs.at_path.Statement.{statement}

@@ -1,5 +1,4 @@
 -- `judge_at` meets its contract: by what the path shows it is refused, accepted as it stands, or its parents decide.
--- Assumes nothing.
 use mathlib.Core.Path.{refl}
 use borrow.Author.Needs.{needs}
 use lib.ListN.{length}

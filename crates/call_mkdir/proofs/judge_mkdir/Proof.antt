@@ -1,5 +1,4 @@
 -- `judge_mkdir` meets its contract: 1, 2 and 3, then 4 to 8.
--- Assumes nothing.
 use borrow.Author.Needs.{needs}
 use lib.Dec.{leb}
 use lib.ListN.{length}
@@ -8,7 +7,7 @@ use Rattle.model.specs.Tree.{shown, kind}
 use Rattle.model.specs.Listing.{isListing, treeIn}
 use Rattle.model.specs.Table.{isTable, tableIn}
 use Rattle.model.specs.Checks.{_then_, mkdirAt, mkdirParents}
-use Rattle.call_answer.proofs.Firsts.{firsts}
+use Rattle.check_lent.proofs.Firsts.{firsts}
 use Rattle.call_mkdir.proofs.Steps.{on-refused, ready-known, ready-on, refused-not-make, refused-not-there}
 use Rattle.call_mkdir.proofs.judge_mkdir.Statement.{statement}
 use Rattle.call_mkdir.proofs.judge_mkdir.Tie as tie

@@ -1,12 +1,11 @@
 -- `make_at` meets its contract: the parents' check refuses, or gives the directories to make.
--- Assumes nothing.
 use mathlib.Core.Path.{ap}
 use borrow.Author.Needs.{needs}
 use Rattle.model.specs.Tree.{shown}
 use Rattle.model.specs.Listing.{treeIn}
 use Rattle.model.specs.Table.{tableIn}
 use Rattle.model.specs.Checks.{mkdirParents}
-use Rattle.check_parents.specs.Judged.{checkOf}
+use Rattle.check_judged.specs.Judged.{checkOf}
 use Rattle.call_mkdir.proofs.Steps.{on-refused, on-passed, refused-not-make, not-root}
 use Rattle.call_mkdir.proofs.make_at.Statement.{statement}
 use Rattle.call_mkdir.proofs.make_at.Tie as tie

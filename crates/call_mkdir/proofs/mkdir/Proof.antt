@@ -1,7 +1,6 @@
 -- `mkdir` meets its contract: refused by its checks, accepted where the directory is there, or as the insertion of its directories answers.
--- Assumes nothing.
 use borrow.Author.Needs.{needs}
-use Rattle.check_parents.specs.Dirs.{endsOf, prefixes}
+use Rattle.base_paths.specs.Dirs.{endsOf, prefixes}
 use Rattle.call_mkdir.proofs.Outcomes.{step-refused, step-there, step-made}
 use Rattle.call_mkdir.proofs.mkdir.Statement.{statement}
 use Rattle.call_mkdir.proofs.mkdir.Tie as tie

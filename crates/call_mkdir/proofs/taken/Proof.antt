@@ -1,5 +1,4 @@
 -- `taken` meets its contract: accepted or refused with 6.
--- Assumes nothing.
 use Rattle.call_mkdir.proofs.Steps.{taken-so}
 use Rattle.call_mkdir.proofs.taken.Statement.{statement}
 use Rattle.call_mkdir.proofs.taken.Tie as tie

@@ -1,5 +1,4 @@
 -- `to_create` meets its contract: with the flag by the missing ancestors and the path, without it by the parents' check and the path alone.
--- Assumes nothing.
 use mathlib.Core.Path.{refl}
 use native.Mathlib.Omega.{arith}
 use borrow.Author.Needs.{needs}
@@ -7,8 +6,8 @@ use lib.ListN.{length}
 use Rattle.model.specs.Tree.{shown}
 use Rattle.model.specs.Listing.{treeIn}
 use Rattle.model.specs.Table.{tableIn}
-use Rattle.check_parents.specs.Judged.{checkOf}
-use Rattle.check_parents.specs.Dirs.{endsOf}
+use Rattle.check_judged.specs.Judged.{checkOf}
+use Rattle.base_paths.specs.Dirs.{endsOf}
 use Rattle.call_mkdir.proofs.Made.{made-all, made-one, one-climbs}
 use Rattle.call_mkdir.proofs.Steps.{parents-made, parents-there}
 use Rattle.call_mkdir.proofs.to_create.Statement.{statement}

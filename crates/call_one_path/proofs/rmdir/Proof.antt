@@ -1,5 +1,4 @@
 -- `rmdir` meets its contract: refused by its checks, or as the insertion of a deleted entry answers.
--- Assumes nothing.
 use mathlib.Core.Path.{refl}
 use borrow.Author.Needs.{needs}
 use Rattle.model.specs.Listing.{treeIn}

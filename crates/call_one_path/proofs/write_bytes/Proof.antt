@@ -1,5 +1,4 @@
 -- `write_bytes` meets its contract: refused by its checks, or as the insertion of its file answers.
--- Assumes nothing.
 use mathlib.Core.Path.{refl}
 use borrow.Author.Needs.{needs}
 use Rattle.model.specs.Tree.{shown}

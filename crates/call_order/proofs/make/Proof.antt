@@ -1,5 +1,4 @@
 -- `make` meets its contract: each kind is made by its own call.
--- Assumes nothing.
 use borrow.Author.Needs.{needs}
 use Rattle.call_answer.specs.Meets.{stored}
 use Rattle.call_order.proofs.Cases.{by-kind}

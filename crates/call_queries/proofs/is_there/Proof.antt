@@ -1,5 +1,4 @@
 -- `is_there` meets its contract: each case says what the definition says of it.
--- Assumes nothing.
 use borrow.Author.Needs.{needs}
 use Rattle.model.specs.Calls as calls
 use Rattle.call_queries.proofs.Asks.{case-said}

@@ -1,5 +1,4 @@
 -- `unanswered` meets its contract: a refusal is told as it is, and where the checks passed nothing is asked of it.
--- Assumes nothing.
 use borrow.Author.Needs.{needs}
 use Rattle.call_queries.proofs.Asks.{not-refused, refused-told}
 use Rattle.call_queries.proofs.unanswered.Statement.{statement}

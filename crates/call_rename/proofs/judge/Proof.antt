@@ -1,11 +1,10 @@
 -- `judge` meets its contract: 1, 2 and 3, then the checks before the plan, then the plan of a directory.
--- Assumes nothing.
 use borrow.Author.Needs.{needs}
 use Rattle.model.specs.Listing.{treeIn}
 use Rattle.model.specs.Table.{tableIn}
 use Rattle.model.specs.Checks.{_then_, limited}
-use Rattle.check_parents.specs.Judged.{checkOf}
-use Rattle.check_one_path.proofs.Thens.{ends, goes-on}
+use Rattle.check_judged.specs.Judged.{checkOf}
+use Rattle.check_judged.proofs.Thens.{ends, goes-on}
 use Rattle.rename_checks.specs.Both.{earlyChecks}
 use Rattle.call_rename.specs.First.{firstChecks, directoryChecks}
 use Rattle.call_rename.proofs.Verdicts.{ready-known}

@@ -1,5 +1,4 @@
 -- `plan_directory` meets its contract: the plan is made where the source is a directory, and only there.
--- Assumes nothing.
 use borrow.Author.Needs.{needs}
 use lib.ListN.{length}
 use Rattle.model.specs.Map.{lookup}
@@ -9,7 +8,7 @@ use Rattle.model.specs.Table.{tableIn}
 use Rattle.model.specs.Checks.{_then_, limited}
 use Rattle.model.specs.Rename.{ifDirectory, plan, budget, walkFrom, walked}
 use Rattle.view_at.specs.Sight.{visibleKind}
-use Rattle.check_parents.specs.Judged.{checkOf}
+use Rattle.check_judged.specs.Judged.{checkOf}
 use Rattle.call_rename.proofs.Verdicts.{is-planned, not-planned}
 use Rattle.call_rename.proofs.plan_directory.Statement.{statement}
 use Rattle.call_rename.proofs.plan_directory.Tie as tie

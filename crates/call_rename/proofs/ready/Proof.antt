@@ -1,5 +1,4 @@
 -- `ready` meets its contract: 1, 2 and 3 for the source, then 3 for the destination.
--- Assumes nothing.
 use mathlib.Core.Path.{_≡_, ap, _∙_}
 use mathlib.Core.Bool.{_&&_}
 use borrow.Author.Needs.{needs}
@@ -8,8 +7,8 @@ use lib.ListN.{length}
 use Rattle.model.specs.Listing.{isListing}
 use Rattle.model.specs.Table.{isTable}
 use Rattle.model.specs.Checks.{Check, _then_, unless, form}
-use Rattle.check_parents.specs.Judged.{checkOf}
-use Rattle.check_one_path.proofs.Thens.{ends, goes-on}
+use Rattle.check_judged.specs.Judged.{checkOf}
+use Rattle.check_judged.proofs.Thens.{ends, goes-on}
 use Rattle.call_answer.proofs.Settles.{then-assoc}
 use Rattle.call_rename.proofs.ready.Statement.{statement}
 use Rattle.call_rename.proofs.ready.Tie as tie

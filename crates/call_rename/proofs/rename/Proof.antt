@@ -1,5 +1,4 @@
 -- `rename` meets its contract: refused by its checks, by 11, 12 or 13, or written anew.
--- Assumes nothing.
 use borrow.Author.Needs.{needs}
 use borrow.Author.Tests.{leb-true}
 use lib.ListN.{length}
@@ -49,8 +48,8 @@ visible-at-requires c κs =
 is-directory-requires : tie.Need-is-directory-requires
 is-directory-requires c κs = search needs
 
-measure-requires : tie.Need-measure-requires
-measure-requires c κs =
+last-checks-requires : tie.Need-last-checks-requires
+last-checks-requires c κs =
     let a = c .before .before .before .before .before .before .before .before .before .before .before .before .before .args in
     let s = a .table .now in
     let w = a .work .now in
@@ -81,7 +80,7 @@ returns-2 c =
     let y = a .destination .now in
     let j = c .before .before .before .before .before .before .before .before .before .before .judge in
     let g = c .before .before .before .before .before .before .before .before .enum-told .given .1 in
-    let m = c .before .before .before .measure in
+    let m = c .before .before .before .last-checks in
     settled-refused l s (a .rec) w x y (a .limit) (j .result) (j .ensures) g (m .result) (m .ensures .0) _ (c .before .settled .given .1)
 
 enum-known-settled-2 : tie.Need-enum-known-settled-2
@@ -101,7 +100,7 @@ write-move-requires c κs =
     let e = early l s (a .rec) w x y (a .limit) (j .result) (j .ensures) g in
     let v = c .before .before .before .before .before .before .before .before .visible-at in
     let d = c .before .before .before .before .before .before .before .is-directory in
-    let m = c .before .before .before .before .before .measure in
+    let m = c .before .before .before .before .before .last-checks in
     let f = settled-fits l s (a .rec) w x y (a .limit) (j .result) (j .ensures) g (m .result) (m .ensures .0) _ (c .before .before .before .settled2 .given .1) in
     let n = kind-whole (tableIn s (a .rec)) (treeIn l) x y e (visibleKind (v .result)) (v .ensures) (d .result) (d .ensures) in
     (k .0, (k .2, (e, (n, (f .0, (f .1, leb-true (length s) (length w) (k .1)))))))
@@ -122,7 +121,7 @@ returns-3 c =
     let y = a .destination .now in
     let j = c .before .before .before .before .before .before .before .before .before .before .before .before .before .before .before .before .before .judge in
     let g = c .before .before .before .before .before .before .before .before .before .before .before .before .before .before .before .enum-told .given .1 in
-    let m = c .before .before .before .before .before .before .before .before .before .before .measure in
+    let m = c .before .before .before .before .before .before .before .before .before .before .last-checks in
     let h = c .before .before .before .before .before .before .before .before .settled2 .given .1 in
     let z = c .before .before .before .before .write-move in
     settled-done l s (a .rec) w x y (a .limit) (j .result) (j .ensures) g (m .result) (m .ensures .0) _ h (m .ensures .1 _ h) (z .last .0)
@@ -139,7 +138,7 @@ rename-spec =
     enum-told
     visible-at-requires
     is-directory-requires
-    measure-requires
+    last-checks-requires
     enum-known-settled
     same-length-2
     returns-2

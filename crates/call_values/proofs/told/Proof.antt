@@ -1,5 +1,4 @@
 -- `told` meets its contract, by the case of the answer.
--- Assumes nothing.
 use mathlib.Core.Path.{refl}
 use borrow.Author.Needs.{needs}
 use Rattle.call_values.proofs.Cases.{by-answer}

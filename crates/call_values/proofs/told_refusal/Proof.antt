@@ -1,5 +1,4 @@
 -- `told_refusal` meets its contract: each refusal has the row that the definition gives it.
--- Assumes nothing.
 use borrow.Author.Needs.{needs}
 use Rattle.call_values.proofs.Cases.{by-refusal}
 use Rattle.call_values.proofs.told_refusal.Statement.{statement}

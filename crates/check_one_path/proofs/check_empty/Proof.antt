@@ -1,5 +1,4 @@
 -- `check_empty` meets its contract: the test decides.
--- Assumes nothing.
 use mathlib.Core.Bool.{_||_}
 use lib.ListN.{length}
 use borrow.Author.Needs.{needs}
@@ -8,7 +7,7 @@ use Rattle.model.specs.Tree.{shown}
 use Rattle.model.specs.Listing.{treeIn}
 use Rattle.model.specs.Table.{tableIn}
 use Rattle.model.specs.Checks.{pass, refuse, visibleChild}
-use Rattle.check_one_path.proofs.Thens.{when, otherwise}
+use Rattle.check_judged.proofs.Thens.{when, otherwise}
 use Rattle.check_one_path.proofs.check_empty.Statement.{statement}
 use Rattle.check_one_path.proofs.check_empty.Tie as tie
 

@@ -1,5 +1,4 @@
 -- `rmdir_checks` meets its contract: the root, then what the path's entry or the listing gives, then whether it is empty.
--- Assumes nothing.
 use lib.ListN.{length}
 use borrow.Author.Needs.{needs}
 use Rattle.model.specs.Map.{lookup}
@@ -7,8 +6,8 @@ use Rattle.model.specs.Tree.{shown, kind}
 use Rattle.model.specs.Listing.{treeIn}
 use Rattle.model.specs.Table.{tableIn}
 use Rattle.model.specs.Checks.{_then_, parentChecks, rmdirAt, rmdirEntry, noVisibleChild}
-use Rattle.check_parents.specs.Judged.{checkOf}
-use Rattle.check_one_path.proofs.Thens.{ends, goes-on, root-given, not-root}
+use Rattle.check_judged.specs.Judged.{checkOf}
+use Rattle.check_judged.proofs.Thens.{ends, goes-on, root-given, not-root}
 use Rattle.check_one_path.proofs.rmdir_checks.Statement.{statement}
 use Rattle.check_one_path.proofs.rmdir_checks.Tie as tie
 

@@ -1,5 +1,4 @@
 -- `check_ancestor` meets its contract: each case gives what the definition gives for it.
--- Assumes nothing.
 use mathlib.Core.Path.{ap, sym}
 use borrow.Author.Needs.{needs}
 use Rattle.model.specs.Checks.{ancestorAt}
@@ -26,7 +25,7 @@ enum-told-3 c = search needs
 returns-3 : tie.Need-returns-3
 returns-3 c =
     let a = c .before .before .args in
-    sym (ap (λ (v : Visible). ancestor (a .end) (a .len) (visibleKind v)) (c .enum-told3 .given .1))
+    sym (ap (λ (v : Visible). ancestorAt (a .end) (a .len) (visibleKind v)) (c .enum-told3 .given .1))
 
 enum-told-4 : tie.Need-enum-told-4
 enum-told-4 c = search needs
@@ -34,7 +33,7 @@ enum-told-4 c = search needs
 returns-4 : tie.Need-returns-4
 returns-4 c =
     let a = c .before .before .args in
-    sym (ap (λ (v : Visible). ancestor (a .end) (a .len) (visibleKind v)) (c .enum-told4 .given .1))
+    sym (ap (λ (v : Visible). ancestorAt (a .end) (a .len) (visibleKind v)) (c .enum-told4 .given .1))
 
 pub check-ancestor-spec : {M : Type 1} → statement M
 check-ancestor-spec =

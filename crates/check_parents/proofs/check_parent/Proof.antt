@@ -1,5 +1,4 @@
 -- `check_parent` meets its contract: each case gives what the definition gives for it.
--- Assumes nothing.
 use mathlib.Core.Path.{ap, sym}
 use borrow.Author.Needs.{needs}
 use Rattle.model.specs.Checks.{parentAt}
@@ -14,7 +13,7 @@ enum-told c = search needs
 returns : tie.Need-returns
 returns c =
     let a = c .before .before .args in
-    sym (ap (λ (v : Visible). parent (a .which) (a .len) (visibleKind v)) (c .enum-told .given .1))
+    sym (ap (λ (v : Visible). parentAt (a .which) (a .len) (visibleKind v)) (c .enum-told .given .1))
 
 enum-told-2 : tie.Need-enum-told-2
 enum-told-2 c = search needs
@@ -28,7 +27,7 @@ enum-told-3 c = search needs
 returns-3 : tie.Need-returns-3
 returns-3 c =
     let a = c .before .before .args in
-    sym (ap (λ (v : Visible). parent (a .which) (a .len) (visibleKind v)) (c .enum-told3 .given .1))
+    sym (ap (λ (v : Visible). parentAt (a .which) (a .len) (visibleKind v)) (c .enum-told3 .given .1))
 
 enum-told-4 : tie.Need-enum-told-4
 enum-told-4 c = search needs
@@ -36,7 +35,7 @@ enum-told-4 c = search needs
 returns-4 : tie.Need-returns-4
 returns-4 c =
     let a = c .before .before .args in
-    sym (ap (λ (v : Visible). parent (a .which) (a .len) (visibleKind v)) (c .enum-told4 .given .1))
+    sym (ap (λ (v : Visible). parentAt (a .which) (a .len) (visibleKind v)) (c .enum-told4 .given .1))
 
 pub check-parent-spec : {M : Type 1} → statement M
 check-parent-spec =

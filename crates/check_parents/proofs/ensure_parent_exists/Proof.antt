@@ -1,6 +1,5 @@
 -- `ensure_parent_exists` meets its contract. The loop's invariant: the parents from the cursor on give what all give.
 -- The measure is how many bytes are to come.
--- Assumes nothing.
 use mathlib.Core.Path.{_≡_, sym, _∙_}
 use Prim.Native.Nat.{_-_, _≤_}
 use native.Mathlib.Omega.{arith}
@@ -14,7 +13,7 @@ use Rattle.model.specs.Checks.{parentChecks, parentsIn}
 use Rattle.model.proofs.Codec.{path-short}
 use Rattle.base_paths.specs.Ancestors.{ancestorsFrom}
 use Rattle.view_at.specs.Sight.{visibleKind}
-use Rattle.check_parents.specs.Judged.{checkOf}
+use Rattle.check_judged.specs.Judged.{checkOf}
 use Rattle.check_parents.proofs.Parents.{Along, along-first, along-look, along-next, parents-first, parents-last, parents-next, parents-stop}
 use Rattle.check_parents.proofs.ensure_parent_exists.Statement.{statement}
 use Rattle.check_parents.proofs.ensure_parent_exists.Tie as tie

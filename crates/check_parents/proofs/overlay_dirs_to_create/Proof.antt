@@ -1,6 +1,5 @@
 -- `overlay_dirs_to_create` meets its contract. The loop's invariant: the ancestors from the cursor on are judged as all are, and the missing ones
 -- among them follow the ends found so far. The measure is how many bytes are to come.
--- Assumes nothing.
 use mathlib.Core.Path.{ap, sym, _∙_}
 use Prim.Native.Nat.{_-_, _≤_}
 use native.Mathlib.Omega.{arith}
@@ -11,9 +10,9 @@ use Rattle.model.specs.Listing.{treeIn}
 use Rattle.model.specs.Table.{tableIn}
 use Rattle.model.proofs.Codec.{path-short}
 use Rattle.view_at.specs.Sight.{visibleKind}
-use Rattle.check_parents.specs.Judged.{checkOf}
-use Rattle.check_parents.specs.Dirs.{endsOf, climbs}
-use Rattle.check_parents.proofs.Checked.{refused-not-passed}
+use Rattle.check_judged.specs.Judged.{checkOf}
+use Rattle.base_paths.specs.Dirs.{endsOf, climbs}
+use Rattle.check_judged.proofs.Checked.{refused-not-passed}
 use Rattle.check_parents.proofs.Parents.{Along, along-first, along-look, along-next}
 use Rattle.check_parents.proofs.Missing.{Going, going-first, going-last, going-climbed, going-room, going-stop, going-next}
 use Rattle.check_parents.proofs.overlay_dirs_to_create.Statement.{statement}

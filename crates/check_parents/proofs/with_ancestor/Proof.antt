@@ -1,11 +1,10 @@
 -- `with_ancestor` meets its contract: a directory adds nothing, anything else its end.
--- Assumes nothing.
 use mathlib.Core.Path.{sym, _∙_}
 use borrow.Author.Needs.{needs}
 use Rattle.model.specs.Tree.{isDirectory}
 use Rattle.view_at.specs.Sight.{visibleKind}
-use Rattle.check_parents.specs.Dirs.{endsOf}
-use Rattle.check_parents.proofs.Ends.{made, unmade}
+use Rattle.base_paths.specs.Dirs.{endsOf}
+use Rattle.base_paths.proofs.Ends.{made, unmade}
 use Rattle.check_parents.proofs.with_ancestor.Statement.{statement}
 use Rattle.check_parents.proofs.with_ancestor.Tie as tie
 

@@ -1,5 +1,4 @@
 -- `listing_check::check` meets its contract: each turn of the loop is a record of the one pass, and each exit has its law.
--- Assumes nothing.
 use mathlib.Core.Path.{refl, sym, _∙_}
 use native.Mathlib.Omega.{arith}
 use borrow.Author.Needs.{needs}

@@ -1,5 +1,4 @@
 -- `listing_check::is_before` meets its contract: the bytes behind those in common decide.
--- Assumes nothing.
 use mathlib.Core.Path.{_≡_, sym}
 use Prim.Native.Nat.{ℕ, _≤_}
 use lib.Dec.{ltb}

@@ -1,5 +1,4 @@
 -- `listing_check::is_headed` meets its contract: one law for each exit.
--- Assumes nothing.
 use mathlib.Core.Path.{sym, _∙_}
 use borrow.Author.Needs.{needs}
 use Rattle.listing_check.proofs.Heads.{too-short, too-long, versioned, unmarked}

@@ -1,5 +1,4 @@
 -- `listing_check::is_marked` meets its contract.
--- Assumes nothing.
 use borrow.Author.Needs.{needs}
 use Rattle.listing_check.proofs.Heads.{marks}
 use Rattle.listing_check.proofs.is_marked.Statement.{statement}

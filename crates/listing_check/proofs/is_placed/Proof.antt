@@ -1,5 +1,4 @@
 -- `listing_check::is_placed` meets its contract: the ancestors from the i-th byte on are left.
--- Assumes nothing.
 use mathlib.Core.Bool.{Bool}
 use mathlib.Core.Path.{_≡_, sym, ap, _∙_}
 use Prim.Native.Nat.{_-_, _≤_}

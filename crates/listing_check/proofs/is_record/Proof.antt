@@ -1,5 +1,4 @@
 -- `listing_check::is_record` meets its contract: one law for each exit.
--- Assumes nothing.
 use mathlib.Core.Path.{_∙_}
 use borrow.Author.Needs.{needs}
 use Rattle.listing_check.proofs.Heads.{no-head, no-path, malformed, by-rule}

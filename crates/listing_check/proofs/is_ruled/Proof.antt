@@ -1,5 +1,4 @@
 -- `listing_check::is_ruled` meets its contract: it tests the numbers that stand in the record.
--- Assumes nothing.
 use borrow.Author.Needs.{needs}
 use Rattle.listing_check.proofs.Heads.{by-numbers}
 use Rattle.listing_check.proofs.is_ruled.Statement.{statement}

@@ -1,5 +1,4 @@
 -- `listing_check::mark` meets its contract: the flags are cleared up to the i-th.
--- Assumes nothing.
 use mathlib.Core.Path.{_≡_}
 use Prim.Native.Nat.{_-_, _≤_, _<_}
 use native.Mathlib.Omega.{arith}

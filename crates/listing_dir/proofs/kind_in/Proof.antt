@@ -1,5 +1,4 @@
 -- `kind_in` meets its contract: the kind of what is found, and the root apart.
--- Assumes nothing.
 use borrow.Author.Needs.{needs}
 use Rattle.model.specs.Map.{lookup}
 use Rattle.model.specs.Listing.{treeIn}

@@ -1,5 +1,4 @@
 -- `below` meets its contract: the records below the directory are gathered, and end at the first record that is not below it.
--- Assumes nothing.
 use native.Mathlib.Omega.{arith}
 use borrow.Author.Needs.{needs}
 use Rattle.listing_records.proofs.Places.{checked, Stand, stands}

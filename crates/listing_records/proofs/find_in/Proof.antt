@@ -1,5 +1,4 @@
 -- `find_in` meets its contract: the search from the first record on finds what the tree has.
--- Assumes nothing.
 use Rattle.listing_records.proofs.Places.{standing-all, seek-stands, found-all}
 use Rattle.listing_records.proofs.find_in.Statement.{statement}
 use Rattle.listing_records.proofs.find_in.Tie as tie

@@ -1,5 +1,4 @@
 -- `first_record` meets its contract: the count stands behind the mark and the version.
--- Assumes nothing.
 use mathlib.Core.Path.{ap}
 use Prim.Native.Nat.{ℕ}
 use Rattle.listing_records.proofs.Places.{checked, standing-all}

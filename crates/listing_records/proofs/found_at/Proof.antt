@@ -1,5 +1,4 @@
 -- `found_at` meets its contract: the first record is taken if its path is the path.
--- Assumes nothing.
 use mathlib.Core.Path.{_∙_}
 use native.Mathlib.Omega.{arith}
 use borrow.Author.Needs.{needs}

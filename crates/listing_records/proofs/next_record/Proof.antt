@@ -1,5 +1,4 @@
 -- `next_record` meets its contract: the record's path is as long as its first two bytes say.
--- Assumes nothing.
 use mathlib.Core.Path.{ap, subst, sym}
 use Prim.Native.Nat.{ℕ, _+_, _-_}
 use native.Mathlib.Omega.{arith}

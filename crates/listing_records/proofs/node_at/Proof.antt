@@ -1,5 +1,4 @@
 -- `node_at` meets its contract: the kind decides, as in the definition.
--- Assumes nothing.
 use borrow.Author.Needs.{needs}
 use Rattle.listing_records.proofs.Places.{node-dir, node-file, node-link}
 use Rattle.listing_records.proofs.node_at.Statement.{statement}

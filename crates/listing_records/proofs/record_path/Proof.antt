@@ -1,5 +1,4 @@
 -- `record_path` meets its contract: the path is the part of the listing behind the record's head.
--- Assumes nothing.
 use native.Mathlib.Omega.{arith}
 use borrow.Author.Needs.{needs}
 use Rattle.listing_records.proofs.Places.{stands, path-here}

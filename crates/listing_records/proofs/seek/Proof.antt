@@ -1,5 +1,4 @@
 -- `seek` meets its contract: a record whose path is before the path is passed, and the first other one is where it ends.
--- Assumes nothing.
 use mathlib.Core.Path.{refl}
 use native.Mathlib.Omega.{arith}
 use borrow.Author.Needs.{needs}

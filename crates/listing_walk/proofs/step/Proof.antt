@@ -1,6 +1,5 @@
 -- `step` meets its contract: a walk of its MIR, by hand. The borrow is opened, the walk is loaded and passed to listing_records' `ComponentWalk::step` with the listing, the path and the end, the walk that it answers is stored, and the borrow is closed at it.
 -- All that the proof knows of the callee is that it meets its contract. The slices are Copy: what they own is had twice, once for the callee and once for the exit. The walk and the end own only facts, so they are had for nothing wherever these are known.
--- Assumes nothing.
 use mathlib.Core.Path.{_≡_, refl, ap}
 use mathlib.Core.Bool.{true, not}
 use Prim.Native.Nat.{ℕ, _<_, _≤_, _^_, _+_}
@@ -221,4 +220,4 @@ step-spec 𝓤 H 𝓜 𝓖 𝓡 =
     entered 𝓤 H (tripleOf 𝓤 H (𝓖 .A) f.signature (f.spec 𝓤 H (𝓖 .A) (𝓜 .mem) (𝓡 .run)))
     (tables 𝓤 H 𝓜 𝓡 code.env .C) (tables 𝓤 H 𝓜 𝓡 code.env .Λ) #step code.function (code.unfolded 𝓤 H 𝓜 𝓡)
     (meets 𝓤 H (𝓖 .A) (givenOf 𝓤 H 𝓜 𝓖) (𝓜 .mem) (𝓡 .run) (tablesOf 𝓤 H 𝓜 (tables 𝓤 H 𝓜 𝓡 code.env))
-    (cited 𝓤 H (Callee 𝓤 H (𝓖 .A) (𝓜 .mem) (𝓡 .run)) 𝓜 𝓡 code.env #callee callee-def.routine code.calls-listing-parts·ComponentWalk·step (callee-thm.met 𝓤 H 𝓜 𝓖 𝓡)))
+    (cited 𝓤 H (Callee 𝓤 H (𝓖 .A) (𝓜 .mem) (𝓡 .run)) 𝓜 𝓡 code.env #callee callee-def.routine code.calls-listing-records·ComponentWalk·step (callee-thm.met 𝓤 H 𝓜 𝓖 𝓡)))

@@ -1,6 +1,5 @@
 -- `step_once` meets its contract: a walk of its MIR, by hand. The walk that is passed is put in a local, lent by `&mut` for the call of `step` at a lifetime made for the call, comes back, and is returned beside the target.
 -- So whoever holds the walk by value, as a covered loop does, goes through the lent step with no proof of this kind. All that the proof knows of `step` is that it meets its contract.
--- Assumes nothing.
 use mathlib.Core.Path.{refl, ap}
 use Prim.Native.Nat.{ℕ, _<_, _^_}
 use mathlib.Core.List.{[], _∷_, List}

@@ -1,5 +1,4 @@
 -- `overlay_check_table` meets its contract: four numbers, and a table with them as its record.
--- Assumes nothing.
 use borrow.Author.Needs.{needs}
 use Rattle.overlay.proofs.Leaving.{not-four, both-tests}
 use Rattle.overlay.proofs.overlay_check_table.Statement.{statement}

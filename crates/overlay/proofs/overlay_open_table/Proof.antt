@@ -1,5 +1,4 @@
 -- `overlay_open_table` meets its contract: the answer of opening, packed, and its record, stored where it is accepted.
--- Assumes nothing.
 use borrow.Author.Needs.{needs}
 use Rattle.overlay.proofs.Leaving.{not-opened, open-fits, open-settled}
 use Rattle.overlay.proofs.overlay_open_table.Statement.{statement}
@@ -13,8 +12,8 @@ returns c =
 open-requires : tie.Need-open-requires
 open-requires c κs = search needs
 
-settle-requires : tie.Need-settle-requires
-settle-requires c κs =
+store-and-pack-requires : tie.Need-store-and-pack-requires
+store-and-pack-requires c κs =
     let a = c .before .before .before .before .before .before .before .before .args in
     let u = c .before .before .before .«open» in
     (c .before .before .before .before .before .if1 .left, open-fits (a .entry-size) (a .table .now) (a .rec .now) (c .before .before .before .before .before .if1 .left) (u .result) (u .ensures .0) (u .ensures .1 .0))
@@ -29,10 +28,10 @@ returns-2 : tie.Need-returns-2
 returns-2 c =
     let a = c .before .before .before .before .before .before .before .before .before .before .before .args in
     let u = c .before .before .before .before .before .before .«open» in
-    let s = c .before .before .settle in
+    let s = c .before .before .store-and-pack in
     open-settled (a .entry-size) (a .table .now) (a .rec .now) (c .before .before .before .before .before .before .before .before .if1 .left) (u .result) (u .ensures .0) (u .ensures .1 .0)
     (s .result) (s .last .0) (u .last .0) (s .ensures .0) (s .ensures .1) (u .ensures .1 .1)
 
 pub overlay-open-table-spec : {M : Type 1} → statement M
 overlay-open-table-spec =
-    tie.close (tie.spec returns open-requires settle-requires same-length same-length-2 returns-2)
+    tie.close (tie.spec returns open-requires store-and-pack-requires same-length same-length-2 returns-2)

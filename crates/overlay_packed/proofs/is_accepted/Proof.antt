@@ -1,5 +1,4 @@
 -- `is_accepted` meets its contract: each case is told as it is.
--- Assumes nothing.
 use borrow.Author.Needs.{needs}
 use Rattle.overlay_packed.proofs.Packing.{refusal-told}
 use Rattle.overlay_packed.proofs.is_accepted.Statement.{statement}

@@ -1,5 +1,4 @@
 -- `pack` meets its contract: the three parts do not overlap, and their sum fits.
--- Assumes nothing.
 use borrow.Author.Needs.{needs}
 use Rattle.overlay_packed.proofs.pack.Statement.{statement}
 use Rattle.overlay_packed.proofs.pack.Tie as tie

@@ -1,5 +1,4 @@
 -- `pack_answer` meets its contract: the answer's row is packed.
--- Assumes nothing.
 use borrow.Author.Needs.{needs}
 use mathlib.Core.Path.{_∙_}
 use Rattle.model.specs.Answer.{told}

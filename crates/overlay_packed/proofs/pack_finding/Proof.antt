@@ -1,5 +1,4 @@
 -- `pack_finding` meets its contract: yes, no, or a refusal's row, packed.
--- Assumes nothing.
 use borrow.Author.Needs.{needs}
 use mathlib.Core.Path.{_∙_}
 use Rattle.overlay_packed.proofs.Packing.{finding-fits, finding-packed}

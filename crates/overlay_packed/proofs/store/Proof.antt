@@ -1,5 +1,4 @@
 -- `store` meets its contract: four stores are the four numbers.
--- Assumes nothing.
 use borrow.Author.Needs.{needs}
 use Rattle.overlay_packed.proofs.Packing.{four-stored}
 use Rattle.overlay_packed.proofs.store.Statement.{statement}

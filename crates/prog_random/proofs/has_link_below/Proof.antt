@@ -1,4 +1,4 @@
--- `prog_random::has_link_below` is safe and ends: the measure is how many paths are to come. Assumes nothing.
+-- `prog_random::has_link_below` is safe and ends: the measure is how many paths are to come.
 use Prim.Native.Nat.{_-_}
 use borrow.Author.Needs.{needs}
 use Rattle.prog_random.proofs.has_link_below.Statement.{statement}

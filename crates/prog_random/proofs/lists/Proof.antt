@@ -1,4 +1,4 @@
--- `prog_random::lists` is safe and ends: the measure is how many lists are to come. Assumes nothing.
+-- `prog_random::lists` is safe and ends: the measure is how many lists are to come.
 use Prim.Native.Nat.{_-_}
 use borrow.Author.Needs.{needs}
 use Rattle.prog_random.proofs.lists.Statement.{statement}

@@ -1,4 +1,4 @@
--- `prog_random::step`  is safe: each lent buffer keeps its length through the calls that it is lent to. Assumes nothing.
+-- `prog_random::step`  is safe: each lent buffer keeps its length through the calls that it is lent to.
 use borrow.Author.Needs.{needs}
 use Rattle.prog_random.proofs.step.Statement.{statement}
 use Rattle.prog_random.proofs.step.Tie as tie

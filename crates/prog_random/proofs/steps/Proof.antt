@@ -1,4 +1,4 @@
--- `prog_random::steps` is safe and ends: each lent buffer keeps its length, and the measure is how many calls are to come. Assumes nothing.
+-- `prog_random::steps` is safe and ends: each lent buffer keeps its length, and the measure is how many calls are to come.
 use mathlib.Core.Path.{_≡_, refl, _∙_}
 use lib.ListN.{length}
 use Prim.Native.Nat.{_-_}

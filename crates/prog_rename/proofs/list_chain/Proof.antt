@@ -1,5 +1,4 @@
 -- `list_chain` meets its contract: a record's path has at most 55 bytes, and so a record at most 74.
--- Assumes nothing.
 use Prim.Native.Nat.{_+_, _*_, _-_, _≤_}
 use mathlib.Core.Path.{_≡_, refl, _∙_}
 use lib.ListN.{length}

@@ -1,5 +1,4 @@
 -- `list_chains` meets its contract: each chain ends at most 1,850 bytes behind its start.
--- Assumes nothing.
 use Prim.Native.Nat.{_+_, _*_, _-_, _≤_}
 use mathlib.Core.Path.{_≡_, refl, _∙_}
 use lib.ListN.{length}

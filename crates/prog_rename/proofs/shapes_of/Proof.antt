@@ -1,5 +1,4 @@
 -- `shapes_of` meets its contract: each shape keeps the buffers' lengths.
--- Assumes nothing.
 use Prim.Native.Nat.{_-_}
 use mathlib.Core.Path.{_≡_, refl, _∙_}
 use lib.ListN.{length}

@@ -1,5 +1,4 @@
 -- `sizes` meets its contract: all buffers keep their length, and the number of nodes rises.
--- Assumes nothing.
 use Prim.Native.Nat.{_-_, _≤_}
 use mathlib.Core.Path.{_≡_, refl, _∙_}
 use lib.ListN.{length}

@@ -1,4 +1,4 @@
--- `read_and_replay` is safe: the part that it hands on has the length read. Assumes nothing.
+-- `read_and_replay` is safe: the part that it hands on has the length read.
 use mathlib.Core.Path.{sym}
 use lib.Seq.{length-take-le}
 use borrow.Author.Needs.{needs}

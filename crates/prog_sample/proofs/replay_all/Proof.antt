@@ -1,4 +1,4 @@
--- `replay_all` is safe and ends: the measure is how many lists are to come. Assumes nothing.
+-- `replay_all` is safe and ends: the measure is how many lists are to come.
 use lib.ListN.{length}
 use Prim.Native.Nat.{_*_, _-_, _≤_}
 use borrow.Author.Needs.{needs}

@@ -1,5 +1,4 @@
 -- `every_length` meets its contract: the counts stay below the length, and the length rises.
--- Assumes nothing.
 use Prim.Native.Nat.{_-_, _≤_}
 use mathlib.Core.Path.{_≡_, refl, _∙_}
 use lib.ListN.{length}

@@ -1,4 +1,4 @@
--- `run_read` is safe: the parts that it hands on have the lengths read. Assumes nothing.
+-- `run_read` is safe: the parts that it hands on have the lengths read.
 use mathlib.Core.Path.{sym}
 use lib.Seq.{length-take-le}
 use borrow.Author.Needs.{needs}

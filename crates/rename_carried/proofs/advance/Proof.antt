@@ -1,5 +1,4 @@
 -- `advance` meets its contract: the stream that was told goes on, and the other one stays.
--- Assumes nothing.
 use borrow.Author.Needs.{needs}
 use Rattle.rename_carried.proofs.Steps.{went-past-entry, went-past-listed}
 use Rattle.rename_carried.proofs.Items.{entry-there, listed-there, not-ended}

@@ -1,5 +1,4 @@
 -- `first` meets its contract: all entries of the one part, and all uncovered records of the other, are to come.
--- Assumes nothing.
 use mathlib.Core.Path.{refl}
 use native.Mathlib.Omega.{arith}
 use Rattle.model.specs.Table.{tableIn}

@@ -1,5 +1,4 @@
 -- `has_next` meets its contract: an item is to come where one of the two numbers is not 0.
--- Assumes nothing.
 use Rattle.rename_carried.proofs.Steps.{some-left}
 use Rattle.rename_carried.proofs.has_next.Statement.{statement}
 use Rattle.rename_carried.proofs.has_next.Tie as tie

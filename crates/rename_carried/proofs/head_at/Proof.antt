@@ -1,5 +1,4 @@
 -- `head_at` meets its contract: an ended stream is never told, and of two that go on the one with the smaller key is.
--- Assumes nothing.
 use mathlib.Core.Path.{ap₂, sym, _∙_}
 use native.Mathlib.Omega.{arith}
 use borrow.Author.Needs.{needs}

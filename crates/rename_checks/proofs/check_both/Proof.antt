@@ -1,5 +1,4 @@
 -- `check_both` meets its contract: the clash, a directory onto one that is not empty, a destination below the source, an absent source.
--- Assumes nothing.
 use borrow.Author.Needs.{needs}
 use mathlib.Core.Bool.{cond}
 use lib.ListN.{length}
@@ -10,8 +9,8 @@ use Rattle.model.specs.Tree.{shown, kind}
 use Rattle.model.specs.Checks.{pass, refuse, _then_, noVisibleChild}
 use Rattle.model.specs.Rename.{noClash, present, ifDirectory}
 use Rattle.view_at.specs.Sight.{visibleKind}
-use Rattle.check_parents.specs.Judged.{checkOf}
-use Rattle.check_one_path.proofs.Thens.{ends, goes-on, goes-on-at}
+use Rattle.check_judged.specs.Judged.{checkOf}
+use Rattle.check_judged.proofs.Thens.{ends, goes-on, goes-on-at}
 use Rattle.rename_checks.proofs.Alone.{clash-at, full-at}
 use Rattle.rename_checks.proofs.check_both.Statement.{statement}
 use Rattle.rename_checks.proofs.check_both.Tie as tie

@@ -1,5 +1,4 @@
 -- `check_destination` meets its contract: the parents, then a link.
--- Assumes nothing.
 use borrow.Author.Needs.{needs}
 use lib.ListN.{length}
 use Rattle.model.specs.Listing.{treeIn}
@@ -8,8 +7,8 @@ use Rattle.model.specs.Tree.{shown, kind}
 use Rattle.model.specs.Checks.{parentChecks}
 use Rattle.model.specs.Rename.{notLink}
 use Rattle.view_at.specs.Sight.{visibleKind}
-use Rattle.check_parents.specs.Judged.{checkOf}
-use Rattle.check_one_path.proofs.Thens.{ends, goes-on-at}
+use Rattle.check_judged.specs.Judged.{checkOf}
+use Rattle.check_judged.proofs.Thens.{ends, goes-on-at}
 use Rattle.rename_checks.proofs.check_destination.Statement.{statement}
 use Rattle.rename_checks.proofs.check_destination.Tie as tie
 

@@ -1,5 +1,4 @@
 -- `check_source` meets its contract: the parents, then a deleted entry, then a link.
--- Assumes nothing.
 use borrow.Author.Needs.{needs}
 use lib.ListN.{length}
 use Rattle.model.specs.Map.{lookup}
@@ -9,8 +8,8 @@ use Rattle.model.specs.Tree.{shown, kind}
 use Rattle.model.specs.Checks.{_then_, parentChecks}
 use Rattle.model.specs.Rename.{notLink, notDeleted}
 use Rattle.view_at.specs.Sight.{visibleKind}
-use Rattle.check_parents.specs.Judged.{checkOf}
-use Rattle.check_one_path.proofs.Thens.{ends, goes-on, goes-on-at}
+use Rattle.check_judged.specs.Judged.{checkOf}
+use Rattle.check_judged.proofs.Thens.{ends, goes-on, goes-on-at}
 use Rattle.rename_checks.proofs.check_source.Statement.{statement}
 use Rattle.rename_checks.proofs.check_source.Tie as tie
 

@@ -1,5 +1,4 @@
 -- `early_checks` meets its contract: the roots, the destination, the source, both together.
--- Assumes nothing.
 use borrow.Author.Needs.{needs}
 use lib.ListN.{length}
 use Rattle.model.specs.Map.{lookup}
@@ -8,8 +7,8 @@ use Rattle.model.specs.Table.{tableIn}
 use Rattle.model.specs.Tree.{shown, kind}
 use Rattle.model.specs.Checks.{_then_, parentChecks, notRoot}
 use Rattle.model.specs.Rename.{notLink, notDeleted}
-use Rattle.check_parents.specs.Judged.{checkOf}
-use Rattle.check_one_path.proofs.Thens.{ends, goes-on}
+use Rattle.check_judged.specs.Judged.{checkOf}
+use Rattle.check_judged.proofs.Thens.{ends, goes-on}
 use Rattle.rename_checks.specs.Both.{bothChecks}
 use Rattle.rename_checks.proofs.early_checks.Statement.{statement}
 use Rattle.rename_checks.proofs.early_checks.Tie as tie

@@ -1,10 +1,9 @@
 -- `reject_below` meets its contract: the test decides.
--- Assumes nothing.
 use borrow.Author.Needs.{needs}
 use lib.ListN.{length}
 use Rattle.model.specs.Path.{below}
 use Rattle.model.specs.Checks.{pass, refuse}
-use Rattle.check_one_path.proofs.Thens.{when, otherwise}
+use Rattle.check_judged.proofs.Thens.{when, otherwise}
 use Rattle.rename_checks.proofs.reject_below.Statement.{statement}
 use Rattle.rename_checks.proofs.reject_below.Tie as tie
 

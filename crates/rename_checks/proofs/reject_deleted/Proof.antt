@@ -1,5 +1,4 @@
 -- `reject_deleted` meets its contract: each case of an entry gives what the definition gives for it.
--- Assumes nothing.
 use borrow.Author.Needs.{needs}
 use mathlib.Core.Path.{refl}
 use Rattle.model.specs.Checks.{pass, refuse}

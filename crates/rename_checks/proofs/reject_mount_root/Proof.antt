@@ -1,5 +1,4 @@
 -- `reject_mount_root` meets its contract: the length decides.
--- Assumes nothing.
 use Rattle.rename_checks.proofs.Alone.{at-root, no-root}
 use Rattle.rename_checks.proofs.reject_mount_root.Statement.{statement}
 use Rattle.rename_checks.proofs.reject_mount_root.Tie as tie

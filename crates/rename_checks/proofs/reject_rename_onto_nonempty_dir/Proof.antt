@@ -1,5 +1,4 @@
 -- `reject_rename_onto_nonempty_dir` meets its contract: only where both are directories, the destination has to be empty.
--- Assumes nothing.
 use borrow.Author.Needs.{needs}
 use borrow.Author.Tests.{not-true, not-false}
 use Rattle.model.specs.Listing.{treeIn}
@@ -7,7 +6,7 @@ use Rattle.model.specs.Table.{tableIn}
 use Rattle.model.specs.Checks.{pass, noVisibleChild}
 use Rattle.model.specs.Rename.{ifDirectory}
 use Rattle.view_at.specs.Sight.{visibleKind}
-use Rattle.check_parents.specs.Judged.{checkOf}
+use Rattle.check_judged.specs.Judged.{checkOf}
 use Rattle.rename_checks.proofs.Alone.{not-made, made}
 use Rattle.rename_checks.proofs.reject_rename_onto_nonempty_dir.Statement.{statement}
 use Rattle.rename_checks.proofs.reject_rename_onto_nonempty_dir.Tie as tie

@@ -1,5 +1,4 @@
 -- `reject_rename_type_mismatch` meets its contract: onto a directory anything but a directory clashes, onto a file a directory does.
--- Assumes nothing.
 use borrow.Author.Needs.{needs}
 use mathlib.Core.Path.{ap}
 use Rattle.view_at.specs.Sight.{visibleKind}

@@ -1,9 +1,8 @@
 -- `reject_roots` meets its contract: the source, then the destination.
--- Assumes nothing.
 use borrow.Author.Needs.{needs}
 use Rattle.model.specs.Checks.{notRoot}
-use Rattle.check_parents.specs.Judged.{checkOf}
-use Rattle.check_one_path.proofs.Thens.{ends, goes-on}
+use Rattle.check_judged.specs.Judged.{checkOf}
+use Rattle.check_judged.proofs.Thens.{ends, goes-on}
 use Rattle.rename_checks.proofs.reject_roots.Statement.{statement}
 use Rattle.rename_checks.proofs.reject_roots.Tie as tie
 

@@ -1,5 +1,4 @@
 -- `collect_real_descendants` meets its contract: the sums tell the walk, and where they do not it is made in its order.
--- Assumes nothing.
 use native.Mathlib.Omega.{arith}
 use borrow.Author.Needs.{needs}
 use Rattle.model.specs.Table.{tableIn}

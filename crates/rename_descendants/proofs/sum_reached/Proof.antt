@@ -1,5 +1,4 @@
 -- `sum_reached` meets its contract: what is uncovered in the part below the source is what the walk reaches.
--- Assumes nothing.
 use mathlib.Core.Path.{refl}
 use borrow.Author.Needs.{needs}
 use Rattle.model.specs.Listing.{treeIn}

@@ -1,5 +1,4 @@
 -- `sum_uncovered` meets its contract: each turn of the loop sums one uncovered record more.
--- Assumes nothing.
 use borrow.Author.Needs.{needs}
 use Rattle.model.specs.Table.{tableIn}
 use Rattle.listing_records.specs.Place.{treeAt}

@@ -1,5 +1,4 @@
 -- `with_node` meets its contract: each case of an answer tells what the walk adds for its node.
--- Assumes nothing.
 use mathlib.Core.Path.{sym, _∙_}
 use borrow.Author.Needs.{needs}
 use Rattle.rename_walk.proofs.Budgets.{never-absent}

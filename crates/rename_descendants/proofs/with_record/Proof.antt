@@ -1,5 +1,4 @@
 -- `with_record` meets its contract: the node and the path's length are the record's.
--- Assumes nothing.
 use mathlib.Core.Path.{ap}
 use borrow.Author.Needs.{needs}
 use lib.ListN.{length}

@@ -1,5 +1,4 @@
 -- `is_file` meets its contract: each case says whether it is a file.
--- Assumes nothing.
 use borrow.Author.Needs.{needs}
 use Rattle.rename_items.proofs.Listed.{file-case}
 use Rattle.rename_items.proofs.is_file.Statement.{statement}

@@ -1,5 +1,4 @@
 -- `item_body` meets its contract: what is told to be next gives the body, and something is next.
--- Assumes nothing.
 use borrow.Author.Needs.{needs}
 use Rattle.model.specs.Listing.{recordAt}
 use Rattle.rename_carried.proofs.Items.{entry-there, listed-there, not-ended}

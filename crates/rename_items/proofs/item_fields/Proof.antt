@@ -1,5 +1,4 @@
 -- `item_fields` meets its contract: what is told to be next gives the fields, and something is next.
--- Assumes nothing.
 use borrow.Author.Needs.{needs}
 use Rattle.model.specs.Listing.{recordAt}
 use Rattle.rename_carried.proofs.Items.{entry-there, not-ended}

@@ -1,5 +1,4 @@
 -- `item_key` meets its contract: what is told to be next gives the key, and something is next.
--- Assumes nothing.
 use borrow.Author.Needs.{needs}
 use Rattle.rename_carried.proofs.Items.{entry-there, listed-there, not-ended}
 use Rattle.rename_items.proofs.Told.{entry-key, listed-key}

@@ -1,5 +1,4 @@
 -- `listed_fields` meets its contract: each case stores what the definition makes of such a node.
--- Assumes nothing.
 use borrow.Author.Needs.{needs}
 use Rattle.rename_items.proofs.Listed.{in-case}
 use Rattle.rename_items.proofs.listed_fields.Statement.{statement}

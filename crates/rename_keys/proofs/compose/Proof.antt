@@ -1,5 +1,4 @@
 -- `compose` meets its contract: two writes, one behind the other, are one of both.
--- Assumes nothing.
 use borrow.Author.Needs.{needs}
 use Rattle.rename_keys.proofs.Composed.{room, size, front}
 use Rattle.rename_keys.proofs.compose.Statement.{statement}

@@ -1,5 +1,4 @@
 -- `moved_key` meets its contract: the tail that is lent is all that stands behind the path's first bytes.
--- Assumes nothing.
 use borrow.Author.Needs.{needs}
 use Rattle.rename_keys.proofs.Composed.{moved-length, moved-room, moved-front}
 use Rattle.rename_keys.proofs.moved_key.Statement.{statement}

@@ -1,5 +1,4 @@
 -- `counted` meets its contract.
--- Assumes nothing.
 use native.Mathlib.Omega.{arith}
 use borrow.Author.Needs.{needs}
 use Rattle.rename_measure.proofs.Counting.{lent-length, lent-short, counted-far, counted-near}

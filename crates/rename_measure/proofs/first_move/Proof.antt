@@ -1,5 +1,4 @@
 -- `first_move` meets its contract.
--- Assumes nothing.
 use mathlib.Core.Path.{refl, ap}
 use mathlib.Core.Bool.{not}
 use native.Mathlib.Omega.{arith}

@@ -1,5 +1,4 @@
 -- `measure_deletions` meets its contract: each turn of the loop measures one deletion more.
--- Assumes nothing.
 use native.Mathlib.Omega.{arith}
 use borrow.Author.Needs.{needs}
 use Rattle.rename_carried.specs.Streams.{remaining}

@@ -1,5 +1,4 @@
 -- `measure_moves` meets its contract: each turn of the loop counts one moved entry more.
--- Assumes nothing.
 use mathlib.Core.Path.{_≡_}
 use lib.ListN.{length}
 use borrow.Author.Needs.{needs}

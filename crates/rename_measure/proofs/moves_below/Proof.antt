@@ -1,5 +1,4 @@
 -- `moves_below` meets its contract.
--- Assumes nothing.
 use borrow.Author.Needs.{needs}
 use Rattle.model.specs.Listing.{treeIn}
 use Rattle.rename_uncovered.proofs.Belows.{part-below}

@@ -1,5 +1,4 @@
 -- `projected_move` meets its contract: onto itself by the moves alone, elsewhere by deletions and moves together.
--- Assumes nothing.
 use mathlib.Core.Path.{sym, _∙_}
 use borrow.Author.Needs.{needs}
 use Rattle.rename_measure.proofs.Sources.{length-small}
@@ -7,8 +6,8 @@ use Rattle.rename_measure.proofs.Foretelling.{onto-itself, enough, else
 use Rattle.rename_measure.proofs.projected_move.Statement.{statement}
 use Rattle.rename_measure.proofs.projected_move.Tie as tie
 
-come-requires : tie.Need-come-requires
-come-requires c κs =
+all-moves-requires : tie.Need-all-moves-requires
+all-moves-requires c κs =
     let e = c .before .before .before .before in
     let a = e .args in
     let p = e .pre in
@@ -29,21 +28,21 @@ returns c =
     let e = c .before .before .before .before .before .before .before .before .before .before in
     let a = e .args in
     let p = e .pre in
-    let m = c .before .before .before .before .before .come in
+    let m = c .before .before .before .before .before .all-moves in
     let i = c .before .before .before .is-same in
     onto-itself (a .table .now) (a .listing .now) (a .rec) (p .1 .0) (p .0) (a .source .now) (a .destination .now)
     (sym (i .ensures) ∙ c .before .before .if1 .taken) (m .result) (m .ensures .0)
 
-gone-requires : tie.Need-gone-requires
-gone-requires c κs = search needs
+all-deletions-requires : tie.Need-all-deletions-requires
+all-deletions-requires c κs = search needs
 
 together-requires : tie.Need-together-requires
 together-requires c κs =
     let e = c .before .before .before .before .before .before .before .before .before in
     let a = e .args in
     let p = e .pre in
-    let g = c .gone in
-    let m = c .before .before .before .before .come in
+    let g = c .all-deletions in
+    let m = c .before .before .before .before .all-moves in
     let i = c .before .before .is-same in
     let n = sym (i .ensures) ∙ c .before .if1 .left in (
       (g .ensures .1, m .ensures .1 .0, m .ensures .1 .1),
@@ -57,8 +56,8 @@ returns-2 c =
     let a = e .args in
     let p = e .pre in
     let t = c .together in
-    let g = c .before .gone in
-    let m = c .before .before .before .before .before .come in
+    let g = c .before .all-deletions in
+    let m = c .before .before .before .before .before .all-moves in
     let i = c .before .before .before .is-same in
     let n = sym (i .ensures) ∙ c .before .before .if1 .left in
     elsewhere (a .table .now) (a .listing .now) (a .rec) (p .1 .0) (p .0) (a .source .now) (a .destination .now) (p .1 .1 .1 .1 .1 .1 n)
@@ -68,10 +67,10 @@ pub projected-move-spec : {M : Type 1} → statement M
 projected-move-spec =
     tie.close
     (tie.spec
-    come-requires
+    all-moves-requires
     is-same-requires
     add-t12
     returns
-    gone-requires
+    all-deletions-requires
     together-requires
     returns-2)

@@ -1,5 +1,4 @@
 -- `check_walked` meets its contract: each case gives what the definition gives for it.
--- Assumes nothing.
 use mathlib.Core.Path.{ap, sym}
 use borrow.Author.Needs.{needs}
 use Rattle.model.specs.Rename.{walked}

@@ -1,5 +1,4 @@
 -- `is_listed_directory` meets its contract: the kind at the path is asked whether it is a directory.
--- Assumes nothing.
 use mathlib.Core.Path.{ap, _∙_}
 use borrow.Author.Needs.{needs}
 use Rattle.model.specs.Tree.{isDirectory}

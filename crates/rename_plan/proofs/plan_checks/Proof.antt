@@ -1,5 +1,4 @@
 -- `plan_checks` meets its contract: the charge, the plan's sum, and the walk within what both leave.
--- Assumes nothing.
 use mathlib.Core.Option.{Option}
 use Prim.Native.Nat.{ℕ}
 use borrow.Author.Needs.{needs}
@@ -9,7 +8,7 @@ use Rattle.model.specs.Tree.{kind}
 use Rattle.model.specs.Listing.{treeIn}
 use Rattle.model.specs.Table.{tableIn}
 use Rattle.model.specs.Rename.{ifDirectory, walkFrom, walked}
-use Rattle.check_parents.specs.Judged.{checkOf}
+use Rattle.check_judged.specs.Judged.{checkOf}
 use Rattle.model.proofs.Codec.{charge-is}
 use Rattle.rename_plan.proofs.Plans.{over-charge, over-sum, within}
 use Rattle.rename_plan.proofs.plan_checks.Statement.{statement}

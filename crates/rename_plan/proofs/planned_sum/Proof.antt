@@ -1,5 +1,4 @@
 -- `planned_sum` meets its contract: the part below the source has all the keys that the plan asks for.
--- Assumes nothing.
 use mathlib.Core.Path.{refl}
 use borrow.Author.Needs.{needs}
 use Rattle.model.specs.Table.{tableIn}

@@ -1,5 +1,4 @@
 -- `walk_checks` meets its contract: a directory that is listed is walked.
--- Assumes nothing.
 use mathlib.Core.Path.{ap, _∙_}
 use mathlib.Core.Option.{some}
 use borrow.Author.Needs.{needs}
@@ -10,7 +9,7 @@ use Rattle.model.specs.Listing.{treeIn}
 use Rattle.model.specs.Table.{tableIn}
 use Rattle.model.specs.Checks.{pass}
 use Rattle.model.specs.Rename.{walkFrom, walked}
-use Rattle.check_one_path.proofs.Thens.{when, otherwise}
+use Rattle.check_judged.proofs.Thens.{when, otherwise}
 use Rattle.rename_plan.proofs.walk_checks.Statement.{statement}
 use Rattle.rename_plan.proofs.walk_checks.Tie as tie
 

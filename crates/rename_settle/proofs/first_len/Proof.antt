@@ -1,5 +1,4 @@
 -- `first_len` meets its contract: the table's entry is carried where it has one, and what is listed else.
--- Assumes nothing.
 use mathlib.Core.Path.{ap, _∙_}
 use borrow.Author.Needs.{needs}
 use lib.ListN.{length}

@@ -1,5 +1,4 @@
 -- `listed_len` meets its contract: a directory has no body, and a file's is its path.
--- Assumes nothing.
 use mathlib.Core.Path.{ap}
 use borrow.Author.Needs.{needs}
 use lib.ListN.{length}

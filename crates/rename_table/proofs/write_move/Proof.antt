@@ -1,5 +1,4 @@
 -- `write_move` meets its contract: what is put in order makes the table that the definition names.
--- Assumes nothing.
 use lib.ListN.{length}
 use borrow.Author.Needs.{needs}
 use Rattle.model.specs.Listing.{treeIn}

@@ -1,5 +1,4 @@
 -- `cover` meets its contract: the answer is by the parent's flag, and is set as the path's own.
--- Assumes nothing.
 use mathlib.Core.Path.{_∙_}
 use native.Mathlib.Omega.{arith}
 use lib.ListN.{length-set}

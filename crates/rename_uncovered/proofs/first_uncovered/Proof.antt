@@ -1,5 +1,4 @@
 -- `first_uncovered` meets its contract: the search starts with all records of the part and all entries of the table.
--- Assumes nothing.
 use Rattle.model.specs.Table.{tableIn}
 use Rattle.listing_records.specs.Place.{treeAt}
 use Rattle.rename_uncovered.proofs.Passes.{ready-first, reading-first}

@@ -1,5 +1,4 @@
 -- `next_uncovered` meets its contract: the search goes on behind the record that the cursor stands at.
--- Assumes nothing.
 use Rattle.rename_uncovered.proofs.Passes.{ready-next, fewer-next, ahead-next}
 use Rattle.rename_uncovered.proofs.next_uncovered.Statement.{statement}
 use Rattle.rename_uncovered.proofs.next_uncovered.Tie as tie

@@ -1,5 +1,4 @@
 -- `seek_uncovered` meets its contract: each record that is covered is passed, and so are the entries before it.
--- Assumes nothing.
 use borrow.Author.Needs.{needs}
 use Rattle.model.specs.Listing.{recordEnd}
 use Rattle.rename_uncovered.proofs.Passes.{Seeking, bounds, seek-start, seek-found, seek-on, seek-less, seek-end}

@@ -1,5 +1,4 @@
 -- `enter_record` and `enter_stretch` meet their contracts: with each call the levels left fall, or the records of the stretch do.
--- Assumes nothing.
 use mathlib.Core.Path.{sym, _∙_}
 use mathlib.Core.Option.{some}
 use Prim.Native.Nat.{ℕ, _+_, _*_, _<_}

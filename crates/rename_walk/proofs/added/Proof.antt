@@ -1,5 +1,4 @@
 -- `added` meets its contract: above the budget before the addition, above it after, or within.
--- Assumes nothing.
 use borrow.Author.Needs.{needs}
 use Rattle.rename_walk.proofs.Budgets.{over-before, over-after, within}
 use Rattle.rename_walk.proofs.added.Statement.{statement}

@@ -1,5 +1,4 @@
 -- `bare_child` meets its contract: the entry at the record's path is looked up from the table's place on.
--- Assumes nothing.
 use borrow.Author.Needs.{needs}
 use Rattle.model.specs.Listing.{recordAt}
 use Rattle.model.specs.Table.{entriesAt}

@@ -1,5 +1,4 @@
 -- `count_below` meets its contract: each record below the directory counts, up to the first that is not.
--- Assumes nothing.
 use native.Mathlib.Omega.{arith}
 use borrow.Author.Needs.{needs}
 use Rattle.model.specs.Listing.{recordEnd}

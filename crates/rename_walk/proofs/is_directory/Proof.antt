@@ -1,5 +1,4 @@
 -- `is_directory` meets its contract: each case of an answer tells the node's kind.
--- Assumes nothing.
 use mathlib.Core.Path.{sym, _∙_}
 use borrow.Author.Needs.{needs}
 use Rattle.rename_walk.proofs.Budgets.{never-absent, dir-is, file-is, link-is}

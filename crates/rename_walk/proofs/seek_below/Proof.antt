@@ -1,5 +1,4 @@
 -- `seek_below` meets its contract: a record before the directory with a slash is passed, and the first other one is where it ends.
--- Assumes nothing.
 use mathlib.Core.Path.{refl}
 use borrow.Author.Needs.{needs}
 use Rattle.model.specs.Listing.{recordEnd}

@@ -1,5 +1,4 @@
 -- `skip` meets its contract: a record is passed for each that is still to be passed.
--- Assumes nothing.
 use mathlib.Core.Path.{refl}
 use borrow.Author.Needs.{needs}
 use Rattle.rename_walk.proofs.Stretches.{Skipping, skip-more, skip-on, skip-end}

@@ -1,5 +1,4 @@
 -- `stretch_below` meets its contract: from the directory with a slash on, the first records are those below it.
--- Assumes nothing.
 use borrow.Author.Needs.{needs}
 use Rattle.rename_walk.proofs.Stretches.{under}
 use Rattle.rename_walk.proofs.stretch_below.Statement.{statement}

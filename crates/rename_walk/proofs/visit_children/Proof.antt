@@ -1,5 +1,4 @@
 -- `visit_children` meets its contract: each record is visited if it is a child without an entry, and the entries before it are passed.
--- Assumes nothing.
 use mathlib.Core.Path.{sym, _∙_}
 use mathlib.Core.Option.{some}
 use borrow.Author.Needs.{needs}

@@ -1,5 +1,4 @@
 -- `visit_from` meets its contract: each case of an answer tells what the visit of its node adds.
--- Assumes nothing.
 use mathlib.Core.Path.{sym, _∙_}
 use borrow.Author.Needs.{needs}
 use Rattle.rename_walk.proofs.Budgets.{at-dir, at-file, at-link, never-absent}

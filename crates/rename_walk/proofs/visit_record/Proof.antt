@@ -1,5 +1,4 @@
 -- `visit_record` meets its contract: a child without an entry is visited, and any other record passed.
--- Assumes nothing.
 use mathlib.Core.Option.{some}
 use borrow.Author.Needs.{needs}
 use Rattle.model.specs.Listing.{recordAt, nodeOf}

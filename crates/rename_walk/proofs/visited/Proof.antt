@@ -1,5 +1,4 @@
 -- `visited` meets its contract: a walk that has come to a sum goes on, and one that has ended stays so.
--- Assumes nothing.
 use mathlib.Core.Path.{refl, ap, sym, _∙_}
 use mathlib.Core.Option.{some}
 use borrow.Author.Needs.{needs}

@@ -1,5 +1,4 @@
 -- `walk_in_order` meets its contract: 32 levels are as deep as any listing goes.
--- Assumes nothing.
 use mathlib.Core.Path.{refl}
 use borrow.Author.Needs.{needs}
 use Rattle.rename_walk.specs.Walked.{walkOf}

@@ -1,5 +1,4 @@
 -- `put_arrivals` meets its contract: the destination comes first, and what is below it behind.
--- Assumes nothing.
 use mathlib.Core.List.{[], _∷_}
 use borrow.Author.Needs.{needs}
 use Rattle.model.specs.Listing.{treeIn}

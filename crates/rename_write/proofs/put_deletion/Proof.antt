@@ -1,5 +1,4 @@
 -- `put_deletion` meets its contract: the key is the item's, and kind 4 without a body is a deleted entry.
--- Assumes nothing.
 use mathlib.Core.Path.{refl}
 use mathlib.Core.List.{[]}
 use borrow.Author.Needs.{needs}

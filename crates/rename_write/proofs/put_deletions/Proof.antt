@@ -1,5 +1,4 @@
 -- `put_deletions` meets its contract: each turn of the loop puts one deleted entry, at the key of the item that is next.
--- Assumes nothing.
 use borrow.Author.Needs.{needs}
 use Rattle.model.specs.Table.{tableIn}
 use Rattle.rename_carried.specs.Streams.{remaining}

@@ -1,5 +1,4 @@
 -- `put_departures` meets its contract: the source comes first, and what is below it behind.
--- Assumes nothing.
 use mathlib.Core.List.{[], _∷_}
 use borrow.Author.Needs.{needs}
 use Rattle.model.specs.Listing.{treeIn}
@@ -11,8 +10,8 @@ use Rattle.rename_write.proofs.Sequences.{fits-first, fits-second, both
 use Rattle.rename_write.proofs.put_departures.Statement.{statement}
 use Rattle.rename_write.proofs.put_departures.Tie as tie
 
-put-source-requires : tie.Need-put-source-requires
-put-source-requires c κs =
+put-source-deletion-requires : tie.Need-put-source-deletion-requires
+put-source-deletion-requires c κs =
     let e = c .before .before .before .before .before in
     let a = e .args in
     let T = tableIn (a .table .now) (a .rec) in
@@ -26,7 +25,7 @@ put-lower-deletions-requires c κs =
     let a = e .args in
     let T = tableIn (a .table .now) (a .rec) in
     let L = treeIn (a .listing .now) in
-    let p = c .before .before .before .put-source in (
+    let p = c .before .before .before .put-source-deletion in (
       e .pre .0,
       (
         e .pre .1 .0,
@@ -43,10 +42,10 @@ returns c =
     let a = c .before .before .before .before .before .before .before .before .before .before .before .before .args in
     let T = tableIn (a .table .now) (a .rec) in
     let L = treeIn (a .listing .now) in
-    let p = c .before .before .before .before .before .before .put-source in
+    let p = c .before .before .before .before .before .before .put-source-deletion in
     let q = c .before .before .put-lower-deletions in
     both-put (a .table .now) (a .work .now) (a .merge) ((a .source .now, deleted) ∷ [])
     (turned deletion (lower (a .whole) T L (a .source .now))) (p .last .0) (p .result) (p .ensures) (q .last .0) (q .result) (q .ensures)
 
 pub put-departures-spec : {M : Type 1} → statement M
-put-departures-spec = tie.close (tie.spec put-source-requires put-lower-deletions-requires same-length returns)
+put-departures-spec = tie.close (tie.spec put-source-deletion-requires put-lower-deletions-requires same-length returns)

@@ -1,5 +1,4 @@
 -- `put_destination_within` meets its contract: three stretches come one behind the other.
--- Assumes nothing.
 use mathlib.Core.List.{[], _∷_, _++_}
 use borrow.Author.Needs.{needs}
 use Rattle.model.specs.Listing.{treeIn}
@@ -11,8 +10,8 @@ use Rattle.rename_write.proofs.Sequences.{fits-first, fits-second, both
 use Rattle.rename_write.proofs.put_destination_within.Statement.{statement}
 use Rattle.rename_write.proofs.put_destination_within.Tie as tie
 
-put-source-requires : tie.Need-put-source-requires
-put-source-requires c κs =
+put-source-deletion-requires : tie.Need-put-source-deletion-requires
+put-source-deletion-requires c κs =
     let e = c .before .before .before .before .before .before in
     let a = e .args in
     let T = tableIn (a .table .now) (a .rec) in
@@ -31,7 +30,7 @@ put-arrivals-requires c κs =
     let xs : Table = ((a .source .now, deleted) ∷ []) in
     let ys = (arrivals (a .whole) T L (a .source .now) (a .destination .now)) in
     let zs = (turned deletion (lower (a .whole) T L (a .source .now))) in
-    let p = c .before .before .before .put-source in (
+    let p = c .before .before .before .put-source-deletion in (
       e .pre .0,
       (
         e .pre .1 .0,
@@ -52,7 +51,7 @@ put-lower-deletions-requires c κs =
     let xs : Table = ((a .source .now, deleted) ∷ []) in
     let ys = (arrivals (a .whole) T L (a .source .now) (a .destination .now)) in
     let zs = (turned deletion (lower (a .whole) T L (a .source .now))) in
-    let p = c .before .before .before .before .before .before .before .put-source in
+    let p = c .before .before .before .before .before .before .before .put-source-deletion in
     let q = c .before .before .before .put-arrivals in (
       e .pre .0,
       (
@@ -74,11 +73,11 @@ returns c =
     let xs : Table = ((a .source .now, deleted) ∷ []) in
     let ys = (arrivals (a .whole) T L (a .source .now) (a .destination .now)) in
     let zs = (turned deletion (lower (a .whole) T L (a .source .now))) in
-    let p = c .before .before .before .before .before .before .before .before .before .before .put-source in
+    let p = c .before .before .before .before .before .before .before .before .before .before .put-source-deletion in
     let q = c .before .before .before .before .before .before .put-arrivals in
     let r = c .before .before .put-lower-deletions in
     both-put (a .table .now) (a .work .now) (a .merge) xs (ys ++ zs) (p .last .0) (p .result) (p .ensures) (r .last .0) (r .result)
     (both-put (a .table .now) (p .last .0) (p .result) ys zs (q .last .0) (q .result) (q .ensures) (r .last .0) (r .result) (r .ensures))
 
 pub put-destination-within-spec : {M : Type 1} → statement M
-put-destination-within-spec = tie.close (tie.spec put-source-requires put-arrivals-requires put-lower-deletions-requires same-length returns)
+put-destination-within-spec = tie.close (tie.spec put-source-deletion-requires put-arrivals-requires put-lower-deletions-requires same-length returns)

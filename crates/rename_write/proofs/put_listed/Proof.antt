@@ -1,5 +1,4 @@
 -- `put_listed` meets its contract: a directory has no body, and a file's is its path.
--- Assumes nothing.
 use mathlib.Core.Path.{refl}
 use mathlib.Core.List.{[]}
 use borrow.Author.Needs.{needs}
@@ -69,8 +68,8 @@ returns-2 c =
 enum-told : tie.Need-enum-told
 enum-told c = search needs
 
-put-source-requires : tie.Need-put-source-requires
-put-source-requires c κs =
+put-source-deletion-requires : tie.Need-put-source-deletion-requires
+put-source-deletion-requires c κs =
     let e = c .before .before .before .before .before .before .before .before .before in
     let a = e .args in
     let y = told-entry (a .listing .now) (a .source .now) _ _ (c .before .before .before .find .ensures) (c .before .enum-told .given .1) in
@@ -84,14 +83,14 @@ returns-3 c =
     let a = c .before .before .before .before .before .before .before .before .before .before .before .before .args in
     let y = told-entry (a .listing .now) (a .source .now) _ _ (c .before .before .before .before .before .before .find .ensures)
     (c .before .before .before .before .enum-told .given .1) in
-    let p = c .before .before .put-source in
+    let p = c .before .before .put-source-deletion in
     one-done (a .table .now) (a .work .now) (p .last .0) (a .merge) (p .result) (a .destination .now) _ _ y (p .ensures)
 
 enum-told-2 : tie.Need-enum-told-2
 enum-told-2 c = search needs
 
-put-source-requires-2 : tie.Need-put-source-requires-2
-put-source-requires-2 c κs =
+put-source-deletion-requires-2 : tie.Need-put-source-deletion-requires-2
+put-source-deletion-requires-2 c κs =
     let e = c .before .before .before .before .before .before .before .before .before in
     let a = e .args in
     let y = told-entry (a .listing .now) (a .source .now) _ _ (c .before .before .before .find .ensures) (c .before .enum-told2 .given .1) in
@@ -105,7 +104,7 @@ returns-4 c =
     let a = c .before .before .before .before .before .before .before .before .before .before .before .before .args in
     let y = told-entry (a .listing .now) (a .source .now) _ _ (c .before .before .before .before .before .before .find .ensures)
     (c .before .before .before .before .enum-told2 .given .1) in
-    let p = c .before .before .put-source2 in
+    let p = c .before .before .put-source-deletion2 in
     one-done (a .table .now) (a .work .now) (p .last .0) (a .merge) (p .result) (a .destination .now) _ _ y (p .ensures)
 
 pub put-listed-spec : {M : Type 1} → statement M
@@ -123,10 +122,10 @@ put-listed-spec =
     same-length-2
     returns-2
     enum-told
-    put-source-requires
+    put-source-deletion-requires
     same-length-3
     returns-3
     enum-told-2
-    put-source-requires-2
+    put-source-deletion-requires-2
     same-length-4
     returns-4)

@@ -1,6 +1,5 @@
 -- `put_lower_deletions` meets its contract: the parts of table and listing below the source are what the stretch is made of; of a file there is
 -- nothing.
--- Assumes nothing.
 use borrow.Author.Needs.{needs}
 use borrow.Author.Tests.{not-true, not-false}
 use Rattle.model.specs.Listing.{treeIn}

@@ -1,5 +1,4 @@
 -- `put_lower_moves` meets its contract: the parts of table and listing below the source are what the stretch is made of; of a file there is nothing.
--- Assumes nothing.
 use borrow.Author.Needs.{needs}
 use borrow.Author.Tests.{not-true, not-false}
 use Rattle.model.specs.Listing.{treeIn}

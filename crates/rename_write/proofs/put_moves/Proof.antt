@@ -1,5 +1,4 @@
 -- `put_moves` meets its contract: each turn of the loop puts the item that is next, at its new key.
--- Assumes nothing.
 use borrow.Author.Needs.{needs}
 use Rattle.model.specs.Table.{tableIn}
 use Rattle.rename_carried.specs.Streams.{remaining}

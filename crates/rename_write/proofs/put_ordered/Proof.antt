@@ -1,5 +1,4 @@
 -- `put_ordered` meets its contract: each of the five orders is the one that the definition takes.
--- Assumes nothing.
 use mathlib.Core.Path.{sym, _∙_}
 use mathlib.Core.List.{[], _∷_, _++_}
 use borrow.Author.Needs.{needs}

@@ -1,5 +1,4 @@
 -- `put_source_within` meets its contract: three stretches come one behind the other.
--- Assumes nothing.
 use mathlib.Core.List.{[], _∷_, _++_}
 use borrow.Author.Needs.{needs}
 use Rattle.model.specs.Listing.{treeIn}

@@ -1,5 +1,4 @@
 -- `put_stored` meets its contract: fields and body are those of the entry at the place.
--- Assumes nothing.
 use mathlib.Core.Path.{refl}
 use borrow.Author.Needs.{needs}
 use Rattle.model.specs.Table.{entryOf, entryAt}

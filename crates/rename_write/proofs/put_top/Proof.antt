@@ -1,5 +1,4 @@
 -- `put_top` meets its contract: the table's entry is carried where it has one, and what is listed else.
--- Assumes nothing.
 use mathlib.Core.Option.{none}
 use borrow.Author.Needs.{needs}
 use Rattle.model.specs.Map.{lookup}

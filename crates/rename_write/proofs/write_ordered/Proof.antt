@@ -1,5 +1,4 @@
 -- `write_ordered` meets its contract: all is put from the table's first entry on, and the rest is copied behind it.
--- Assumes nothing.
 use mathlib.Core.Path.{ap, _∙_}
 use lib.ListN.{length, length-replicate}
 use borrow.Author.Needs.{needs}

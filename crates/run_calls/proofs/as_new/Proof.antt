@@ -1,5 +1,4 @@
 -- `as_new` meets its contract: each case is told as the definition does.
--- Assumes nothing.
 use borrow.Author.Needs.{needs}
 use mathlib.Core.Path.{ap, sym}
 use Rattle.run_calls.specs.Runs.{asNew}

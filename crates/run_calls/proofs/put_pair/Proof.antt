@@ -1,5 +1,4 @@
 -- `put_pair` meets its contract: two numbers are written in a row.
--- Assumes nothing.
 use borrow.Author.Needs.{needs}
 use mathlib.Core.Path.{refl}
 use Prim.Native.Nat.{_+_}

@@ -1,5 +1,4 @@
 -- `put_row` meets its contract: the four numbers are written two by two.
--- Assumes nothing.
 use borrow.Author.Needs.{needs}
 use Rattle.run_calls.proofs.Rows.{row-put}
 use Rattle.run_calls.proofs.put_row.Statement.{statement}

@@ -1,5 +1,4 @@
 -- `run` meets its contract: one law for each exit.
--- Assumes nothing.
 use borrow.Author.Needs.{needs}
 use Rattle.call_answer.specs.Meets.{stored}
 use Rattle.run_calls.proofs.Results.{malformed, well, head-long, short, room, finished}

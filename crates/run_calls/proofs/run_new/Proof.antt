@@ -1,5 +1,4 @@
 -- `run_new` meets its contract: a refused opening ends it; else the run does, on what the opening gave. Listing and script are bytes, and so demand 3 holds.
--- Assumes nothing.
 use borrow.Author.Needs.{needs}
 use native.Mathlib.Omega.{arith}
 use Rattle.base_fields.proofs.Pieces.{bytes-of}

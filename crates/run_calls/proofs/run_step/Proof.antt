@@ -1,5 +1,4 @@
 -- `run_step` meets its contract: the call that it makes is the step that stands there.
--- Assumes nothing.
 use borrow.Author.Needs.{needs}
 use Rattle.call_answer.specs.Meets.{stored}
 use Rattle.run_calls.proofs.Loops.{step-met}
@@ -9,11 +8,11 @@ use Rattle.run_calls.proofs.run_step.Tie as tie
 order-at-requires : tie.Need-order-at-requires
 order-at-requires c κs = search needs
 
-first-at-requires : tie.Need-first-at-requires
-first-at-requires c κs = search needs
+first-part-requires : tie.Need-first-part-requires
+first-part-requires c κs = search needs
 
-second-at-requires : tie.Need-second-at-requires
-second-at-requires c κs = search needs
+second-part-requires : tie.Need-second-part-requires
+second-part-requires c κs = search needs
 
 make-requires : tie.Need-make-requires
 make-requires c κs = search needs
@@ -32,15 +31,15 @@ returns c =
     let o = f .before in
     let a = o .before .before .before .before .before .args in
     step-met (a .listing .now) (a .script .now) (a .at) (stored (a .table .now) (a .rec)) (a .work .now)
-    (o .order-at .ensures) (f .first-at .ensures) (m .second-at .ensures) (x .make .ensures)
+    (o .order-at .ensures) (f .first-part .ensures) (m .second-part .ensures) (x .make .ensures)
 
 pub run-step-spec : {M : Type 1} → statement M
 run-step-spec =
     tie.close
     (tie.spec
     order-at-requires
-    first-at-requires
-    second-at-requires
+    first-part-requires
+    second-part-requires
     make-requires
     same-length
     same-length-2

@@ -1,5 +1,4 @@
 -- `run_steps` meets its contract: each turn of the loop makes one step, and what is left of the script leaves what the whole does.
--- Assumes nothing.
 use native.Mathlib.Omega.{arith}
 use borrow.Author.Needs.{needs}
 use Rattle.call_answer.specs.Meets.{stored}

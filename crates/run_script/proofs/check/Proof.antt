@@ -1,5 +1,4 @@
 -- `check` meets its contract: each turn of the loop is a step of the one pass, and each exit has its law.
--- Assumes nothing.
 use borrow.Author.Needs.{needs}
 use Rattle.run_script.proofs.Turns.{Kept, not-marked, long, started, no-step, step-inside, kept-on, finished}
 use Rattle.run_script.proofs.check.Statement.{statement}

@@ -1,5 +1,4 @@
 -- `has_rows` meets its contract: it counts 32 bytes for each step.
--- Assumes nothing.
 use borrow.Author.Needs.{needs}
 use mathlib.Core.Path.{ap}
 use Prim.Native.Nat.{ℕ, _*_}

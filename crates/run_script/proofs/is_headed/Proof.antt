@@ -1,5 +1,4 @@
 -- `is_headed` meets its contract: it tests the numbers that stand in the step.
--- Assumes nothing.
 use borrow.Author.Needs.{needs}
 use Rattle.run_script.proofs.Steps.{by-numbers}
 use Rattle.run_script.proofs.is_headed.Statement.{statement}

@@ -1,5 +1,4 @@
 -- `is_inside` meets its contract: one law for each exit.
--- Assumes nothing.
 use borrow.Author.Needs.{needs}
 use Rattle.run_script.proofs.Steps.{no-head, by-end}
 use Rattle.run_script.proofs.is_inside.Statement.{statement}

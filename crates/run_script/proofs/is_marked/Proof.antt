@@ -1,5 +1,4 @@
 -- `is_marked` meets its contract: one law for each exit.
--- Assumes nothing.
 use borrow.Author.Needs.{needs}
 use mathlib.Core.Path.{sym}
 use native.Mathlib.Omega.{arith}

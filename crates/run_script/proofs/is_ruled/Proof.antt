@@ -1,5 +1,4 @@
 -- `is_ruled` meets its contract: the definition is the expression that the code has.
--- Assumes nothing.
 use mathlib.Core.Path.{refl}
 use Rattle.run_script.specs.Script.{ruled}
 use Rattle.run_script.proofs.is_ruled.Statement.{statement}

@@ -1,5 +1,4 @@
 -- `is_step` meets its contract: a step fits, and its numbers go together.
--- Assumes nothing.
 use borrow.Author.Needs.{needs}
 use Rattle.run_script.proofs.Steps.{fits-is, not-fitting, fitting, by-head}
 use Rattle.run_script.proofs.is_step.Statement.{statement}

@@ -1,5 +1,4 @@
 -- `kind_of` meets its contract: one law for each exit.
--- Assumes nothing.
 use Rattle.run_script.proofs.Heads.{is-write, is-mkdir, is-unlink, is-rmdir, is-rename}
 use Rattle.run_script.proofs.kind_of.Statement.{statement}
 use Rattle.run_script.proofs.kind_of.Tie as tie

@@ -1,5 +1,4 @@
 -- `order_at` meets its contract: it reads the numbers that stand in the step.
--- Assumes nothing.
 use borrow.Author.Needs.{needs}
 use Rattle.run_script.proofs.Heads.{order-is}
 use Rattle.run_script.proofs.order_at.Statement.{statement}

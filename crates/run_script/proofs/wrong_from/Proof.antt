@@ -1,5 +1,4 @@
 -- `wrong_from` meets its contract: its turns are those of `check`, and each exit has its law.
--- Assumes nothing.
 use borrow.Author.Needs.{needs}
 use Rattle.run_script.proofs.Turns.{long, step-inside}
 use Rattle.run_script.proofs.Wrongs.{Told, at-head, told, at-step, told-on, behind}

@@ -1,5 +1,4 @@
 -- `below` meets its contract: what stands between the two places is the part.
--- Assumes nothing.
 use borrow.Author.Needs.{needs}
 use Rattle.table_below.proofs.Cutting.{fewer, part-of-table}
 use Rattle.table_below.proofs.below.Statement.{statement}

@@ -1,5 +1,4 @@
 -- `has_visible_child` meets its contract: each entry that is no such child is passed.
--- Assumes nothing.
 use borrow.Author.Needs.{needs}
 use Rattle.model.specs.Table.{entryEnd}
 use Rattle.table_below.proofs.Children.{Looking, look-start, look-found, look-on, look-less, look-end}

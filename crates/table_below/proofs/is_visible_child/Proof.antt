@@ -1,5 +1,4 @@
 -- `is_visible_child` meets its contract: the key is the entry's, and kind 4 is that of a deleted entry.
--- Assumes nothing.
 use native.Mathlib.Omega.{arith}
 use borrow.Author.Needs.{needs}
 use Rattle.table_entries.proofs.Entries.{stands-here}

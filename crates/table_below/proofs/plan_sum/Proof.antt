@@ -1,5 +1,4 @@
 -- `plan_sum` meets its contract: each entry adds what the plan has for its key, and takes at least 24 bytes, so that the sum stays small.
--- Assumes nothing.
 use Prim.Native.Nat.{_-_}
 use native.Mathlib.Omega.{arith}
 use borrow.Author.Needs.{needs}

@@ -1,5 +1,4 @@
 -- `seek_with` meets its contract: an entry whose key is before the path with its byte is passed, and the first other one is where it ends.
--- Assumes nothing.
 use mathlib.Core.List.{[], _∷_, _++_}
 use Prim.Native.Nat.{_-_}
 use native.Mathlib.Omega.{arith}

@@ -1,5 +1,4 @@
 -- `check_replacements` meets its contract: each turn of the loop measures one directory more, whatever its mtime.
--- Assumes nothing.
 use Prim.Native.Nat.{ℕ, _-_}
 use mathlib.Core.Path.{_≡_, refl}
 use native.Mathlib.Omega.{arith}

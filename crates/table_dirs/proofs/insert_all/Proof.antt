@@ -1,10 +1,9 @@
 -- `insert_all` meets its contract: the table is written anew only where the answer is that it is done.
--- Assumes nothing.
 use lib.ListN.{length, replicate}
 use Rattle.model.specs.Map.{puts, each}
 use Rattle.model.specs.Tree.{directory}
 use Rattle.model.specs.Table.{encode, padded, tableIn}
-use Rattle.check_parents.specs.Dirs.{endsOf, prefixes}
+use Rattle.base_paths.specs.Dirs.{endsOf, prefixes}
 use Rattle.table_insert.proofs.Inserts.{answered, fits-done, if-done, if-over, if-full}
 use borrow.Author.Needs.{needs}
 use Rattle.table_dirs.proofs.insert_all.Statement.{statement}

@@ -1,5 +1,4 @@
 -- `insert_all_unchecked` meets its contract: each turn of the loop writes up to one directory more, and the rest is copied behind the last.
--- Assumes nothing.
 use mathlib.Core.Path.{_≡_, refl, ap, _∙_}
 use Prim.Native.Nat.{_-_}
 use native.Mathlib.Omega.{arith}

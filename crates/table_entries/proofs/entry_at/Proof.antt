@@ -1,5 +1,4 @@
 -- `entry_at` meets its contract: the kind decides, as in the definition.
--- Assumes nothing.
 use native.Mathlib.Omega.{arith}
 use borrow.Author.Needs.{needs}
 use Rattle.table_entries.proofs.Entries.{stands-here}

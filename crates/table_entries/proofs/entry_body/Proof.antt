@@ -1,5 +1,4 @@
 -- `entry_body` meets its contract: the body is the part of the table behind the entry's key.
--- Assumes nothing.
 use native.Mathlib.Omega.{arith}
 use borrow.Author.Needs.{needs}
 use Rattle.table_entries.proofs.Entries.{stands-here}

@@ -1,5 +1,4 @@
 -- `entry_fields` meets its contract: the numbers in the entry's head are the entry's own.
--- Assumes nothing.
 use mathlib.Core.Path.{_∙_}
 use native.Mathlib.Omega.{arith}
 use borrow.Author.Needs.{needs}

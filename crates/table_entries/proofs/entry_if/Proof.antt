@@ -1,5 +1,4 @@
 -- `entry_if` meets its contract: the first entry is taken if its key is the key.
--- Assumes nothing.
 use mathlib.Core.Path.{_∙_}
 use borrow.Author.Needs.{needs}
 use Rattle.table_entries.proofs.Seeks.{entry-here, entry-other}

@@ -1,5 +1,4 @@
 -- `entry_key` meets its contract: the key is the part of the table behind the entry's head.
--- Assumes nothing.
 use native.Mathlib.Omega.{arith}
 use borrow.Author.Needs.{needs}
 use Rattle.table_entries.proofs.Entries.{stands-here}

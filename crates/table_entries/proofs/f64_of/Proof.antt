@@ -1,5 +1,4 @@
 -- `f64_of` meets its contract: bits that are no NaN's are taken as they are, and the others are the one NaN.
--- Assumes nothing.
 use borrow.Author.Needs.{needs}
 use Rattle.table_entries.proofs.Real.{real-bits, not-real}
 use Rattle.table_entries.proofs.f64_of.Statement.{statement}

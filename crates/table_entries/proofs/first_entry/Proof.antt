@@ -1,5 +1,4 @@
 -- `first_entry` meets its contract: a table's entries stand from its first byte on.
--- Assumes nothing.
 use mathlib.Core.Path.{refl}
 use Rattle.table_entries.proofs.Entries.{table-stands}
 use Rattle.table_entries.proofs.first_entry.Statement.{statement}

@@ -1,5 +1,4 @@
 -- `get` meets its contract: the search from the first entry on finds what the table has.
--- Assumes nothing.
 use borrow.Author.Needs.{needs}
 use Rattle.table_entries.proofs.Seeks.{found-all}
 use Rattle.table_entries.proofs.get.Statement.{statement}

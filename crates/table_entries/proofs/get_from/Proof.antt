@@ -1,5 +1,4 @@
 -- `get_from` meets its contract: the entry at the key is the first from the key on, or there is none.
--- Assumes nothing.
 use borrow.Author.Needs.{needs}
 use Rattle.table_entries.proofs.Seeks.{found}
 use Rattle.table_entries.proofs.get_from.Statement.{statement}

@@ -1,5 +1,4 @@
 -- `is_absent` meets its contract: each case of an answer tells whether there is an entry.
--- Assumes nothing.
 use mathlib.Core.Path.{ap, sym, _∙_}
 use borrow.Author.Needs.{needs}
 use Rattle.table_entries.specs.Said.{saidOf}

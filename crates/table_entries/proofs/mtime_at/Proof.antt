@@ -1,5 +1,4 @@
 -- `mtime_at` meets its contract: the float is that of the bits read.
--- Assumes nothing.
 use mathlib.Core.Path.{_∙_, ap}
 use lib.Ieee.{ofBits, binary64}
 use borrow.Author.Needs.{needs}

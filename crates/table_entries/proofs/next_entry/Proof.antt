@@ -1,5 +1,4 @@
 -- `next_entry` meets its contract: the key and the body are as long as the entry's head says.
--- Assumes nothing.
 use mathlib.Core.Path.{ap₂}
 use Prim.Native.Nat.{ℕ, _+_, _-_}
 use native.Mathlib.Omega.{arith}

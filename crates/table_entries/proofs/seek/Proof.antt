@@ -1,5 +1,4 @@
 -- `seek` meets its contract: an entry whose key is before the key is passed, and the first other one is where it ends.
--- Assumes nothing.
 use Prim.Native.Nat.{_-_}
 use native.Mathlib.Omega.{arith}
 use borrow.Author.Needs.{needs}

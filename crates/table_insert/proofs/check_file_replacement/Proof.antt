@@ -1,5 +1,4 @@
 -- `check_file_replacement` meets its contract: equal passes.
--- Assumes nothing.
 use mathlib.Core.Path.{ap}
 use Prim.Native.Nat.{ℕ}
 use lib.Dec.{leb}

@@ -1,5 +1,4 @@
 -- `insert` meets its contract: the table is written anew only where the answer is that it is done.
--- Assumes nothing.
 use mathlib.Core.Path.{ap}
 use lib.ListN.{length, replicate}
 use Rattle.model.specs.Map.{put}

@@ -1,5 +1,4 @@
 -- `insert_unchecked` meets its contract: one step writes up to the entry, and the rest is copied behind it.
--- Assumes nothing.
 use mathlib.Core.List.{[]}
 use lib.ListN.{length}
 use Rattle.model.specs.Map.{put}

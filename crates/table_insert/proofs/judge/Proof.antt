@@ -1,5 +1,4 @@
 -- `judge` meets its contract: the limit first, then the room.
--- Assumes nothing.
 use Rattle.table_insert.proofs.Inserts.{over-limit, no-room, in-both}
 use Rattle.table_insert.proofs.judge.Statement.{statement}
 use Rattle.table_insert.proofs.judge.Tie as tie

@@ -1,5 +1,4 @@
 -- `memory_usage` meets its contract: the record agrees with the table.
--- Assumes nothing.
 use Rattle.model.proofs.Codec.{charge-is}
 use Rattle.table_insert.proofs.memory_usage.Statement.{statement}
 use Rattle.table_insert.proofs.memory_usage.Tie as tie

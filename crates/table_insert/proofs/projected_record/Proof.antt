@@ -1,5 +1,4 @@
 -- `projected_record` meets its contract: the pass from the first entry on measures the new table.
--- Assumes nothing.
 use Rattle.table_insert.proofs.Inserts.{counts-first, measure-first}
 use mathlib.Core.List.{[]}
 use Rattle.model.specs.Table.{tableIn}

@@ -1,5 +1,4 @@
 -- `projected_usage` meets its contract: it is the charge of the record.
--- Assumes nothing.
 use mathlib.Core.Path.{ap}
 use Rattle.model.specs.declared.Record.{Record}
 use borrow.Author.Needs.{needs}

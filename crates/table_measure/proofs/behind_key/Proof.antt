@@ -1,5 +1,4 @@
 -- `behind_key` meets its contract: the pass goes on behind an entry that has the key, and stays where none has.
--- Assumes nothing.
 use mathlib.Core.Path.{refl, ap, _∙_}
 use borrow.Author.Needs.{needs}
 use Rattle.model.specs.Table.{entriesAt}

@@ -1,5 +1,4 @@
 -- `has_key` meets its contract: with an entry left, the test of its key is the test of the first.
--- Assumes nothing.
 use borrow.Author.Needs.{needs}
 use Rattle.table_measure.proofs.Steps.{key-test}
 use Rattle.table_measure.proofs.has_key.Statement.{statement}

@@ -1,5 +1,4 @@
 -- `projected` meets its contract: one entry more where the key has none, and another body where it has one.
--- Assumes nothing.
 use native.Mathlib.Omega.{arith}
 use borrow.Author.Needs.{needs}
 use Rattle.table_measure.proofs.Steps.{some-left, old-fits, head-fits, put-fresh, put-over}

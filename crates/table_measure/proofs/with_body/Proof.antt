@@ -1,5 +1,4 @@
 -- `with_body` meets its contract: the record with the other body, by its fields.
--- Assumes nothing.
 use mathlib.Core.Path.{refl}
 use borrow.Author.Needs.{needs}
 use Rattle.table_measure.proofs.with_body.Statement.{statement}

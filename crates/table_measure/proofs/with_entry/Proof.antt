@@ -1,5 +1,4 @@
 -- `with_entry` meets its contract: the record with one entry more, by its fields.
--- Assumes nothing.
 use mathlib.Core.Path.{refl}
 use borrow.Author.Needs.{needs}
 use Rattle.table_measure.proofs.with_entry.Statement.{statement}

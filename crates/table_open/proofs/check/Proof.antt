@@ -1,6 +1,5 @@
 -- `table_open::check` meets its contract: each turn of the loop is an entry of the one pass, each exit has its law, and the pass gives
 -- `isTable`, since what stands in a slice of bytes is below 256.
--- Assumes nothing.
 use mathlib.Core.Path.{_∙_}
 use native.Mathlib.Omega.{arith}
 use borrow.Author.Needs.{needs}

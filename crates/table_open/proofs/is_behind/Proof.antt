@@ -1,5 +1,4 @@
 -- `table_open::is_behind` meets its contract: the parts that it compares are the key before and the key.
--- Assumes nothing.
 use mathlib.Core.Path.{ap, _∙_}
 use borrow.Author.Needs.{needs}
 use Rattle.model.specs.Bytes.{before}

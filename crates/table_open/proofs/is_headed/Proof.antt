@@ -1,5 +1,4 @@
 -- `table_open::is_headed` meets its contract: it tests the numbers that stand in the entry.
--- Assumes nothing.
 use borrow.Author.Needs.{needs}
 use Rattle.table_open.proofs.Steps.{by-numbers}
 use Rattle.table_open.proofs.is_headed.Statement.{statement}

@@ -1,5 +1,4 @@
 -- `table_open::is_in_order` meets its contract: one law for each exit.
--- Assumes nothing.
 use borrow.Author.Needs.{needs}
 use Rattle.base_fields.specs.Read.{part}
 use Rattle.table_open.proofs.Steps.{fits-is, fitting, not-fitting, not-headed, not-keyed, not-referring, by-order}

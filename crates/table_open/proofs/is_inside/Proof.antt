@@ -1,5 +1,4 @@
 -- `table_open::is_inside` meets its contract: one law for each exit.
--- Assumes nothing.
 use borrow.Author.Needs.{needs}
 use Rattle.table_open.proofs.Steps.{no-head, by-end}
 use Rattle.table_open.proofs.is_inside.Statement.{statement}

@@ -1,5 +1,4 @@
 -- `table_open::is_keyed` meets its contract: the part that it tests is the key.
--- Assumes nothing.
 use mathlib.Core.Path.{ap, _∙_}
 use borrow.Author.Needs.{needs}
 use Rattle.model.specs.Path.{isPath}

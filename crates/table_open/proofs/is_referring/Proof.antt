@@ -1,5 +1,4 @@
 -- `table_open::is_referring` meets its contract: one law for each exit.
--- Assumes nothing.
 use borrow.Author.Needs.{needs}
 use Rattle.table_open.proofs.Steps.{is-reference, no-reference}
 use Rattle.table_open.proofs.is_referring.Statement.{statement}

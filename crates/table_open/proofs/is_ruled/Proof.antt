@@ -1,5 +1,4 @@
 -- `table_open::is_ruled` meets its contract: the definition is the expression that the code has.
--- Assumes nothing.
 use mathlib.Core.Path.{refl}
 use Rattle.table_open.specs.Pass.{typeRule}
 use Rattle.table_open.proofs.is_ruled.Statement.{statement}

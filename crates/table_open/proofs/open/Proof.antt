@@ -1,5 +1,4 @@
 -- `table_open::open` meets its contract: one law for each exit.
--- Assumes nothing.
 use borrow.Author.Needs.{needs}
 use Rattle.table_open.proofs.Opens.{not-opened, now-open}
 use Rattle.table_open.proofs.open.Statement.{statement}

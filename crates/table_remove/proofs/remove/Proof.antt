@@ -1,5 +1,4 @@
 -- `remove` meets its contract: what stands before the key is written, and what stands behind it is copied after that.
--- Assumes nothing.
 use native.Mathlib.Omega.{arith}
 use Rattle.model.specs.Map.{del}
 use Rattle.model.specs.Table.{tableIn}

@@ -1,5 +1,4 @@
 -- `without` meets its contract: the same record, or the one with an entry less, by its fields.
--- Assumes nothing.
 use borrow.Author.Needs.{needs}
 use Rattle.table_remove.proofs.Removes.{some-bytes, none-less, one-less}
 use Rattle.table_remove.proofs.without.Statement.{statement}

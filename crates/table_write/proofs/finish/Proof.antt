@@ -1,5 +1,4 @@
 -- `table_write::finish` meets its contract: the new table's bytes are copied back, with zeros behind them.
--- Assumes nothing.
 use mathlib.Core.Path.{ap, _∙_}
 use Prim.Native.Nat.{ℕ}
 use lib.ListN.{replicate}

@@ -1,5 +1,4 @@
 -- `table_write::put_entry` meets its contract: an entry's parts are written in a row.
--- Assumes nothing.
 use Rattle.table_write.proofs.Merges.{entry-put}
 use borrow.Author.Needs.{needs}
 use Rattle.table_write.proofs.put_entry.Statement.{statement}

@@ -1,5 +1,4 @@
 -- `table_write::put_next` meets its contract: what stays and the entry are written in a row.
--- Assumes nothing.
 use mathlib.Core.Path.{_∙_}
 use Rattle.table_measure.proofs.Steps.{sought-end}
 use Rattle.table_write.proofs.Merges.{next-put}

@@ -1,5 +1,4 @@
 -- `table_write::put_sizes` meets its contract: three numbers are written in a row.
--- Assumes nothing.
 use Prim.Native.Nat.{_+_}
 use native.Mathlib.Omega.{arith}
 use Rattle.model.specs.Bytes.{bytes}

@@ -1,5 +1,4 @@
 -- A positive `i64` is a `u64` below 2^63.
--- Assumes nothing.
 use Prim.Native.Nat.{_<_}
 use mathlib.Core.Path.{_≡_, sym, subst}
 use mathlib.Core.Bool.{true}

@@ -1,4 +1,4 @@
--- `test_kept::fill` meets its contract. The invariant is `Filled`; the measure is what is left of the buffer. Assumes nothing.
+-- `test_kept::fill` meets its contract. The invariant is `Filled`; the measure is what is left of the buffer.
 use Prim.Native.Nat.{_-_}
 use native.Mathlib.Omega.{arith}
 use lib.ListN.{length, length-set}

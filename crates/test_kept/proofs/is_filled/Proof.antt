@@ -1,5 +1,5 @@
 -- `test_kept::is_filled` meets its contract. The invariant: the answer from i on is the answer.
--- The measure is what is left of the slice. Assumes nothing.
+-- The measure is what is left of the slice.
 use mathlib.Core.Path.{_≡_, refl, _∙_}
 use Prim.Native.Nat.{_-_}
 use lib.ListN.{length, drop}

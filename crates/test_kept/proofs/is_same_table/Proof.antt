@@ -1,5 +1,4 @@
 -- `test_kept::is_same_table` meets its contract: a copy that is too short has no more than its bytes to compare.
--- Assumes nothing.
 use mathlib.Core.Path.{_∙_}
 use borrow.Author.Needs.{needs}
 use Rattle.test_kept.proofs.Sides.{start, whole}

@@ -1,5 +1,4 @@
 -- `test_kept::prepare` meets its contract: the copy is written where it has room.
--- Assumes nothing.
 use mathlib.Core.Path.{_∙_}
 use borrow.Author.Needs.{needs}
 use Rattle.test_kept.proofs.Sides.{copied-in, left-out}

@@ -1,5 +1,4 @@
 -- `begin` meets its contract: with both cursors at the start all is ahead.
--- Assumes nothing.
 use borrow.Author.Needs.{needs}
 use Rattle.view_at.proofs.Sights.{sees-all}
 use Rattle.view_at.proofs.begin.Statement.{statement}

@@ -1,5 +1,4 @@
 -- `look` meets its contract: the prefix is found from both cursors on, and they go on behind it.
--- Assumes nothing.
 use mathlib.Core.Path.{sym}
 use lib.Seq.{length-take-le}
 use borrow.Author.Needs.{needs}

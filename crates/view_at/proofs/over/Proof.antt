@@ -1,5 +1,4 @@
 -- `over` meets its contract: each case of an entry says what is visible, and without an entry it is the listing's.
--- Assumes nothing.
 use mathlib.Core.Path.{ap, sym, _∙_}
 use borrow.Author.Needs.{needs}
 use Rattle.table_entries.specs.Said.{saidOf}

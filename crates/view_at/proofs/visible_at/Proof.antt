@@ -1,5 +1,4 @@
 -- `visible_at` meets its contract: the entry at the path, or what is listed there; the root apart.
--- Assumes nothing.
 use borrow.Author.Needs.{needs}
 use Rattle.model.specs.Table.{tableIn}
 use Rattle.model.specs.Listing.{treeIn}

@@ -1,5 +1,4 @@
 -- `has_visible_children` meets its contract: a visible child is in the table, or listed without an entry.
--- Assumes nothing.
 use borrow.Author.Needs.{needs}
 use Rattle.model.specs.Listing.{treeIn}
 use Rattle.view_children.proofs.Visibles.{in-table, in-listing}

@@ -1,5 +1,4 @@
 -- `listed_without_entry` meets its contract: each record that is no such child is passed, and so are the entries before it.
--- Assumes nothing.
 use borrow.Author.Needs.{needs}
 use Rattle.model.specs.Listing.{recordEnd}
 use Rattle.model.specs.Table.{entriesAt}

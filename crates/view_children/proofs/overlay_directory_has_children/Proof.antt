@@ -1,5 +1,4 @@
 -- `overlay_directory_has_children` meets its contract: the entries below the directory have all its children.
--- Assumes nothing.
 use mathlib.Core.Path.{ap, _∙_}
 use borrow.Author.Needs.{needs}
 use Rattle.model.specs.Table.{tableIn}

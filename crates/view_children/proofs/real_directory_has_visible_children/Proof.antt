@@ -1,5 +1,4 @@
 -- `real_directory_has_visible_children` meets its contract: the records below the directory have all its children.
--- Assumes nothing.
 use borrow.Author.Needs.{needs}
 use Rattle.view_children.proofs.Sublists.{part-stands, listed-part}
 use Rattle.view_children.proofs.real_directory_has_visible_children.Statement.{statement}

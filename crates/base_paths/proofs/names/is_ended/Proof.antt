@@ -1,5 +1,5 @@
 -- `base_paths::names::is_ended` meets its contract: the code tests what the definition does, in its order.
--- Assumes nothing. (The file stands here so that an edit of the tests is refused at this very fact.)
+-- (The file stands here so that an edit of the tests is refused at this very fact.)
 use mathlib.Core.Path.{refl}
 use Rattle.base_paths.proofs.names.is_ended.Statement.{statement}
 use Rattle.base_paths.proofs.names.is_ended.Tie as tie

@@ -1,5 +1,4 @@
 -- `base_paths::names::next_names` meets its contract: at a slash the component ends, any other byte belongs to it.
--- Assumes nothing.
 use borrow.Author.Needs.{needs}
 use Rattle.base_paths.proofs.Scans.{at-slash, at-byte}
 use Rattle.base_paths.proofs.names.next_names.Statement.{statement}

@@ -1,5 +1,4 @@
 -- `base_paths::utf8::after_first` meets its contract: what the three tables give for a byte's class is what the grammar has after it.
--- Assumes nothing.
 use borrow.Author.Needs.{needs}
 use Rattle.base_paths.proofs.Classes.{of-class}
 use Rattle.base_paths.proofs.utf8.after_first.Statement.{statement}

@@ -1,5 +1,4 @@
 -- `base_paths::utf8::class_of` meets its contract: the rule of the table, for every byte.
--- Assumes nothing.
 use borrow.Author.Needs.{needs}
 use Rattle.base_paths.proofs.Classes.{class-row, class-below}
 use Rattle.base_paths.proofs.utf8.class_of.Statement.{statement}

@@ -1,5 +1,4 @@
 -- `base_paths::utf8::next_tail` meets its contract: a first byte by `after_first`, a later one by whether it is in its range.
--- Assumes nothing.
 use borrow.Author.Needs.{needs}
 use Rattle.base_paths.proofs.Tails.{refused, passed}
 use Rattle.base_paths.proofs.utf8.next_tail.Statement.{statement}

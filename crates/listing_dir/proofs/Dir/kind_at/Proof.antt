@@ -1,6 +1,5 @@
 -- `Dir::kind_at` meets its contract: a walk of its MIR, by hand. The struct is taken apart, and `kind_in` is called on the listing, the count and the path. All that the proof knows of `kind_in` is that it meets its contract.
 -- The struct and the path are Copy: what they own is had twice, one copy is kept whole for the exit, and the other goes to the callee, beside the lifetimes' tokens, which come back.
--- Assumes nothing.
 use mathlib.Core.Path.{_≡_, refl}
 use mathlib.Core.Bool.{true}
 use Prim.Native.Nat.{ℕ, _<_, _^_}

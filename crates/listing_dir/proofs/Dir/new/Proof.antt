@@ -1,6 +1,5 @@
 -- `Dir::new` meets its contract: a walk of its MIR, by hand. The count is had by a call of `count_in`, and a `Dir` is made of the slice and that number, in the result's local.
 -- A `&[u8]` is Copy, so what it owns is had three times: for the call, for listing at exit, and inside the result, beside the facts of count.
--- Assumes nothing.
 use mathlib.Core.Path.{_≡_, refl, ap}
 use mathlib.Core.Bool.{true}
 use Prim.Native.Nat.{ℕ, _<_, _^_}

@@ -1,5 +1,4 @@
 -- `ComponentWalk::new` meets its contract: the walk starts at the first record.
--- Assumes nothing.
 use Rattle.listing_records.proofs.Places.{checked}
 use Rattle.listing_records.proofs.Steps.{walks-new}
 use Rattle.listing_records.proofs.ComponentWalk.new.Statement.{statement}

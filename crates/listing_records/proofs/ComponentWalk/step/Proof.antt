@@ -1,5 +1,4 @@
 -- `ComponentWalk::step` meets its contract: the search from the last step's place finds the prefix, and the walk stays good for longer ones.
--- Assumes nothing.
 use mathlib.Core.Path.{refl, sym, ap}
 use mathlib.Core.Bool.{not}
 use Prim.Native.Nat.{_+_}

@@ -1,5 +1,5 @@
 -- `prog_paths::built::climbed` is safe and ends. The loop's invariant: the cursor is within the path, and passed as many bytes as ancestors
--- at least. The measure is how many are to come: the cursor's next answer lies behind the last. Assumes nothing.
+-- at least. The measure is how many are to come: the cursor's next answer lies behind the last.
 use Prim.Native.Nat.{_≤_, _-_}
 use lib.ListN.{length}
 use borrow.Author.Needs.{needs}

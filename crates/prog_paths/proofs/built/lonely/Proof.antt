@@ -1,5 +1,4 @@
 -- `prog_paths::built::lonely` is safe and ends: the measure is how many bytes are to come.
--- Assumes nothing.
 use Prim.Native.Nat.{_-_}
 use borrow.Author.Needs.{needs}
 use Rattle.prog_paths.proofs.built.lonely.Statement.{statement}

@@ -1,5 +1,5 @@
 -- `prog_paths::listed::run` is safe and ends. The loop's invariant: the item that is being read starts at or before `i`, within the list.
--- The measure is how many bytes are to come. Assumes nothing.
+-- The measure is how many bytes are to come.
 use mathlib.Core.Logic.{⊎-elim}
 use Prim.Native.Nat.{_≤_, _-_}
 use lib.ListN.{length}

@@ -1,5 +1,4 @@
 -- `prog_paths::tally::counted` meets its contract: the cast makes 1 of true and 0 of false, as the definition does.
--- Assumes nothing.
 use borrow.Author.Needs.{needs}
 use mathlib.Core.Path.{_≡_, refl, ap, _∙_}
 use mathlib.Core.Bool.{Bool, true, false, cond}

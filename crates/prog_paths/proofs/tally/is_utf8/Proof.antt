@@ -1,6 +1,5 @@
 -- `prog_paths::tally::is_utf8` meets its contract. The loop's invariant: what the state asks of the bytes to come is what the definition
 -- asks of all of them. The measure is how many are to come.
--- Assumes nothing.
 use mathlib.Core.Path.{_≡_, refl}
 use Prim.Native.Nat.{_-_, _≤_}
 use lib.ListN.{length, drop}

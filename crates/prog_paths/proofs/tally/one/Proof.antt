@@ -1,5 +1,4 @@
 -- `prog_paths::tally::one` meets its contract: each answer is put for what the definition says.
--- Assumes nothing.
 use borrow.Author.Needs.{needs}
 use mathlib.Core.Path.{ap, _∙_}
 use mathlib.Core.Bool.{Bool, not, _&&_, _||_}

@@ -1,4 +1,4 @@
--- `show::calls` is safe and ends: the measure is how many bytes of the report are to come. Assumes nothing.
+-- `show::calls` is safe and ends: the measure is how many bytes of the report are to come.
 use lib.ListN.{length}
 use Prim.Native.Nat.{_-_}
 use borrow.Author.Needs.{needs}

@@ -1,4 +1,4 @@
--- `script::find` meets its contract: the place is at or behind `from`, within the text, and the measure is how many bytes are to come. Assumes nothing.
+-- `script::find` meets its contract: the place is at or behind `from`, within the text, and the measure is how many bytes are to come.
 use lib.ListN.{length}
 use Prim.Native.Nat.{_-_, _≤_}
 use borrow.Author.Needs.{needs}

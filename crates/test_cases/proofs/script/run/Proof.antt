@@ -1,5 +1,5 @@
 -- `script::run` is safe and ends: an item stands from `from` up to `end`, within the text; the buffers keep their lengths.
--- The measure is how many bytes of the text are to come. Assumes nothing.
+-- The measure is how many bytes of the text are to come.
 use mathlib.Core.Path.{_≡_, refl, _∙_}
 use lib.ListN.{length}
 use Prim.Native.Nat.{_-_, _≤_}

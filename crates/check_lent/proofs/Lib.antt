@@ -1,0 +1,2 @@
+pub mod Lents
+pub mod Firsts
