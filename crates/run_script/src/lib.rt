@@ -14,7 +14,7 @@ use call_values::Order;
 // The bytes of a script before its steps, and of a step before its parts.
 pub const SCRIPT_HEAD: usize = 8;
 
-const STEP_HEAD: usize = 24;
+pub const STEP_HEAD: usize = 24;
 
 // The bytes of a report's row, which a run writes for each step.
 pub const ROW_SIZE: usize = 32;
