@@ -1,14 +1,19 @@
 // Bytes as a terminal may be given them: UTF-8 characters as they are, and a question mark for each control character
 // and for each byte that is part of no character.
-ghost use Prim.Native.Nat.{_≤_, _<_};
-ghost use lib.ListN.{length};
+ghost use mathlib.Core.Path.{_≡_};
+ghost use mathlib.Core.Bool.{true};
+ghost use Prim.Native.Nat.{_+_, _-_, _≤_, _<_};
+ghost use lib.ListN.{length, take, drop};
+ghost use Rattle.model.specs.Utf8.{utf8};
 use base_paths::Tail;
 use base_paths::next_tail;
 
-// Where the character at `at` ends. A byte that begins none, or whose character is cut short, stands alone.
+// Where the character at `at` ends. A byte that begins none, or whose character is cut short, stands alone; so what has
+// more than one byte is UTF-8.
 fn character_end(s: &[u8], at: usize) -> usize
     requires { ⌜ at < length (now s) ⌝ }
     ensures { λ r. ⌜ (at < r) × (r ≤ length (now (s .entry))) ⌝ }
+    ensures { λ r. ⌜ (at + 1 < r → utf8 (take (r - at) (drop at (now (s .entry)))) ≡ true) ⌝ }
 {
     let none = Tail {
         need: 0,
