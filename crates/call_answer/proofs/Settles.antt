@@ -21,10 +21,6 @@ use Rattle.table_insert.specs.Insert.{insertion, ifDone}
 use Rattle.check_judged.specs.Judged.{asCheck}
 use Rattle.call_answer.specs.Meets.{Meets, answeredOf}
 
-pub then-assoc : (a b c : Check) → ((a then b) then c) ≡ (a then (b then c))
-then-assoc pass b c = refl
-then-assoc (refuse n w k) b c = refl
-
 -- every refusal is told as one, with its number, path and length
 pub record Told (r : Refusal) : Type 0 where
   pub number : ℕ

@@ -6,10 +6,15 @@ use native.Mathlib.Omega.{arith}
 use lib.ListN.{length}
 use Rattle.model.specs.Path.{Path}
 use Rattle.model.specs.Tree.{Kind}
-use Rattle.model.specs.Checks.{Check, refuse, _then_, notRoot}
+use Rattle.model.specs.Checks.{Check, pass, refuse, _then_, notRoot}
 use Rattle.model.proofs.Orders.{bot}
 use Rattle.check_judged.specs.Judged.{refuses}
 use Rattle.check_judged.proofs.Checked.{refused-stops, passed-on}
+
+-- three in a row, grouped either way
+pub then-assoc : (a b c : Check) → ((a then b) then c) ≡ (a then (b then c))
+then-assoc pass b c = refl
+then-assoc (refuse n w k) b c = refl
 
 -- j is what the check c gave, and b whether that refuses
 module _ (c j : Check) (b : Bool) (e : j ≡ c) (i : b ≡ refuses j) where

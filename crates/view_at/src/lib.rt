@@ -8,7 +8,7 @@ ghost use Prim.Native.Nat.{_+_, _≤_, _<_};
 ghost use lib.ListN.{length, take, drop};
 ghost use Rattle.model.specs.Bytes.{Bytes};
 ghost use Rattle.model.specs.Path.{Path, endsHere};
-ghost use Rattle.model.specs.Tree.{Entry, Node, shown, kindOf, kind};
+ghost use Rattle.model.specs.Tree.{Entry, Node, shown, kindOf, kind, isDirectory};
 ghost use Rattle.model.specs.Tree as tree;
 ghost use Rattle.model.specs.Listing.{treeIn, isListing};
 ghost use Rattle.model.specs.Table.{tableIn, isTable};
