@@ -31,7 +31,8 @@ module _ (s : Bytes) (at i : ℕ) (h : at ≤ i) (l : i < length s) where
       → ((x : Bytes) → characters qs x ≡ characters rs (getD s i 0 ∷ x)) → Needed s at qs (i + 1)
   needed-on rs qs n f x =
       let b = getD s i 0 in
-      let g : utf8 (read s at i ++ (b ∷ x)) ≡ utf8 (read s at (i + 1) ++ x) = rw (one-more, append-snoc (read s at i) b x) in
+      let e = append-snoc (read s at i) b x in
+      let g : utf8 (read s at i ++ (b ∷ x)) ≡ utf8 (read s at (i + 1) ++ x) = rw (one-more, e) in
       f x ∙ n (b ∷ x) ∙ g
 
 pub needed-first : (s : Bytes) (at : ℕ) → at < length s → (qs : List Range)

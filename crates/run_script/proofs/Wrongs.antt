@@ -7,7 +7,8 @@ use lib.ListN.{length}
 use borrow.Author.Tests.{not-true, not-false, eqb-true}
 use Rattle.model.specs.Bytes.{Bytes}
 use Rattle.model.proofs.Orders.{bot}
-use Rattle.run_script.specs.Script.{stepEnd, stepCount, fits, headed, marked, isScript, stepsTo, wrongFrom}
+use Rattle.run_script.specs.Script.{stepEnd, stepCount, fits, headed, marked, isScript}
+use Rattle.run_script.specs.Wrong.{stepsTo, wrongFrom}
 use Rattle.run_script.proofs.Turns.{Kept, not-marked, started, no-step, kept-on, finished}
 
 -- before a step is read

@@ -104,12 +104,3 @@ marked s = leb 8 (length s) && same (take 4 s) (84 ∷ 83 ∷ 67 ∷ 49 ∷ [])
 
 abbrev pub isScript : Bytes → Bool
 isScript s = marked s && filled s (stepCount s) 8
-
--- the first of n steps from `at` on that is wrong, or behind the last
-abbrev pub stepsTo : Bytes → ℕ → ℕ → ℕ
-stepsTo s zero at = at
-stepsTo s (suc n) at = cond (fits s at && headed s at) (stepsTo s n (stepEnd s at)) at
-
--- where bytes that are no script go wrong
-abbrev pub wrongFrom : Bytes → ℕ
-wrongFrom s = cond (marked s) (stepsTo s (stepCount s) 8) 0

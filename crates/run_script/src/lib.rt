@@ -7,7 +7,8 @@ ghost use Prim.Native.Nat.{_+_, _*_, _≤_, _<_};
 ghost use lib.Dec.{leb};
 ghost use lib.ListN.{length};
 ghost use Rattle.run_script.specs.Script.{ruled, fits, headed, marked, firstPart, secondPart, stepEnd, orderAt};
-ghost use Rattle.run_script.specs.Script.{stepCount, isScript, wrongFrom, stepKind};
+ghost use Rattle.run_script.specs.Script.{stepCount, isScript, stepKind};
+ghost use Rattle.run_script.specs.Wrong.{wrongFrom};
 use call_values::Kind;
 use call_values::Order;
 
@@ -125,8 +126,8 @@ pub fn check(script: &[u8]) -> bool
     at == script.len()
 }
 
-// Where bytes that are no script go wrong: at 0 if the head is wrong, else at the first step that is, or behind the last
-// step. Of a script it is the end.
+// Where bytes that are no script go wrong: at 0 if the head is wrong, else at the first step that is, or behind the
+// last step. Of a script it is the end.
 pub fn wrong_from(script: &[u8]) -> usize
     ensures { λ r. ⌜ r ≡ wrongFrom (now (script .entry)) ⌝ }
     ensures { λ r. ⌜ r ≤ length (now (script .entry)) ⌝ }

@@ -1,5 +1,5 @@
--- `shown::character_end` meets its contract. The loop's invariant: what the tail needs is what makes the bytes that were
--- read UTF-8. The measure is how many bytes are to come.
+-- `shown::character_end` meets its contract. The loop's invariant: what the tail needs is what makes the bytes that
+-- were read UTF-8. The measure is how many bytes are to come.
 use Prim.Native.Nat.{_<_, _≤_, _-_}
 use native.Mathlib.Omega.{arith}
 use lib.ListN.{length}
@@ -27,7 +27,8 @@ add-i c = search needs
 loop-holds : tie.Need-loop-holds Inv-loop μ-loop
 loop-holds c =
     let a = c .before .before .before .args in
-    let more = needed-first (a .s .now) (a .at) (search needs) (pending (c .next-tail .result)) (c .next-tail .ensures) in
+    let t = c .next-tail in
+    let more = needed-first (a .s .now) (a .at) (search needs) (pending (t .result)) (t .ensures) in
     (search needs, (search needs, more))
 
 add-result : tie.Need-add-result Inv-loop μ-loop
