@@ -21,10 +21,13 @@ const LISTING: usize = 1;
 
 const SCRIPT: usize = 2;
 
-// Opens the file that argument i names, and answers a descriptor, or -1.
+// Opens the file that argument i names, and answers a descriptor, or -1 with errno set, as where the name is too long.
 fn open_file(i: usize) -> i32 {
     let mut name = io::buffer();
     let length = os::arg(i, &mut name);
+    if os::errno() != 0 {
+        return -1;
+    }
     os::open_read(&name[..length])
 }
 

@@ -6,11 +6,15 @@ pub fn text(s: &[u8]) {
     io::write_all(STDERR_FILENO, s);
 }
 
-// The start of a line: the file that argument i names.
+// The start of a line: the file that argument i names, or the argument's number if it is empty or too long for a name.
 fn name(i: usize) {
     let mut name = io::buffer();
     let length = os::arg(i, &mut name);
     text(b"variant: ");
+    if length == 0 {
+        text(b"argument ");
+        io::print_decimal(STDERR_FILENO, i as u64);
+    }
     shown::bytes(STDERR_FILENO, &name[..length]);
     text(b": ");
 }
@@ -24,12 +28,14 @@ pub fn of_file(i: usize, why: &[u8]) {
 
 // That it could not be read, by the error's number.
 pub fn unread(i: usize, error: i32) {
-    if error == libc::ENOENT {
+    if (error == libc::ENOENT) | (error == libc::ENOTDIR) {
         of_file(i, b"there is no such file");
     } else if error == libc::EISDIR {
         of_file(i, b"is a directory");
     } else if error == libc::EACCES {
         of_file(i, b"may not be read");
+    } else if error == libc::ENAMETOOLONG {
+        of_file(i, b"has too long a name");
     } else {
         of_file(i, b"cannot be read");
     }

@@ -126,7 +126,7 @@ fn line(script: &[u8], at: usize, report: &[u8], row: usize) -> usize
     if report.len() < row + ROW_SIZE {
         return script.len();
     }
-    column(row as u64 / 32 + 1, 6);
+    column((row / ROW_SIZE) as u64 + 1, 6);
     name(script[at]);
     answer(
         base_fields::le64(report, row),
