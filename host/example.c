@@ -1,4 +1,5 @@
-/* A table over a listing, from C: directories and a file are made, moved and deleted, and each answer is printed. */
+/* A table over a listing, from C: directories and files are made, moved and deleted, by one call after the other and
+ * by a script, and each answer is printed. */
 #include <stdio.h>
 #include <string.h>
 
@@ -22,6 +23,14 @@ static const uint8_t listing[] = {'R', 'D', 'L', 1, 0, 2, 0, 0, 0,
                                   1, 0, 1, 0, 0, 0, 0, 0, 0, 0xf0, 0x3f, 0, 0, 0, 0, 0, 0, 0, 0, 'a',
                                   3, 0, 2, 0, 0, 0, 0, 0, 0, 0, 0x40, 5, 0, 0, 0, 0, 0, 0, 0, 'a', '/', 'f'};
 
+/* The script: mkdir `s`, then write `s/t` with the data "hi", then write `s` with no data. */
+#define NO_LIMIT 255, 255, 255, 255, 255, 255, 255, 255
+static const uint8_t script[] = {'T', 'S', 'C', '1', 3, 0, 0, 0,
+                                 2, 0, 1, 0, 0, 0, 0, 0, 0, 0, 0, 0, 0, 0, 0xf0, 0x3f, NO_LIMIT, 's',
+                                 1, 0, 3, 0, 2, 0, 0, 0, 0, 0, 0, 0, 0, 0, 0xf0, 0x3f, NO_LIMIT, 's', '/', 't',
+                                 'h', 'i',
+                                 1, 0, 1, 0, 0, 0, 0, 0, 0, 0, 0, 0, 0, 0, 0xf0, 0x3f, NO_LIMIT, 's'};
+
 static const uint64_t no_limit = UINT64_MAX;
 static const uint64_t one_second = 0x3ff0000000000000; /* the bits of 1.0 */
 
@@ -38,6 +47,42 @@ static void expect(const char *call, uint64_t answer, int number, uint64_t value
         printf("  expected %d with %llu\n", number, (unsigned long long)value);
         differences++;
     }
+}
+
+/* One of the four numbers of a row. */
+static uint64_t number_in(const uint8_t *report, int row, int column) {
+    uint64_t number = 0;
+    for (int i = 7; i >= 0; i--)
+        number = number << 8 | report[OVERLAY_ROW_LENGTH * row + 8 * column + i];
+    return number;
+}
+
+/* Runs the script on the table, and then on a new one. */
+static void run_scripts(struct plan *plan) {
+    static const char *calls[] = {"  mkdir s", "  write s/t", "  write s"};
+    static const int numbers[] = {OVERLAY_ACCEPTED, OVERLAY_ACCEPTED, OVERLAY_IS_A_DIRECTORY};
+    static const uint64_t values[] = {0, 2, 1};
+    static struct plan other;
+    uint8_t report[3 * OVERLAY_ROW_LENGTH];
+
+    expect("run a script", overlay_run(LISTING, LENT(plan), script, sizeof script, report, sizeof report),
+           OVERLAY_ACCEPTED, 0);
+    for (int row = 0; row < 3; row++)
+        expect(calls[row], number_in(report, row, 0) | number_in(report, row, 1) << 8 | number_in(report, row, 2) << 16,
+               numbers[row], values[row]);
+    if (number_in(report, 2, 3) != plan->record[OVERLAY_RECORD_CHARGE])
+        differences++;
+    expect("is_file s/t", overlay_is_file(LISTING, TABLE(plan), PATH("s/t")), OVERLAY_ACCEPTED, 1);
+
+    expect("run seven bytes", overlay_run(LISTING, LENT(plan), script, 7, report, sizeof report),
+           OVERLAY_MALFORMED_SCRIPT, 0);
+    expect("run, two rows", overlay_run(LISTING, LENT(plan), script, sizeof script, report, 2 * OVERLAY_ROW_LENGTH),
+           OVERLAY_SHORT_REPORT, 0);
+    expect("run on a new table",
+           overlay_run_new(LISTING, LENT(&other), script, sizeof script, report, sizeof report, 40),
+           OVERLAY_ACCEPTED, 0);
+    if (other.record[OVERLAY_RECORD_COUNT] != 2 || !overlay_check_table(TABLE(&other)))
+        differences++;
 }
 
 int main(void) {
@@ -74,6 +119,7 @@ int main(void) {
            overlay_exists(LISTING, plan.table, sizeof plan.table, plan.record, 3, PATH("a")),
            OVERLAY_MALFORMED_TABLE, 0);
 
+    run_scripts(&plan);
     if (!overlay_check_table(TABLE(&plan)))
         differences++;
     printf("%llu entries, %llu bytes, charge %llu\n", (unsigned long long)plan.record[OVERLAY_RECORD_COUNT],

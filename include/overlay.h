@@ -12,7 +12,8 @@
  *   - with length 0 the pointer is not looked at, and may be NULL;
  *   - a bool is 0 or 1.
  *
- * A REFUSED CALL CHANGES NOTHING: table, record and work buffer are byte for byte as they were.
+ * A REFUSED CALL CHANGES NOTHING: table, record and work buffer are byte for byte as they were. Only overlay_run_new
+ * may leave the table opened where it does not run the script.
  * An accepted changing call leaves the table with its new record, and the work buffer all 0.
  *
  * THE LISTING holds the published tree, at most 16 MiB of it: the mark "RDL", a 16-bit version 1, a 32-bit count,
@@ -52,19 +53,21 @@ extern "C" {
 /* The number of an answer: 0, or why the call is refused. */
 enum overlay_number {
     OVERLAY_ACCEPTED = 0,
-    OVERLAY_MALFORMED_TABLE = 1,   /* table, record, entry size or work buffer malformed or too short */
+    OVERLAY_MALFORMED_TABLE = 1,    /* table, record, entry size or work buffer malformed or too short */
     OVERLAY_MALFORMED_LISTING = 2,
-    OVERLAY_MALFORMED_PATH = 3,    /* path */
-    OVERLAY_LINK_OR_ROOT = 4,      /* path, length: a link is met, or the root is given */
-    OVERLAY_NOT_FOUND = 5,         /* path, length */
-    OVERLAY_EXISTS = 6,            /* path, length */
-    OVERLAY_NOT_A_DIRECTORY = 7,   /* path, length */
-    OVERLAY_IS_A_DIRECTORY = 8,    /* path, length */
-    OVERLAY_NOT_EMPTY = 9,         /* path, length */
-    OVERLAY_BELOW_SOURCE = 10,     /* length: the destination lies below the source */
-    OVERLAY_LIMIT = 11,            /* the charge, or what a rename plans, exceeds the limit */
-    OVERLAY_KEY_TOO_LONG = 12,     /* a moved key has more than 512 bytes or 32 components */
-    OVERLAY_NO_ROOM = 13           /* the entries after the call are longer than the table */
+    OVERLAY_MALFORMED_PATH = 3,     /* path */
+    OVERLAY_LINK_OR_ROOT = 4,       /* path, length: a link is met, or the root is given */
+    OVERLAY_NOT_FOUND = 5,          /* path, length */
+    OVERLAY_EXISTS = 6,             /* path, length */
+    OVERLAY_NOT_A_DIRECTORY = 7,    /* path, length */
+    OVERLAY_IS_A_DIRECTORY = 8,     /* path, length */
+    OVERLAY_NOT_EMPTY = 9,          /* path, length */
+    OVERLAY_BELOW_SOURCE = 10,      /* length: the destination lies below the source */
+    OVERLAY_LIMIT = 11,             /* the charge, or what a rename plans, exceeds the limit */
+    OVERLAY_KEY_TOO_LONG = 12,      /* a moved key has more than 512 bytes or 32 components */
+    OVERLAY_NO_ROOM = 13,           /* the entries after the call are longer than the table */
+    OVERLAY_MALFORMED_SCRIPT = 254, /* only overlay_run and overlay_run_new: the bytes are no script */
+    OVERLAY_SHORT_REPORT = 255      /* only these two: the report has not a row for each call */
 };
 
 /* An answer is packed in one number: the number above in the low 8 bits, the path (0: only or source, 1: destination)
@@ -122,6 +125,32 @@ uint64_t overlay_rename(const uint8_t *listing, size_t listing_length, uint8_t *
                         uint64_t *record, size_t record_length, uint8_t *work, size_t work_length,
                         const uint8_t *source, size_t source_length, const uint8_t *destination,
                         size_t destination_length, uint64_t limit);
+
+/* A SCRIPT is a list of changing calls as bytes: the mark "TSC1", a 32-bit count, then the steps: kind (8 bits: 1
+ * write, 2 mkdir, 3 unlink, 4 rmdir, 5 rename), flags (8 bits, for mkdir: 1 parents, 2 exist_ok), lengths of the first
+ * part (16 bits: the path, a rename's source) and of the second (32 bits: the data, a rename's destination), mtime (64
+ * bits), limit (64 bits), the two parts. What a step has no use for is 0. docs/FORMATS.md has one byte by byte.
+ *
+ * Its calls are made in their order on one table, each with the table, the record and the work buffer that the one
+ * before left; a refused call does not end the run. Each gets a row of OVERLAY_ROW_LENGTH bytes in the report, four
+ * 64-bit numbers: the number of its answer, the path, the length or value, and the table's charge after the call.
+ * Behind the last row the report is as it was. */
+#define OVERLAY_ROW_LENGTH 32
+
+/* Runs a script on the table. The answer is 0 if its calls were made, whatever each of them answered; table, record and
+ * work buffer are then those after the last. With any other answer nothing is changed: OVERLAY_MALFORMED_SCRIPT,
+ * OVERLAY_SHORT_REPORT, or OVERLAY_MALFORMED_TABLE if the record is not four numbers. If the table does not agree with
+ * its record, each call is refused with 1, in its row. */
+uint64_t overlay_run(const uint8_t *listing, size_t listing_length, uint8_t *table, size_t table_length,
+                     uint64_t *record, size_t record_length, uint8_t *work, size_t work_length,
+                     const uint8_t *script, size_t script_length, uint8_t *report, size_t report_length);
+
+/* Makes the buffer an empty table as overlay_open_table does, and runs a script on it. With OVERLAY_MALFORMED_TABLE
+ * nothing is changed; with OVERLAY_MALFORMED_SCRIPT or OVERLAY_SHORT_REPORT the table is empty, with its record. */
+uint64_t overlay_run_new(const uint8_t *listing, size_t listing_length, uint8_t *table, size_t table_length,
+                         uint64_t *record, size_t record_length, uint8_t *work, size_t work_length,
+                         const uint8_t *script, size_t script_length, uint8_t *report, size_t report_length,
+                         uint64_t entry_size);
 
 #ifdef __cplusplus
 }

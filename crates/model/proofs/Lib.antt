@@ -18,3 +18,4 @@ pub mod Formed
 pub mod Shapes
 pub mod Reached
 pub mod Demand3
+pub mod Chained

@@ -2,7 +2,7 @@
 -- sentence by sentence.
 use mathlib.Core.Path.{_≡_}
 use mathlib.Core.Bool.{Bool, true, false, _&&_, _||_}
-use mathlib.Core.List.{List, [], _∷_}
+use mathlib.Core.List.{List, [], _∷_, _++_}
 use mathlib.Core.Option.{Option, none, some}
 use Prim.Native.Nat.{ℕ, _≤_}
 use Rattle.model.specs.Bytes.{Bytes, same}
@@ -14,7 +14,7 @@ use Rattle.model.specs.Table.{entryBytes, charge, isTable, tableIn}
 use Rattle.model.specs.Checks.{pass}
 use Rattle.model.specs.Calls.{Call, write, mkdir, unlink, rmdir, rename}
 use Rattle.model.specs.Answer.{Reply, accepted, refused}
-use Rattle.model.specs.Outcome.{Store, Request, outcome, opened}
+use Rattle.model.specs.Outcome.{Store, Request, Outcome, outcome, opened}
 use Rattle.model.specs.Plain.{plainRules, plainEffect}
 use Rattle.model.specs.Cause.{Cause}
 use Rattle.model.specs.Posix.{Posix}
@@ -124,3 +124,35 @@ pub record Demand3 (listing : Bytes) (start : State) (calls : List Request) : Ty
   pub within-limit : Throughout (WithinLimit listing) listing start calls
   pub refused-leaves : Throughout (RefusedLeaves listing) listing start calls
   pub malformed : isListing listing ≡ false → Throughout (RefusedAndEmpty listing) listing start calls
+
+-- One call as its caller has it: what was asked, and the reply, the table with its record and the work buffer that were
+-- there after it.
+pub record Exchange : Type 0 where
+  pub request : Request
+  pub seen : Outcome
+
+-- Calls made one after the other, from the store s on: each did what the definition has, and the next one was given the
+-- table and the record that were there after it. Each brings its own limit and work buffer.
+abbrev pub Chained : Bytes → Store → List Exchange → Type 0
+Chained listing s [] = Unit {0}
+Chained listing s (x ∷ xs) = (x .seen ≡ outcome listing (x .request) s) × Chained listing (x .seen .store) xs
+
+-- what was asked, in its order
+abbrev pub requestsIn : List Exchange → List Request
+requestsIn [] = []
+requestsIn (x ∷ xs) = x .request ∷ requestsIn xs
+
+-- the table with its record that the caller has in the end
+abbrev pub lastSeen : Store → List Exchange → Store
+lastSeen s [] = s
+lastSeen s (x ∷ xs) = lastSeen (x .seen .store) xs
+
+-- Demand 3 and POSIX on what a caller saw
+pub record HoldsOfChain (listing : Bytes) (start : State) (chain : List Exchange) : Type 0 where
+  pub demand-3 : Demand3 listing start (requestsIn chain)
+  pub posix : Throughout (DoesAsPosix listing) listing start (requestsIn chain)
+  -- after each call there was what it does in the state that the calls before it reach
+  pub each : (before : List Exchange) (x : Exchange) (behind : List Exchange) → chain ≡ before ++ (x ∷ behind)
+      → x .seen ≡ outcome listing (x .request) (after listing (requestsIn before) start .store)
+  -- and in the end there is what the list of calls leaves
+  pub last : lastSeen (start .store) chain ≡ after listing (requestsIn chain) start .store

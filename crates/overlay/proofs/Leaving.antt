@@ -21,7 +21,7 @@ use Rattle.overlay.specs.Exported.{isFour, left, leaves, called, asked, 
 use Rattle.overlay.proofs.Fitting.{outcome-fits, ask-fits, opened-fits}
 
 -- four numbers
-four-back : (s : List ℕ) → length s ≡ 4 → numbers (recordIn s) ≡ s
+pub four-back : (s : List ℕ) → length s ≡ 4 → numbers (recordIn s) ≡ s
 four-back [] h = absurd (omega arith)
 four-back (x ∷ []) h = absurd (omega arith)
 four-back (x ∷ y ∷ []) h = absurd (omega arith)

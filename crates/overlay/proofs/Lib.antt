@@ -1,2 +1,4 @@
 pub mod Fitting
 pub mod Leaving
+pub mod Running
+pub mod Handing

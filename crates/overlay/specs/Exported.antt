@@ -1,17 +1,19 @@
 -- What each exported call answers and leaves, for every input. A record that is not four numbers is answered with 1,
 -- and all is left as it was.
 use mathlib.Core.Bool.{Bool, cond}
-use mathlib.Core.List.{List}
-use Prim.Native.Nat.{ℕ}
+use mathlib.Core.List.{List, []}
+use Prim.Native.Nat.{ℕ, _/_, _%_}
 use lib.Dec.{eqb}
 use lib.ListN.{length}
 use Rattle.model.specs.Bytes.{Bytes}
 use Rattle.model.specs.Path.{Path}
+use Rattle.model.specs.Table.{recordOf}
 use Rattle.model.specs.Calls.{Query}
-use Rattle.model.specs.Answer.{Reply, refused}
+use Rattle.model.specs.Answer.{Reply, accepted, refused}
 use Rattle.model.specs.Outcome.{Request, Outcome, outcome, ask, opened}
 use Rattle.call_answer.specs.Meets.{stored}
-use Rattle.overlay_packed.specs.Packed.{packed, numbers, recordIn}
+use Rattle.run_calls.specs.Runs.{ranOn, ranNew, asNew}
+use Rattle.overlay_packed.specs.Packed.{packed, numbers, recordIn, ranNumber, ranNumbers}
 
 abbrev pub isFour : List ℕ → Bool
 isFour s = eqb (length s) 4
@@ -25,6 +27,10 @@ pub record CallLeft : Type 0 where
 
 abbrev pub left : ℕ → List ℕ → Bytes → Bytes → CallLeft
 left a n t w = record { answer = a; rec = n; table = t; work = w }
+
+-- an answer as it is read from its number, part by part
+abbrev pub replyIn : ℕ → Reply
+replyIn a = cond (eqb (a % 256) 0) (accepted (a / 65536)) (refused (a % 256) (a / 256 % 256) (a / 65536))
 
 abbrev pub leaves : Outcome → CallLeft
 leaves o = left (packed (o .reply)) (numbers (o .store .rec)) (o .store .table) (o .work)
@@ -40,3 +46,31 @@ asked q listing p t n = cond (isFour n) (ask q listing p (stored t (recordIn n))
 
 abbrev pub opening : ℕ → Bytes → List ℕ → Reply
 opening E t n = cond (isFour n) (opened E t .reply) (refused 1 0 0)
+
+-- a run's answer, and the record, the table, the work buffer and the report after it
+pub record ScriptLeft : Type 0 where
+  pub answer : ℕ
+  pub rec : List ℕ
+  pub table : Bytes
+  pub work : Bytes
+  pub report : Bytes
+
+abbrev pub runLeft : ℕ → List ℕ → Bytes → Bytes → Bytes → ScriptLeft
+runLeft a n t w o = record { answer = a; rec = n; table = t; work = w; report = o }
+
+-- a script run on the table t with the record n; where it is not run, the record stays
+unfoldable pub scriptRun : Bytes → Bytes → List ℕ → Bytes → Bytes → Bytes → ScriptLeft
+scriptRun listing t n work script report =
+    let x = ranOn listing (stored t (recordIn n)) work script report in
+    let a = asNew (x .answer) in
+    cond (isFour n) (runLeft (ranNumber a) (ranNumbers a n n) (x .table) (x .work) (x .report))
+    (runLeft (packed (refused 1 0 0)) n t work report)
+
+-- the same on t opened for entries of size E; where the script is not run, the record is that of the opening
+unfoldable pub newScriptRun : Bytes → ℕ → Bytes → List ℕ → Bytes → Bytes → Bytes → ScriptLeft
+newScriptRun listing E t n work script report =
+    let x = ranNew listing E t work script report in
+    let a = x .answer in
+    cond (isFour n)
+    (runLeft (ranNumber a) (ranNumbers a (numbers (recordOf E [])) n) (x .table) (x .work) (x .report))
+    (runLeft (packed (refused 1 0 0)) n t work report)

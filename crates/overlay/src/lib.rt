@@ -8,9 +8,14 @@ ghost use Rattle.model.specs.Listing.{isListing};
 ghost use Rattle.model.specs.Table.{isTable};
 ghost use Rattle.model.specs.Calls as calls;
 ghost use Rattle.model.specs.Outcome.{opened};
-ghost use Rattle.call_answer.specs.Meets.{requested};
+ghost use Rattle.model.specs.Runs.{begin};
+ghost use Rattle.call_answer.specs.Meets.{requested, stored};
+ghost use Rattle.run_script.specs.Script.{stepsIn};
+ghost use Rattle.run_calls.specs.Runs.{requests, Holds};
 ghost use Rattle.overlay_packed.specs.Packed.{packed, ifAccepted, numbers, recordIn};
 ghost use Rattle.overlay.specs.Exported.{isFour, left, called, asked, opening};
+ghost use Rattle.overlay.specs.Exported.{runLeft, scriptRun, newScriptRun};
+use model::Record;
 
 // The numbers of a record: used, count, charge and entry size.
 const NUMBERS: usize = 4;
@@ -222,4 +227,61 @@ pub extern "C" fn overlay_rename(
     let before = overlay_packed::record_in(&*rec);
     let answered = call_rename::rename(listing, table, before, work, source, destination, limit);
     overlay_packed::store_and_pack(rec, answered)
+}
+
+// Runs the script on the table: its calls one after another, and for each a row in the report. A malformed script, or a
+// report without a row for each call, changes nothing.
+#[no_mangle]
+pub extern "C" fn overlay_run(
+    listing: &[u8],
+    table: &mut [u8],
+    rec: &mut [u64],
+    work: &mut [u8],
+    script: &[u8],
+    report: &mut [u8],
+) -> u64
+    ensures { λ r. ⌜ runLeft r (now (rec .exit)) (now (table .exit)) (now (work .exit)) (now (report .exit))
+        ≡ scriptRun (now (listing .entry)) (now (table .entry)) (now (rec .entry)) (now (work .entry))
+        (now (script .entry)) (now (report .entry)) ⌝ }
+{
+    if rec.len() != NUMBERS {
+        return MALFORMED;
+    }
+    let first = overlay_packed::record_in(&*rec);
+    let ran = run_calls::run(listing, table, first, work, script, report);
+    overlay_packed::store_and_pack_run(rec, run_calls::as_new(ran), first)
+}
+
+// Makes the buffer an empty table for entries of this size, and runs the script on it. Where it is done, demand 3 of
+// document 01 holds of its calls. A malformed script or a short report leaves the table opened, with its record.
+#[no_mangle]
+pub extern "C" fn overlay_run_new(
+    listing: &[u8],
+    table: &mut [u8],
+    rec: &mut [u64],
+    work: &mut [u8],
+    script: &[u8],
+    report: &mut [u8],
+    entry_size: u64,
+) -> u64
+    ensures { λ r. ⌜ runLeft r (now (rec .exit)) (now (table .exit)) (now (work .exit)) (now (report .exit))
+        ≡ newScriptRun (now (listing .entry)) «entry_size» (now (table .entry)) (now (rec .entry))
+        (now (work .entry)) (now (script .entry)) (now (report .entry)) ⌝ }
+    ensures { λ r. ⌜ (r ≡ 0 → Holds (now (listing .entry))
+        (begin (now (listing .entry)) «entry_size» (now (table .entry)))
+        (requests (now (listing .entry)) (stepsIn (now (script .entry)))
+        (begin (now (listing .entry)) «entry_size» (now (table .entry)) .store) (now (work .entry)))
+        (stored (now (table .exit)) (recordIn (now (rec .exit))))) ⌝ }
+{
+    if rec.len() != NUMBERS {
+        return MALFORMED;
+    }
+    let ran = run_calls::run_new(listing, entry_size, table, work, script, report);
+    let first = Record {
+        used: 0,
+        count: 0,
+        charge: 0,
+        entry_size,
+    };
+    overlay_packed::store_and_pack_run(rec, ran, first)
 }

@@ -1,4 +1,4 @@
--- What is packed of a reply, and when its parts fit; the record stored where a call is accepted.
+-- What is packed of a reply, and when its parts fit; the record stored where a call is accepted; a run by its case.
 use mathlib.Core.Path.{_≡_, refl, ap, sym, _∙_, subst}
 use mathlib.Core.Bool.{Bool, true, false}
 use mathlib.Core.List.{List, [], _∷_}
@@ -15,7 +15,8 @@ use Rattle.model.proofs.Orders.{bot}
 use Rattle.call_answer.proofs.Settles.{told-as}
 use Rattle.call_values.specs.declared.Row.{Row}
 use Rattle.call_values.specs.Values.{rowOf}
-use Rattle.overlay_packed.specs.Packed.{packed, Fits, ifAccepted}
+use Rattle.run_calls.specs.declared.RanNew.{RanNew}
+use Rattle.overlay_packed.specs.Packed.{packed, Fits, ifAccepted, ranNumber, ranNumbers}
 
 -- a reply's row fits where the reply does, and is packed as the reply is
 pub row-fits : (a : Reply) (w : Row) → w ≡ rowOf a → Fits a → Fits (refused (w .number) (w .path) (w .len))
@@ -47,6 +48,10 @@ if-accepted (refused n p l) b h e x y = absurd (bot (cc))
 pub if-refused : (r : Reply) (b : Bool) → b ≡ ifAccepted r true false → b ≡ false → (x y : List ℕ) → y ≡ ifAccepted r x y
 if-refused (accepted v) b h e x y = absurd (bot (cc))
 if-refused (refused n p l) b h e x y = refl
+
+-- a run that is the case b, where the four numbers are now y
+pub ran-stored : (a b : RanNew) → a ≡ b → (m s y : List ℕ) → y ≡ ranNumbers b m s → (ranNumber b ≡ ranNumber a) × (y ≡ ranNumbers a m s)
+ran-stored a b e m s y f = (sym (ap ranNumber e), f ∙ sym (ap (λ (x : RanNew). ranNumbers x m s) e))
 
 -- four numbers
 pub four-stored : (s : List ℕ) → length s ≡ 4 → (a b c d : ℕ) → set (set (set (set s 0 a) 1 b) 2 c) 3 d ≡ a ∷ b ∷ c ∷ d ∷ []

@@ -4,6 +4,8 @@ use Prim.Native.Nat.{ℕ, _+_, _*_, _<_}
 use lib.ListN.{getD}
 use Rattle.model.specs.Answer.{Reply, accepted, refused}
 use Rattle.model.specs.declared.Record.{Record}
+use Rattle.run_calls.specs.declared.RanNew.{RanNew}
+use Rattle.run_calls.specs.declared.RanNew.the-variants as new
 
 -- the number (0: accepted) in the low 8 bits, the path in the next 8, and from bit 16 on the length, or the value of
 -- what is accepted
@@ -27,3 +29,19 @@ numbers r = r .used ∷ r .count ∷ r .charge ∷ r .«entry_size» ∷ []
 
 abbrev pub recordIn : List ℕ → Record
 recordIn s = record { used = getD s 0 0; count = getD s 1 0; charge = getD s 2 0; «entry_size» = getD s 3 0 }
+
+-- A run in one number: 0 done, 1 the table is malformed, 254 the bytes are no script, 255 the report has not a row for
+-- each call. No call answers one of the last two.
+abbrev pub ranNumber : RanNew → ℕ
+ranNumber (new.Done r) = 0
+ranNumber new.MalformedTable = 1
+ranNumber new.MalformedScript = 254
+ranNumber new.ShortReport = 255
+
+-- the four numbers after a run: of the record after its last call; s, what they were, where the table is malformed; and
+-- m, what belongs to the table, where the script is not run
+abbrev pub ranNumbers : RanNew → List ℕ → List ℕ → List ℕ
+ranNumbers (new.Done r) m s = numbers r
+ranNumbers new.MalformedTable m s = s
+ranNumbers new.MalformedScript m s = m
+ranNumbers new.ShortReport m s = m

@@ -5,17 +5,27 @@ ghost use mathlib.Core.Bool.{true, false};
 ghost use lib.ListN.{length};
 ghost use Rattle.model.specs.Answer.{refused, told, toldFinding};
 ghost use Rattle.overlay_packed.specs.Packed.{packed, Fits, ifAccepted, numbers, recordIn};
+ghost use Rattle.overlay_packed.specs.Packed.{ranNumber, ranNumbers};
 use call_values::Row;
 use model::Answer;
 use model::Answered;
 use model::Finding;
 use model::Record;
+use run_calls::RanNew;
 
 // An answer's number stands in the lowest 8 bits, its path in the next 8, its length or value above: what one of each
 // counts.
 const PATH_UNIT: u64 = 256;
 
 const VALUE_UNIT: u64 = 65_536;
+
+// What a run answers where it is not done. No call answers one of the last two, and later numbers of calls come from
+// below.
+const MALFORMED_TABLE: u64 = 1;
+
+const MALFORMED_SCRIPT: u64 = 254;
+
+const SHORT_REPORT: u64 = 255;
 
 // The record that four numbers are.
 pub fn record_in(rec: &[u64]) -> Record
@@ -93,4 +103,28 @@ pub fn store_and_pack(rec: &mut [u64], answered: Answered) -> u64
         return pack_answer(answer);
     }
     pack_answer(answer)
+}
+
+// A run in one number. The last record is stored where the run is done; where the script is not run, `first`, the
+// record that the table has before the first call.
+pub fn store_and_pack_run(rec: &mut [u64], ran: RanNew, first: Record) -> u64
+    requires { ⌜ length (now rec) ≡ 4 ⌝ }
+    ensures { λ r. ⌜ r ≡ ranNumber ran ⌝ }
+    ensures { λ _. ⌜ now (rec .exit) ≡ ranNumbers ran (numbers first) (now (rec .entry)) ⌝ }
+{
+    match ran {
+        RanNew::Done(last) => {
+            store(rec, last);
+            return 0;
+        }
+        RanNew::MalformedTable => return MALFORMED_TABLE,
+        RanNew::MalformedScript => {
+            store(rec, first);
+            return MALFORMED_SCRIPT;
+        }
+        RanNew::ShortReport => {
+            store(rec, first);
+            return SHORT_REPORT;
+        }
+    }
 }

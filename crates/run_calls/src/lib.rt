@@ -132,7 +132,8 @@ pub fn run(
     Ran::Done(last)
 }
 
-fn as_new(ran: Ran) -> RanNew
+// A run on a table that was there, told as one on a new table is.
+pub fn as_new(ran: Ran) -> RanNew
     ensures { λ r. ⌜ r ≡ asNew ran ⌝ }
 {
     match ran {

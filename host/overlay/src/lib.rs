@@ -4,7 +4,8 @@
 //! those of the static library `overlay`, each proved against its definition: whatever bytes are given, a call
 //! ends, and a refused call changes nothing. This crate keeps the buffers and gives the answers Rust's form.
 //!
-//! [`Overlay`] owns its buffers, [`OverlayMut`] borrows them, and [`raw`] has the calls on plain slices.
+//! [`Overlay`] owns its buffers, [`OverlayMut`] borrows them, and [`raw`] has the calls on plain slices. A [`Script`]
+//! is a list of calls, to be run as one.
 //!
 //! ```
 //! use overlay::{EMPTY_LISTING, Mkdir, Overlay, Refusal};
@@ -24,9 +25,11 @@
 mod entries;
 pub mod raw;
 mod refusal;
+mod script;
 
 pub use entries::{Entries, Entry, EntryKind};
 pub use refusal::{Refusal, unpack};
+pub use script::{NotRun, ROW_LENGTH, Row, Script};
 
 /// The bytes of the longest table, and of the longest listing.
 pub const MAX_BUFFER: usize = 16_777_216;
@@ -248,11 +251,32 @@ impl<'a> OverlayMut<'a> {
         self.change(|lent| raw::rename(listing, lent, source.as_ref(), destination.as_ref(), limit)).map(drop)
     }
 
+    /// Makes the calls of a script, in its order, and tells what each answered. Each gets the work buffer as the one
+    /// before left it. Bytes that are no script change nothing.
+    pub fn run(&mut self, listing: &[u8], script: impl AsRef<[u8]>) -> Result<Vec<Row>, NotRun> {
+        let script = script.as_ref();
+        let mut report = script::report_for(script);
+        let answer = self.answer(|lent| raw::run(listing, lent, script, &mut report));
+        script::told(answer, &report)
+    }
+
+    /// The same on the table made an empty one for entries of this size. It is that too where the bytes are no script.
+    pub fn run_new(&mut self, listing: &[u8], script: impl AsRef<[u8]>, entry_size: u64) -> Result<Vec<Row>, NotRun> {
+        let script = script.as_ref();
+        let mut report = script::report_for(script);
+        let answer = self.answer(|lent| raw::run_new(listing, lent, script, &mut report, entry_size));
+        script::told(answer, &report)
+    }
+
     fn change(&mut self, call: impl FnOnce(&mut raw::Lent) -> u64) -> Result<u64, Refusal> {
+        unpack(self.answer(call))
+    }
+
+    fn answer(&mut self, call: impl FnOnce(&mut raw::Lent) -> u64) -> u64 {
         let mut record: [u64; 4] = (*self.record).into();
         let answer = call(&mut raw::Lent { table: self.table, record: &mut record, work: self.work });
         *self.record = record.into();
-        unpack(answer)
+        answer
     }
 }
 
@@ -282,6 +306,33 @@ impl Overlay {
         let mut overlay = Overlay { table: vec![0; capacity], record: Record::default(), work: vec![0; capacity] };
         overlay.lend().open(entry_size)?;
         Ok(overlay)
+    }
+
+    /// An empty table as [`open`](Overlay::open) gives it, and the calls of a script made on it, with what each
+    /// answered.
+    ///
+    /// ```
+    /// use overlay::{EMPTY_LISTING, NotRun, Overlay, Script};
+    /// let mut script = Script::new();
+    /// script.write_bytes("a", b"xy", 0.0, u64::MAX);
+    /// let (plan, rows) = Overlay::run_new(100, 0, EMPTY_LISTING, &script)?;
+    /// assert_eq!((rows[0].answer, rows[0].charge), (Ok(2), 259));
+    /// assert_eq!(plan.record().charge, 259);
+    /// assert_eq!(Overlay::run_new(100, 0, EMPTY_LISTING, b"TSC").unwrap_err(), NotRun::MalformedScript);
+    /// # Ok::<(), NotRun>(())
+    /// ```
+    pub fn run_new(
+        capacity: usize,
+        entry_size: u64,
+        listing: &[u8],
+        script: impl AsRef<[u8]>,
+    ) -> Result<(Overlay, Vec<Row>), NotRun> {
+        if capacity > MAX_BUFFER {
+            return Err(NotRun::MalformedTable);
+        }
+        let mut overlay = Overlay { table: vec![0; capacity], record: Record::default(), work: vec![0; capacity] };
+        let rows = overlay.lend().run_new(listing, script, entry_size)?;
+        Ok((overlay, rows))
     }
 
     /// A table that was kept, with its record. It is refused where they do not agree.
@@ -431,5 +482,24 @@ impl Overlay {
         limit: u64,
     ) -> Result<(), Refusal> {
         self.lend().rename(listing, source, destination, limit)
+    }
+
+    /// Makes the calls of a script, in its order, and tells what each answered. Bytes that are no script change
+    /// nothing.
+    ///
+    /// ```
+    /// use overlay::{EMPTY_LISTING, Mkdir, NotRun, Overlay, Refusal, Script};
+    /// let mut plan = Overlay::open(100, 0).unwrap();
+    /// let mut script = Script::new();
+    /// script.mkdir("a", Mkdir::default(), 0.0, u64::MAX);
+    /// script.unlink("a", u64::MAX);
+    /// let rows = plan.run(EMPTY_LISTING, &script)?;
+    /// assert_eq!(rows[1].answer, Err(Refusal::IsADirectory { path: 0, len: 1 }));
+    /// assert!(plan.is_dir(EMPTY_LISTING, "a").unwrap());
+    /// assert_eq!(plan.run(EMPTY_LISTING, b"TSC1"), Err(NotRun::MalformedScript));
+    /// # Ok::<(), NotRun>(())
+    /// ```
+    pub fn run(&mut self, listing: &[u8], script: impl AsRef<[u8]>) -> Result<Vec<Row>, NotRun> {
+        self.lend().run(listing, script)
     }
 }

@@ -37,6 +37,8 @@ mod exported {
         overlay_unlink(limit: u64)
         overlay_rmdir(limit: u64)
         overlay_rename(d: *const u8, dn: usize, limit: u64)
+        overlay_run(o: *mut u8, on: usize)
+        overlay_run_new(o: *mut u8, on: usize, entry_size: u64)
     }
 }
 
@@ -133,4 +135,15 @@ pub fn rmdir(listing: &[u8], lent: &mut Lent, path: &[u8], limit: u64) -> u64 {
 /// What is at the source, and below it, moves to the destination.
 pub fn rename(listing: &[u8], lent: &mut Lent, source: &[u8], destination: &[u8], limit: u64) -> u64 {
     change!(overlay_rename, listing, lent, source, destination.as_ptr(), destination.len(), limit)
+}
+
+/// Makes the calls of a script, with a row of [`ROW_LENGTH`](crate::ROW_LENGTH) bytes in the report for each. The
+/// answer is 0, or why none was made: 1, 254 (no script) or 255 (the report is too short).
+pub fn run(listing: &[u8], lent: &mut Lent, script: &[u8], report: &mut [u8]) -> u64 {
+    change!(overlay_run, listing, lent, script, report.as_mut_ptr(), report.len())
+}
+
+/// The same on the table made an empty one first, which it stays with 254 and 255.
+pub fn run_new(listing: &[u8], lent: &mut Lent, script: &[u8], report: &mut [u8], entry_size: u64) -> u64 {
+    change!(overlay_run_new, listing, lent, script, report.as_mut_ptr(), report.len(), entry_size)
 }
