@@ -32,7 +32,12 @@ fn without(rec: model::Record, key_len: u64, body_len: u64) -> model::Record
 }
 
 // The record without the entry at the key: the place is where it stands, if there is one.
-fn record_without(table: &[u8], rec: model::Record, place: table_entries::Place, key: &[u8]) -> model::Record
+fn record_without(
+    table: &[u8],
+    rec: model::Record,
+    place: table_entries::Place,
+    key: &[u8],
+) -> model::Record
     requires { ⌜ isTable (now table) rec ≡ true ⌝ }
     requires { ⌜ Sought (now table) (now key) (rec .count) 0 (place .left) (place .at) ⌝ }
     ensures { λ r. ⌜ r ≡ recordOf (rec .«entry_size») (del (now (key .entry)) (tableIn (now (table .entry)) rec)) ⌝ }

@@ -87,7 +87,7 @@ entry-memory-usage-requires c κs =
     let l = o .before .before in
     let i = l .before .loop .inv in
     let e = end i (l .loop-test .taken) (o .before .is-in-order .ensures) (o .if2 .left) (c .before .le16 .ensures .0) (c .le32 .ensures .0) in
-    (i .size, omega (arith, i .small, e), omega (arith, i .small, e))
+    (omega (arith, i .size), omega (arith, i .small, e), omega (arith, i .small, e))
 
 add-charge : tie.Need-add-charge Inv-loop μ-loop
 add-charge c =
