@@ -106,10 +106,11 @@ fn counted(table: &[u8], tally: Tally, destination: &[u8], key: &[u8], from: usi
     let place = tally.place;
     let rec = tally.rec;
     if model::PATH_MAX < n {
+        let usage = table_charge::entry_memory_usage(rec.entry_size, n as u64, m);
         return Tally {
             place: place,
             rec: rec,
-            extra: tally.extra + model::ENTRY_MEMORY_USAGE + n as u64 + rec.entry_size + m,
+            extra: tally.extra + usage,
             long: true,
         };
     }
