@@ -1,6 +1,5 @@
 -- What is known of a budget by what it answers when it is shrunk.
-use mathlib.Core.Path.{_≡_, refl, sym, ap, _∙_}
-use mathlib.Core.Bool.{Bool, true, false, cond}
+use mathlib.Core.Path.{_≡_, sym, ap, _∙_}
 use Prim.Native.Nat.{ℕ, _-_, _<_, _≤_}
 use lib.Dec.{leb}
 use borrow.Author.Tests.{leb-true, leb-false}

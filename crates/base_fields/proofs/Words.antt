@@ -2,14 +2,13 @@
 -- Assumes nothing else than `IsBytes` where a law names it.
 use mathlib.Core.Path.{_≡_, refl, sym, ap, _∙_}
 use mathlib.Core.List.{[], _∷_, _++_}
-use Prim.Native.Nat.{ℕ, suc, _+_, _≤_}
+use Prim.Native.Nat.{ℕ, _+_, _≤_}
 use native.Mathlib.Omega.{arith}
 use lib.ListN.{length, drop}
 use Rattle.model.specs.Bytes.{Bytes, numberAt, bytes}
 use Rattle.model.proofs.Words.{IsBytes}
 use Rattle.base_fields.specs.Read.{common}
 use Rattle.base_fields.proofs.Common.{heads, alike, apart}
-use Rattle.base_fields.proofs.Numbers.{length-bytes}
 use Rattle.base_fields.proofs.Pieces.{piece}
 
 common-behind : (u s t : Bytes) → common (u ++ s) (u ++ t) ≡ length u + common s t

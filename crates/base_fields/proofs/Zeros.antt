@@ -9,7 +9,7 @@ use lib.Dec.{eqb}
 use lib.ListN.{length, getD, take, drop, set, replicate, length-set, length-drop}
 use lib.ListN.{drop-of-length-le, replicate-append-replicate}
 use lib.Seq.{drop-cons, take-suc-set, take-all, take-at}
-use borrow.Author.Tests.{eq-eqb, eqb-true}
+use borrow.Author.Tests.{eqb-true}
 use Rattle.model.specs.Bytes.{Bytes}
 use Rattle.model.specs.Table.{padded}
 use Rattle.model.proofs.Orders.{and-true}

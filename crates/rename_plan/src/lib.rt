@@ -78,8 +78,7 @@ fn walk_checks(
     requires { ⌜ isPath (now source) ≡ true ⌝ }
     ensures { λ r. ⌜ checkOf r ≡ ifDirectory (kind (lookup (treeIn (now (listing .entry)))) (now (source .entry)))
         (rename.walked (length (now (source .entry))) (walkFrom (tableIn (now (table .entry)) rec)
-        (treeIn (now (listing .entry)))
-        (some (budget .available)) (now (source .entry)))) ⌝ }
+        (treeIn (now (listing .entry))) (some (budget .available)) (now (source .entry)))) ⌝ }
 {
     if is_listed_directory(listing, source) {
         let walk = rename_walk::collect_real_descendants(listing, table, rec, source, budget);
@@ -102,13 +101,10 @@ pub fn plan_checks(
     requires { ⌜ isTable (now table) rec ≡ true ⌝ }
     requires { ⌜ (isPath (now source) ≡ true) × (isPath (now destination) ≡ true) ⌝ }
     ensures { λ r. ⌜ checkOf r ≡ (plan (limited (rec .«entry_size») limit) (tableIn (now (table .entry)) rec)
-        (now (source .entry))
-        (now (destination .entry)) then ifDirectory (kind (lookup (treeIn (now (listing .entry))))
-        (now (source .entry)))
-        (rename.walked (length (now (source .entry))) (walkFrom (tableIn (now (table .entry)) rec)
-        (treeIn (now (listing .entry)))
-        (rename.budget (limited (rec .«entry_size») limit) (tableIn (now (table .entry)) rec) (now (source .entry))
-        (now (destination .entry)))
+        (now (source .entry)) (now (destination .entry)) then ifDirectory (kind (lookup (treeIn (now (listing .entry))))
+        (now (source .entry))) (rename.walked (length (now (source .entry))) (walkFrom (tableIn (now (table .entry))
+        rec) (treeIn (now (listing .entry))) (rename.budget (limited (rec .«entry_size») limit)
+        (tableIn (now (table .entry)) rec) (now (source .entry)) (now (destination .entry)))
         (now (source .entry))))) ⌝ }
 {
     let Shrunk::Left(free) = base_budget::available_memory(rec.charge, limit) else {

@@ -1,7 +1,7 @@
 // rename's walk: a directory's listed children without an entry are visited in ascending order, then the directories
-// among them entered, the last found first. A stretch of records is entered by halves, the second first, since a listing
-// can only be read forward. Assumes a listing and a table that were checked, and a path: only this repository's crates
-// call. A record or an entry is passed a few times at each of 32 levels, once for each of 20 halvings there.
+// among them entered, the last found first. A stretch of records is entered by halves, the second first, since a
+// listing can only be read forward. Assumes a listing and a table that were checked, and a path: only this repository's
+// crates call. A record or an entry is passed a few times at each of 32 levels, once for each of 20 halvings there.
 ghost use mathlib.Core.Path.{_≡_};
 ghost use mathlib.Core.Bool.{true, _&&_};
 ghost use mathlib.Core.Option.{some};
@@ -72,8 +72,8 @@ fn added(total: u64, cost: u64, budget: MemoryBudget) -> Walked
 // One node visited, at a path of `len` bytes: a link ends the walk. A listed node is never absent.
 fn visit_from(total: u64, found: listing_records::Found, len: u64, budget: MemoryBudget) -> Walked
     requires { ⌜ len ≤ 16777216 ⌝ }
-    ensures { λ r. ⌜ ((p : Path) (n : Node) → found ≡ foundOf (some n) → len ≡ length p
-        → walkOf r ≡ visit (some (budget .available)) (rename.sum total) p n) ⌝ }
+    ensures { λ r. ⌜ ((p : Path) (n : Node) → found ≡ foundOf (some n) → len ≡ length p → walkOf r
+        ≡ visit (some (budget .available)) (rename.sum total) p n) ⌝ }
 {
     match found {
         listing_records::Found::Directory(_) => {
@@ -94,8 +94,8 @@ fn visit_from(total: u64, found: listing_records::Found, len: u64, budget: Memor
 // The same of a walk that may have ended: then it stays so.
 fn visited(walked: Walked, found: listing_records::Found, len: u64, budget: MemoryBudget) -> Walked
     requires { ⌜ len ≤ 16777216 ⌝ }
-    ensures { λ r. ⌜ ((p : Path) (n : Node) → found ≡ foundOf (some n) → len ≡ length p
-        → walkOf r ≡ visit (some (budget .available)) (walkOf walked) p n) ⌝ }
+    ensures { λ r. ⌜ ((p : Path) (n : Node) → found ≡ foundOf (some n) → len ≡ length p → walkOf r
+        ≡ visit (some (budget .available)) (walkOf walked) p n) ⌝ }
 {
     match walked {
         Walked::Sum(total) => {
@@ -160,12 +160,10 @@ fn bare_child(
     requires { ⌜ 0 < here .left ⌝ }
     requires { ⌜ Standing (now table) (place .left) (place .at) ⌝ }
     ensures { λ r. ⌜ r .bare ≡ (child (now (dir .entry)) (recordAt (now (records .entry)) (here .at) .path)
-        && isNone (lookup
-        (entriesAt (now (table .entry)) (place .left) (place .at))
-        (recordAt (now (records .entry)) (here .at) .path))) ⌝ }
+        && isNone (lookup (entriesAt (now (table .entry)) (place .left) (place .at)) (recordAt (now (records .entry))
+        (here .at) .path))) ⌝ }
     ensures { λ r. ⌜ Sought (now (table .entry)) (recordAt (now (records .entry)) (here .at) .path) (place .left)
-        (place .at) (r .place .left)
-        (r .place .at) ⌝ }
+        (place .at) (r .place .left) (r .place .at) ⌝ }
 {
     let path = listing_records::record_path(records, here);
     let got = table_entries::get_from(table, place, path);
@@ -192,11 +190,10 @@ fn visit_record(
     requires { ⌜ 0 < here .left ⌝ }
     requires { ⌜ Standing (now table) (place .left) (place .at) ⌝ }
     ensures { λ r. ⌜ walkOf (r .walked) ≡ visits (some (budget .available)) (walkOf walked)
-        (children (entriesAt (now (table .entry)) (place .left) (place .at))
-        (treeAt (now (records .entry)) 1 (here .at)) (now (dir .entry))) ⌝ }
+        (children (entriesAt (now (table .entry)) (place .left) (place .at)) (treeAt (now (records .entry)) 1
+        (here .at)) (now (dir .entry))) ⌝ }
     ensures { λ r. ⌜ Sought (now (table .entry)) (recordAt (now (records .entry)) (here .at) .path) (place .left)
-        (place .at) (r .place .left)
-        (r .place .at) ⌝ }
+        (place .at) (r .place .left) (r .place .at) ⌝ }
 {
     let child = bare_child(records, here, table, place, dir);
     let next = child.place;
@@ -230,8 +227,8 @@ fn visit_children(
     requires { ⌜ stretch .count ≤ stretch .left ⌝ }
     requires { ⌜ Standing (now table) (place .left) (place .at) ⌝ }
     ensures { λ r. ⌜ walkOf r ≡ visits (some (budget .available)) (walkOf walked)
-        (children (entriesAt (now (table .entry)) (place .left) (place .at))
-        (treeAt (now (records .entry)) (stretch .count) (stretch .at)) (now (dir .entry))) ⌝ }
+        (children (entriesAt (now (table .entry)) (place .left) (place .at)) (treeAt (now (records .entry))
+        (stretch .count) (stretch .at)) (now (dir .entry))) ⌝ }
 {
     let mut at = stretch.at;
     let mut left = stretch.left;
@@ -263,8 +260,8 @@ fn visit_children(
 fn seek_below(records: &[u8], place: listing_records::Place, dir: &[u8]) -> listing_records::Place
     requires { ⌜ listing.Standing (now records) (place .left) (place .at) ⌝ }
     ensures { λ r. ⌜ listing.Standing (now (records .entry)) (r .left) (r .at) ⌝ }
-    ensures { λ r. ⌜ treeAt (now (records .entry)) (r .left) (r .at)
-        ≡ since (slashed (now (dir .entry))) (treeAt (now (records .entry)) (place .left) (place .at)) ⌝ }
+    ensures { λ r. ⌜ treeAt (now (records .entry)) (r .left) (r .at) ≡ since (slashed (now (dir .entry)))
+        (treeAt (now (records .entry)) (place .left) (place .at)) ⌝ }
 {
     let mut at = place.at;
     let mut left = place.left;
@@ -345,8 +342,7 @@ fn halved(records: &[u8], stretch: Stretch) -> Halves
     requires { ⌜ listing.Standing (now records) (stretch .left) (stretch .at) ⌝ }
     requires { ⌜ (stretch .count ≤ stretch .left) × (1 < stretch .count) ⌝ }
     ensures { λ r. ⌜ Halved (now (records .entry)) (stretch .left) (stretch .count) (stretch .at) (r .low .left)
-        (r .low .count) (r .low .at)
-        (r .high .left) (r .high .count) (r .high .at) ⌝ }
+        (r .low .count) (r .low .at) (r .high .left) (r .high .count) (r .high .at) ⌝ }
 {
     let at = stretch.at;
     let left = stretch.left;
@@ -442,8 +438,8 @@ fn enter_stretch(
 
 // The walk below a source, from 2 × its length + 1 on: its children are visited, then the directories among them
 // entered. The Rust's function of this name collects what the walk finds; here nothing is collected, and the sum is
-// answered. A path has at most 32 components, so 32 levels, of which the source's children are the first, reach all that
-// is listed.
+// answered. A path has at most 32 components, so 32 levels, of which the source's children are the first, reach all
+// that is listed.
 pub fn collect_real_descendants(
     listing: &[u8],
     table: &[u8],

@@ -40,10 +40,10 @@ pub fn has_key(table: &[u8], place: table_entries::Place, key: &[u8]) -> bool
 pub fn behind_key(table: &[u8], place: table_entries::Place, key: &[u8]) -> table_entries::Place
     requires { ⌜ Standing (now table) (place .left) (place .at) ⌝ }
     ensures { λ r. ⌜ Standing (now (table .entry)) (r .left) (r .at) ⌝ }
-    ensures { λ r. ⌜ entriesAt (now (table .entry)) (r .left) (r .at)
-        ≡ unlessFirst (now (key .entry)) (entriesAt (now (table .entry)) (place .left) (place .at)) ⌝ }
-    ensures { λ r. ⌜ endOf (now (table .entry)) (r .left) (r .at)
-        ≡ endOf (now (table .entry)) (place .left) (place .at) ⌝ }
+    ensures { λ r. ⌜ entriesAt (now (table .entry)) (r .left) (r .at) ≡ unlessFirst (now (key .entry)) (entriesAt
+        (now (table .entry)) (place .left) (place .at)) ⌝ }
+    ensures { λ r. ⌜ endOf (now (table .entry)) (r .left) (r .at) ≡ endOf (now (table .entry)) (place .left)
+        (place .at) ⌝ }
 {
     if has_key(table, place, key) {
         return table_entries::next_entry(table, place);
@@ -97,11 +97,9 @@ pub fn projected(
     requires { ⌜ Counts (now table) (place .left) (place .at) rec ⌝ }
     requires { ⌜ (length (now key) ≤ 512) × (len ≤ 0x8000_0000_0000_0000) ⌝ }
     ensures { λ r. ⌜ ((t : Table) (k : Path) (v : Entry) → Measured (now (table .entry)) t k (place .left) (place .at)
-        (rec .«entry_size») rec
-        → before k (now (key .entry)) ≡ true → length (bodyOf v) ≡ len
+        (rec .«entry_size») rec → before k (now (key .entry)) ≡ true → length (bodyOf v) ≡ len
         → Measured (now (table .entry)) (put (now (key .entry)) v t) (now (key .entry)) (r .place .left) (r .place .at)
-        (rec .«entry_size»)
-        (r .rec)) ⌝ }
+        (rec .«entry_size») (r .rec)) ⌝ }
 {
     let found = table_entries::seek(table, place, key);
     if has_key(table, found, key) {

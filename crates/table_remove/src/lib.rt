@@ -17,8 +17,8 @@ const ENTRY_HEAD_64: u64 = model::ENTRY_HEAD as u64;
 // The record without an entry whose key and body have these lengths.
 fn without(rec: model::Record, key_len: u64, body_len: u64) -> model::Record
     requires { ⌜ (rec .«entry_size» ≤ 4096) × («key_len» ≤ 16777216) × («body_len» ≤ 16777216) ⌝ }
-    requires { ⌜ (24 + «key_len» + «body_len» ≤ rec .used) × (1 ≤ rec .count)
-        × (chargeBy (rec .«entry_size») «key_len» «body_len» ≤ rec .charge) ⌝ }
+    requires { ⌜ (24 + «key_len» + «body_len» ≤ rec .used) × (1 ≤ rec .count) × (chargeBy (rec .«entry_size») «key_len»
+        «body_len» ≤ rec .charge) ⌝ }
     ensures { λ r. ⌜ r ≡ lessened rec «key_len» «body_len» ⌝ }
 {
     let e = rec.entry_size;
@@ -55,8 +55,8 @@ pub fn remove(table: &mut [u8], work: &mut [u8], rec: model::Record, key: &[u8])
     requires { ⌜ isTable (now table) rec ≡ true ⌝ }
     requires { ⌜ length (now table) ≤ length (now work) ⌝ }
     ensures { λ r. ⌜ r ≡ recordOf (rec .«entry_size») (del (now (key .entry)) (tableIn (now (table .entry)) rec)) ⌝ }
-    ensures { λ _. ⌜ now (table .exit) ≡ padded (length (now (table .entry)))
-        (encode (del (now (key .entry)) (tableIn (now (table .entry)) rec))) ⌝ }
+    ensures { λ _. ⌜ now (table .exit) ≡ padded (length (now (table .entry))) (encode (del (now (key .entry))
+        (tableIn (now (table .entry)) rec))) ⌝ }
     ensures { λ _. ⌜ now (work .exit) ≡ replicate (length (now (work .entry))) 0 ⌝ }
 {
     let first = table_entries::first_entry(table, rec);

@@ -1,7 +1,7 @@
 -- `added` meets its contract: above the budget before the addition, within after it, or above.
 use mathlib.Core.Path.{sym, _∙_}
 use borrow.Author.Needs.{needs}
-use Rattle.base_budget.proofs.Budgets.{left-is, exceeded-is}
+use Rattle.base_budget.proofs.Budgets.{exceeded-is}
 use Rattle.rename_walk.proofs.Budgets.{over-before, covered, within-rest, over-rest}
 use Rattle.rename_walk.proofs.added.Statement.{statement}
 use Rattle.rename_walk.proofs.added.Tie as tie
