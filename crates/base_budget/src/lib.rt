@@ -45,3 +45,10 @@ impl MemoryBudget {
         Shrunk::MemoryUsageLimitExceeded(self.limit)
     }
 }
+
+// What the table's charge leaves of a limit: `available_memory` of overlay.rs.
+pub fn available_memory(charge: u64, limit: u64) -> Shrunk
+    ensures { λ r. ⌜ r ≡ shrunk (record { available = limit; limit = limit }) charge ⌝ }
+{
+    MemoryBudget::full(limit).shrink(charge)
+}

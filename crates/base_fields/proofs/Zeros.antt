@@ -1,6 +1,6 @@
 -- Bytes that are all 0: the test as an equation, and the loops that test and write them.
 use mathlib.Core.Path.{_≡_, refl, sym, ap, ap₂, _∙_}
-use mathlib.Core.Bool.{true, false}
+use mathlib.Core.Bool.{Bool, true, false, _&&_}
 use mathlib.Core.List.{[], _∷_, _++_, append-assoc, append-nil}
 use Prim.Native.Nat.{ℕ, zero, suc, _+_, _-_, _<_, _≤_}
 use native.Mathlib.Omega.{arith}
@@ -9,7 +9,7 @@ use lib.Dec.{eqb}
 use lib.ListN.{length, getD, take, drop, set, replicate, length-set, length-drop}
 use lib.ListN.{drop-of-length-le, replicate-append-replicate}
 use lib.Seq.{drop-cons, take-suc-set, take-all, take-at}
-use borrow.Author.Tests.{eq-eqb, ne-eqb, eqb-true}
+use borrow.Author.Tests.{eqb-true}
 use Rattle.model.specs.Bytes.{Bytes}
 use Rattle.model.specs.Table.{padded}
 use Rattle.model.proofs.Orders.{and-true}
@@ -46,14 +46,13 @@ zeroed-behind t bs n e h =
 
 -- the loop of `all_zero` at its i-th byte
 module _ (s : Bytes) (i : ℕ) where
-  pub not-zero : i < length s → (getD s i 0 ≡ 0 → ⊥) → false ≡ zeros (drop i s)
-  not-zero h n = rw (drop-cons s i 0 h, ne-eqb (getD s i 0) 0 n)
+  pub one-read : (ok : Bool) → i < length s → ((ok && eqb (getD s i 0) 0) && zeros (drop (i + 1) s)) ≡ (ok && zeros (drop i s))
+  one-read true h = rw (drop-cons s i 0 h, add-one i)
+  one-read false h = refl
 
-  pub one-zero : i < length s → getD s i 0 ≡ 0 → zeros (drop (i + 1) s) ≡ zeros (drop i s)
-  one-zero h e = rw (drop-cons s i 0 h, eq-eqb (getD s i 0) 0 e, add-one i)
-
-  pub no-more : length s ≤ i → true ≡ zeros (drop i s)
-  no-more h = rw (drop-of-length-le s h)
+  pub no-more : (ok : Bool) → length s ≤ i → ok ≡ (ok && zeros (drop i s))
+  no-more true h = rw (drop-of-length-le s h)
+  no-more false h = refl
 
 -- the loop of `zero_from`: t is t₀ with zeros from `from` up to i
 pub record Zeroed (t₀ : Bytes) (from : ℕ) (t : Bytes) (i : ℕ) : Type 0 where

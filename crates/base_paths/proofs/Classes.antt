@@ -7,7 +7,7 @@ use Prim.Native.Nat.{ℕ, _<_, _≤_}
 use native.Mathlib.Omega.{arith}
 use lib.Dec.{eqb}
 use lib.ListN.{length, getD, replicate}
-use borrow.Author.Tests.{eqb-true}
+use borrow.Author.Tests.{eqb-true, le-leb}
 use Rattle.model.specs.Utf8.{_to_, within, Row, rows, afterIn}
 use Rattle.model.proofs.Orders.{yea, nay, test}
 use Rattle.base_paths.specs.Classes.{rowIn, afterRow}
@@ -68,3 +68,7 @@ of-row = below OfRow 10 (refl, (refl, (refl, (refl, (refl, (refl, (refl, (refl, 
 -- what the tables give for a byte's class follows the byte
 pub of-class : (b k : ℕ) → k ≡ rowIn rows b → k < 10 → ranges (getD needed k 0) (getD lows k 0 to getD highs k 0) ≡ afterIn rows b
 of-class b k e h = of-row k h ∙ ap (afterRow rows) e ∙ after-row rows b
+
+-- nothing follows a byte of ASCII
+pub of-ascii : (b : ℕ) → b < 128 → [] ≡ afterIn rows b
+of-ascii b h = rw (le-leb 0 b (omega arith), le-leb b 127 (omega arith))

@@ -300,6 +300,14 @@ pub fn class_of(b: u8) -> u8
 pub fn after_first(b: u8) -> Tail
     ensures { λ r. ⌜ pending r ≡ afterIn rows b ⌝ }
 {
+    // ASCII first: it is most of what paths have, and each use of a table builds the whole of it.
+    if b < 0x80 {
+        return Tail {
+            need: 0,
+            low: 0,
+            high: 0,
+        };
+    }
     let k = class_of(b) as usize;
     Tail {
         need: NEED[k],

@@ -82,13 +82,11 @@ fn to_create(listing: &[u8], table: &[u8], rec: Record, path: &[u8], parents: bo
     ensures { λ r. ⌜ checkOf (r .judged) ≡ mkdirParents (shown (tableIn (now (table .entry)) rec)
         (treeIn (now (listing .entry)))) (now (path .entry)) parents ⌝ }
     ensures { λ r. ⌜ (r .dirs .count ≤ 32) × (climbs 0 (length (now (path .entry))) (endsOf (r .dirs)) ≡ true) ⌝ }
-    ensures { λ r. ⌜ (checkOf (r .judged) ≡ pass
-        → isNothing (kind (shown (tableIn (now (table .entry)) rec) (treeIn (now (listing .entry))))
-        (now (path .entry))) ≡ true → (m : ℕ)
+    ensures { λ r. ⌜ (checkOf (r .judged) ≡ pass → isNothing (kind (shown (tableIn (now (table .entry)) rec)
+        (treeIn (now (listing .entry)))) (now (path .entry))) ≡ true → (m : ℕ)
         → puts (each (directory m) (prefixes (now (path .entry)) (endsOf (r .dirs)))) (tableIn (now (table .entry)) rec)
         ≡ puts (each (directory m) (makes (shown (tableIn (now (table .entry)) rec) (treeIn (now (listing .entry))))
-        (now (path .entry))))
-        (tableIn (now (table .entry)) rec)) ⌝ }
+        (now (path .entry)))) (tableIn (now (table .entry)) rec)) ⌝ }
 {
     if parents {
         return check_parents::overlay_dirs_to_create(listing, table, rec, path);
@@ -158,13 +156,13 @@ fn judge_at(
     requires { ⌜ isTable (now table) rec ≡ true ⌝ }
     requires { ⌜ isPath (now path) ≡ true ⌝ }
     ensures { λ r. ⌜ ((later : Check) → mkdirAt (length (now (path .entry))) «exist_ok»
-        (kind (shown (tableIn (now (table .entry)) rec)
-        (treeIn (now (listing .entry)))) (now (path .entry))) (mkdirParents (shown (tableIn (now (table .entry)) rec)
-        (treeIn (now (listing .entry)))) (now (path .entry)) parents then later) ≡ afterStep (r .step) later) ⌝ }
+        (kind (shown (tableIn (now (table .entry)) rec) (treeIn (now (listing .entry)))) (now (path .entry)))
+        (mkdirParents (shown (tableIn (now (table .entry)) rec) (treeIn (now (listing .entry)))) (now (path .entry))
+        parents then later) ≡ afterStep (r .step) later) ⌝ }
     ensures { λ r. ⌜ (r .step ≡ step.Make → Makes (now (listing .entry)) (now (table .entry)) rec (now (path .entry))
         (r .dirs)) ⌝ }
-    ensures { λ r. ⌜ (r .step ≡ step.There
-        → makes (shown (tableIn (now (table .entry)) rec) (treeIn (now (listing .entry)))) (now (path .entry)) ≡ []) ⌝ }
+    ensures { λ r. ⌜ (r .step ≡ step.There → makes (shown (tableIn (now (table .entry)) rec)
+        (treeIn (now (listing .entry)))) (now (path .entry)) ≡ []) ⌝ }
 {
     let visible = view_at::visible_at(listing, table, rec, path);
     let step = at_path(visible, exist_ok, path.len() as u64);
@@ -198,18 +196,17 @@ fn judge_mkdir(
     exist_ok: bool,
 ) -> Plan
     ensures { λ r. ⌜ ((later : Check) → ((unless 1 (isTable (now (table .entry)) rec
-        && leb (length (now (table .entry))) room)
-        then unless 2 (isListing (now (listing .entry))) then form 0 (now (path .entry)))
-        then mkdirAt (length (now (path .entry))) «exist_ok» (kind (shown (tableIn (now (table .entry)) rec)
-        (treeIn (now (listing .entry)))) (now (path .entry))) (mkdirParents (shown (tableIn (now (table .entry)) rec)
-        (treeIn (now (listing .entry)))) (now (path .entry)) parents then later)) ≡ afterStep (r .step) later) ⌝ }
-    ensures { λ r. ⌜ (r .step ≡ step.Make
-        → (isTable (now (table .entry)) rec ≡ true) × (length (now (table .entry)) ≤ room)
-        × (isPath (now (path .entry)) ≡ true)
-        × Makes (now (listing .entry)) (now (table .entry)) rec (now (path .entry)) (r .dirs)) ⌝ }
-    ensures { λ r. ⌜ (r .step ≡ step.There
-        → (isTable (now (table .entry)) rec ≡ true) × (makes (shown (tableIn (now (table .entry)) rec)
-        (treeIn (now (listing .entry)))) (now (path .entry)) ≡ [])) ⌝ }
+        && leb (length (now (table .entry))) room) then unless 2 (isListing (now (listing .entry)))
+        then form 0 (now (path .entry))) then mkdirAt (length (now (path .entry))) «exist_ok»
+        (kind (shown (tableIn (now (table .entry)) rec) (treeIn (now (listing .entry)))) (now (path .entry)))
+        (mkdirParents (shown (tableIn (now (table .entry)) rec) (treeIn (now (listing .entry)))) (now (path .entry))
+        parents then later)) ≡ afterStep (r .step) later) ⌝ }
+    ensures { λ r. ⌜ (r .step ≡ step.Make → (isTable (now (table .entry)) rec ≡ true)
+        × (length (now (table .entry)) ≤ room) × (isPath (now (path .entry)) ≡ true) × Makes (now (listing .entry))
+        (now (table .entry)) rec (now (path .entry)) (r .dirs)) ⌝ }
+    ensures { λ r. ⌜ (r .step ≡ step.There → (isTable (now (table .entry)) rec ≡ true)
+        × (makes (shown (tableIn (now (table .entry)) rec) (treeIn (now (listing .entry)))) (now (path .entry))
+        ≡ [])) ⌝ }
 {
     let ready = check_lent::ready(listing, table, rec, room, path);
     match ready {
@@ -238,9 +235,9 @@ pub fn mkdir(
     mtime: u64,
     limit: u64,
 ) -> Answered
-    ensures { λ r. ⌜ Meets (outcome (now (listing .entry)) (requested
-        (calls.mkdir (now (path .entry)) parents «exist_ok» mtime) limit
-        (now (work .entry))) (stored (now (table .entry)) rec)) r (now (table .exit)) (now (work .exit)) ⌝ }
+    ensures { λ r. ⌜ Meets (outcome (now (listing .entry)) (requested (calls.mkdir (now (path .entry)) parents
+        «exist_ok» mtime) limit (now (work .entry))) (stored (now (table .entry)) rec)) r (now (table .exit))
+        (now (work .exit)) ⌝ }
 {
     let plan = judge_mkdir(listing, table, rec, work.len(), path, parents, exist_ok);
     let step = plan.step;

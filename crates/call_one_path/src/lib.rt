@@ -24,9 +24,8 @@ use table_insert::insert;
 // 1 to 8 for write.
 fn judge_write(listing: &[u8], table: &[u8], rec: Record, room: usize, path: &[u8]) -> Judged
     ensures { λ r. ⌜ checkOf r ≡ ((unless 1 (isTable (now (table .entry)) rec && leb (length (now (table .entry))) room)
-        then unless 2 (isListing (now (listing .entry))) then form 0 (now (path .entry)))
-        then writeChecks (shown (tableIn (now (table .entry)) rec) (treeIn (now (listing .entry))))
-        (now (path .entry))) ⌝ }
+        then unless 2 (isListing (now (listing .entry))) then form 0 (now (path .entry))) then writeChecks
+        (shown (tableIn (now (table .entry)) rec) (treeIn (now (listing .entry)))) (now (path .entry))) ⌝ }
 {
     let ready = check_lent::ready(listing, table, rec, room, path);
     if check_judged::is_refused(ready) {
@@ -46,9 +45,9 @@ pub fn write_bytes(
     data: &[u8],
     limit: u64,
 ) -> Answered
-    ensures { λ r. ⌜ Meets (outcome (now (listing .entry)) (requested
-        (calls.write (now (path .entry)) mtime (now («data» .entry))) limit
-        (now (work .entry))) (stored (now (table .entry)) rec)) r (now (table .exit)) (now (work .exit)) ⌝ }
+    ensures { λ r. ⌜ Meets (outcome (now (listing .entry)) (requested (calls.write (now (path .entry)) mtime
+        (now («data» .entry))) limit (now (work .entry))) (stored (now (table .entry)) rec)) r (now (table .exit))
+        (now (work .exit)) ⌝ }
 {
     let judged = judge_write(listing, table, rec, work.len(), path);
     match judged {
@@ -68,8 +67,8 @@ pub fn write_bytes(
 // 1 to 8 for unlink.
 fn judge_unlink(listing: &[u8], table: &[u8], rec: Record, room: usize, path: &[u8]) -> Judged
     ensures { λ r. ⌜ checkOf r ≡ ((unless 1 (isTable (now (table .entry)) rec && leb (length (now (table .entry))) room)
-        then unless 2 (isListing (now (listing .entry))) then form 0 (now (path .entry)))
-        then unlinkChecks (tableIn (now (table .entry)) rec) (treeIn (now (listing .entry))) (now (path .entry))) ⌝ }
+        then unless 2 (isListing (now (listing .entry))) then form 0 (now (path .entry))) then unlinkChecks
+        (tableIn (now (table .entry)) rec) (treeIn (now (listing .entry))) (now (path .entry))) ⌝ }
 {
     let ready = check_lent::ready(listing, table, rec, room, path);
     if check_judged::is_refused(ready) {
@@ -88,8 +87,7 @@ pub fn unlink(
     limit: u64,
 ) -> Answered
     ensures { λ r. ⌜ Meets (outcome (now (listing .entry)) (requested (calls.unlink (now (path .entry))) limit
-        (now (work .entry)))
-        (stored (now (table .entry)) rec)) r (now (table .exit)) (now (work .exit)) ⌝ }
+        (now (work .entry))) (stored (now (table .entry)) rec)) r (now (table .exit)) (now (work .exit)) ⌝ }
 {
     let judged = judge_unlink(listing, table, rec, work.len(), path);
     match judged {
@@ -110,8 +108,8 @@ pub fn unlink(
 // 1 to 9 for rmdir.
 fn judge_rmdir(listing: &[u8], table: &[u8], rec: Record, room: usize, path: &[u8]) -> Judged
     ensures { λ r. ⌜ checkOf r ≡ ((unless 1 (isTable (now (table .entry)) rec && leb (length (now (table .entry))) room)
-        then unless 2 (isListing (now (listing .entry))) then form 0 (now (path .entry)))
-        then rmdirChecks (tableIn (now (table .entry)) rec) (treeIn (now (listing .entry))) (now (path .entry))) ⌝ }
+        then unless 2 (isListing (now (listing .entry))) then form 0 (now (path .entry))) then rmdirChecks
+        (tableIn (now (table .entry)) rec) (treeIn (now (listing .entry))) (now (path .entry))) ⌝ }
 {
     let ready = check_lent::ready(listing, table, rec, room, path);
     if check_judged::is_refused(ready) {
@@ -130,8 +128,7 @@ pub fn rmdir(
     limit: u64,
 ) -> Answered
     ensures { λ r. ⌜ Meets (outcome (now (listing .entry)) (requested (calls.rmdir (now (path .entry))) limit
-        (now (work .entry)))
-        (stored (now (table .entry)) rec)) r (now (table .exit)) (now (work .exit)) ⌝ }
+        (now (work .entry))) (stored (now (table .entry)) rec)) r (now (table .exit)) (now (work .exit)) ⌝ }
 {
     let judged = judge_rmdir(listing, table, rec, work.len(), path);
     match judged {

@@ -20,9 +20,9 @@ pub fn make(
     second: &[u8],
     order: Order,
 ) -> Answered
-    ensures { λ r. ⌜ Meets (outcome (now (listing .entry)) (requested
-        (callOf order (now (first .entry)) (now (second .entry))) (order .limit)
-        (now (work .entry))) (stored (now (table .entry)) rec)) r (now (table .exit)) (now (work .exit)) ⌝ }
+    ensures { λ r. ⌜ Meets (outcome (now (listing .entry)) (requested (callOf order (now (first .entry))
+        (now (second .entry))) (order .limit) (now (work .entry))) (stored (now (table .entry)) rec)) r
+        (now (table .exit)) (now (work .exit)) ⌝ }
 {
     let kind = order.kind;
     let mtime = order.mtime;

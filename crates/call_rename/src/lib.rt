@@ -73,11 +73,10 @@ fn judge(
     limit: u64,
 ) -> Judged
     ensures { λ r. ⌜ checkOf r ≡ (firstChecks (now (listing .entry)) (now (table .entry)) rec room (now (source .entry))
-        (now (destination .entry))
-        then earlyChecks (tableIn (now (table .entry)) rec) (treeIn (now (listing .entry))) (now (source .entry))
-        (now (destination .entry))
-        then directoryChecks (limited (rec .«entry_size») limit) (tableIn (now (table .entry)) rec)
-        (treeIn (now (listing .entry))) (now (source .entry)) (now (destination .entry))) ⌝ }
+        (now (destination .entry)) then earlyChecks (tableIn (now (table .entry)) rec) (treeIn (now (listing .entry)))
+        (now (source .entry)) (now (destination .entry)) then directoryChecks (limited (rec .«entry_size») limit)
+        (tableIn (now (table .entry)) rec) (treeIn (now (listing .entry))) (now (source .entry))
+        (now (destination .entry))) ⌝ }
 {
     let ready = ready(listing, table, rec, room, source, destination);
     if check_judged::is_refused(ready) {
@@ -101,9 +100,9 @@ pub fn rename(
     destination: &[u8],
     limit: u64,
 ) -> Answered
-    ensures { λ r. ⌜ Meets (outcome (now (listing .entry)) (requested
-        (calls.rename (now (source .entry)) (now (destination .entry))) limit
-        (now (work .entry))) (stored (now (table .entry)) rec)) r (now (table .exit)) (now (work .exit)) ⌝ }
+    ensures { λ r. ⌜ Meets (outcome (now (listing .entry)) (requested (calls.rename (now (source .entry))
+        (now (destination .entry))) limit (now (work .entry))) (stored (now (table .entry)) rec)) r (now (table .exit))
+        (now (work .exit)) ⌝ }
 {
     let judged = judge(listing, table, rec, work.len(), source, destination, limit);
     match judged {

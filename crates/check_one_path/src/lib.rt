@@ -80,9 +80,8 @@ fn unlink_listed(listing: &[u8], table: &[u8], rec: model::Record, path: &[u8]) 
     requires { ⌜ isTable (now table) rec ≡ true ⌝ }
     requires { ⌜ isPath (now path) ≡ true ⌝ }
     ensures { λ r. ⌜ checkOf r ≡ (parentChecks 0 (shown (tableIn (now (table .entry)) rec)
-        (treeIn (now (listing .entry)))) (now (path .entry))
-        then unlinkAt (length (now (path .entry))) (kind (shown (tableIn (now (table .entry)) rec)
-        (treeIn (now (listing .entry)))) (now (path .entry)))) ⌝ }
+        (treeIn (now (listing .entry)))) (now (path .entry)) then unlinkAt (length (now (path .entry)))
+        (kind (shown (tableIn (now (table .entry)) rec) (treeIn (now (listing .entry)))) (now (path .entry)))) ⌝ }
 {
     let parents = check_parents::ensure_parent_exists(listing, table, rec, path, 0);
     if check_judged::is_refused(parents) {
@@ -151,9 +150,8 @@ fn rmdir_listed(listing: &[u8], table: &[u8], rec: model::Record, path: &[u8]) -
     requires { ⌜ isTable (now table) rec ≡ true ⌝ }
     requires { ⌜ isPath (now path) ≡ true ⌝ }
     ensures { λ r. ⌜ checkOf r ≡ (parentChecks 0 (shown (tableIn (now (table .entry)) rec)
-        (treeIn (now (listing .entry)))) (now (path .entry))
-        then rmdirAt (length (now (path .entry))) (kind (shown (tableIn (now (table .entry)) rec)
-        (treeIn (now (listing .entry)))) (now (path .entry)))) ⌝ }
+        (treeIn (now (listing .entry)))) (now (path .entry)) then rmdirAt (length (now (path .entry)))
+        (kind (shown (tableIn (now (table .entry)) rec) (treeIn (now (listing .entry)))) (now (path .entry)))) ⌝ }
 {
     let parents = check_parents::ensure_parent_exists(listing, table, rec, path, 0);
     if check_judged::is_refused(parents) {
@@ -168,10 +166,9 @@ fn rmdir_entry(listing: &[u8], table: &[u8], rec: model::Record, path: &[u8]) ->
     requires { ⌜ isListing (now listing) ≡ true ⌝ }
     requires { ⌜ isTable (now table) rec ≡ true ⌝ }
     requires { ⌜ isPath (now path) ≡ true ⌝ }
-    ensures { λ r. ⌜ checkOf r ≡ rmdirEntry (length (now (path .entry)))
-        (lookup (tableIn (now (table .entry)) rec) (now (path .entry))) (parentChecks 0
-        (shown (tableIn (now (table .entry)) rec) (treeIn (now (listing .entry)))) (now (path .entry))
-        then rmdirAt (length (now (path .entry))) (kind (shown (tableIn (now (table .entry)) rec)
+    ensures { λ r. ⌜ checkOf r ≡ rmdirEntry (length (now (path .entry))) (lookup (tableIn (now (table .entry)) rec)
+        (now (path .entry))) (parentChecks 0 (shown (tableIn (now (table .entry)) rec) (treeIn (now (listing .entry))))
+        (now (path .entry)) then rmdirAt (length (now (path .entry))) (kind (shown (tableIn (now (table .entry)) rec)
         (treeIn (now (listing .entry)))) (now (path .entry)))) ⌝ }
 {
     let entry = table_entries::get(table, rec, path);

@@ -116,11 +116,11 @@ pub fn overlay_dirs_to_create(
     requires { ⌜ isTable (now table) rec ≡ true ⌝ }
     requires { ⌜ (isPath (now path) ≡ true) × (0 < length (now path)) ⌝ }
     ensures { λ r. ⌜ checkOf (r .judged) ≡ ancestorsIn (length (now (path .entry)))
-        (kind (shown (tableIn (now (table .entry)) rec)
-        (treeIn (now (listing .entry))))) (ancestors (now (path .entry))) ⌝ }
-    ensures { λ r. ⌜ (checkOf (r .judged) ≡ pass
-        → endsOf (r .dirs) ≡ missingEnds (kind (shown (tableIn (now (table .entry)) rec)
-        (treeIn (now (listing .entry))))) (now (path .entry))) ⌝ }
+        (kind (shown (tableIn (now (table .entry)) rec) (treeIn (now (listing .entry))))) (ancestors
+        (now (path .entry))) ⌝ }
+    ensures { λ r. ⌜ (checkOf (r .judged) ≡ pass → endsOf (r .dirs)
+        ≡ missingEnds (kind (shown (tableIn (now (table .entry)) rec) (treeIn (now (listing .entry)))))
+        (now (path .entry))) ⌝ }
     ensures { λ r. ⌜ (r .dirs .count ≤ 32) × (climbs 0 (length (now (path .entry))) (endsOf (r .dirs)) ≡ true) ⌝ }
 {
     let none: [usize; model::DEPTH_MAX] = [0; model::DEPTH_MAX];

@@ -1,4 +1,5 @@
--- Computed cases of the forms of document 01: which bytes are a path, a listing, a table with its record; 1, 2 and 3 in their order; answers; opening.
+-- Computed cases of the forms of document 01: which bytes are a path, a listing, a table with its record; 1, 2 and 3 in
+-- their order; answers; opening; the bounds of E and of the table buffer.
 -- Beside each stands what is wrong with it, or what a wrong check would make of it.
 use mathlib.Core.Bool.{Bool, true, false}
 use mathlib.Core.List.{List, [], _∷_, _++_, map}
@@ -10,13 +11,14 @@ use Rattle.model.specs.Bytes.{Bytes, bytes}
 use Rattle.model.specs.Path.{Path, isPath}
 use Rattle.model.specs.Tree.{reference, deleted, Table}
 use Rattle.model.specs.Listing.{isListing}
-use Rattle.model.specs.Table.{encode, padded, recordOf, isTable}
+use Rattle.model.specs.Table.{encode, padded, recordOf, sized, isTable}
 use Rattle.model.specs.Calls.{Call, unlink, rename, exists}
 use Rattle.model.specs.Answer.{Reply, accepted, refused, told, toldFinding}
 use Rattle.model.specs.Outcome.{Store, outcome, ask, opened}
 use Rattle.model.specs.declared.Record.{Record}
-use Rattle.model.specs.declared.Refusal.the-variants.{MalformedTable, MalformedListing, MalformedPath, LinkOrRoot, NotFound, Exists, NotADirectory}
-use Rattle.model.specs.declared.Refusal.the-variants.{IsADirectory, NotEmpty, BelowSource, Limit, KeyTooLong, NoRoom}
+use Rattle.model.specs.declared.Refusal.the-variants.{MalformedTable, MalformedListing, MalformedPath, LinkOrRoot}
+use Rattle.model.specs.declared.Refusal.the-variants.{NotFound, Exists, NotADirectory, IsADirectory, NotEmpty}
+use Rattle.model.specs.declared.Refusal.the-variants.{BelowSource, Limit, KeyTooLong, NoRoom}
 use Rattle.model.specs.declared.Answer.the-variants.{Accepted, Refused}
 use Rattle.model.specs.declared.Finding.the-variants.{Yes, No, Unanswered}
 use Rattle.model.proofs.Case.{path, typed, dirAt, fileAt, linkAt, listingBytes}
@@ -47,7 +49,8 @@ paths =
     ∷ (path "1/2/3/4/5/6/7/8/9/0/1/2/3/4/5/6/7/8/9/0/1/2/3/4/5/6/7/8/9/0/1/2/3", false)
     ∷ (replicate 255 97 ++ (47 ∷ replicate 254 97 ++ (47 ∷ 97 ∷ [])), true)
     ∷ (replicate 255 97 ++ (47 ∷ replicate 255 97 ++ (47 ∷ 97 ∷ [])), false)
-    -- the first and the last character of each row of RFC 3629 beside what lies just outside: overlong forms, surrogates, above 10FFFF; cut short
+    -- the first and the last character of each row of RFC 3629 beside what lies just outside: overlong forms,
+    -- surrogates, above 10FFFF; cut short
     ∷ (0x7F ∷ [], true)
     ∷ (0x80 ∷ [], false)
     ∷ (0xC1 ∷ 0xBF ∷ [], false)
@@ -117,7 +120,8 @@ listings =
     ∷ (single 1 0 0 "..", false)
     ∷ (listingBytes (dirAt "a" 0 ∷ dirAt "a" 0 ∷ []), false)
     ∷ (listingBytes (dirAt "b" 0 ∷ dirAt "a" 0 ∷ []), false)
-    -- an ancestor that is missing, is a file, is a link, is missing further up; one before `a-b`; one in the order of a tree's walk
+    -- an ancestor that is missing, is a file, is a link, is missing further up; one before `a-b`; one in the order of a
+    -- tree's walk
     ∷ (listingBytes (fileAt "a/x" 0 0 ∷ []), false)
     ∷ (listingBytes (fileAt "a" 0 0 ∷ fileAt "a/x" 0 0 ∷ []), false)
     ∷ (listingBytes (linkAt "a" ∷ fileAt "a/x" 0 0 ∷ []), false)
@@ -136,7 +140,8 @@ abbrev kept : Table → Bool → Bytes × Record × Bool
 kept t ok = (padded 100 (encode t), recordOf 40 t, ok)
 
 abbrev raw : ℕ → ℕ → ℕ → ℕ → Path → Bytes → Bytes
-raw type body m z k b = padded 100 (bytes 2 (length k) ++ (bytes 2 type ++ (bytes 4 body ++ (bytes 8 m ++ (bytes 8 z ++ (k ++ b))))))
+raw type body m z k b = padded 100 (bytes 2 (length k) ++ (bytes 2 type ++ (bytes 4 body
+    ++ (bytes 8 m ++ (bytes 8 z ++ (k ++ b))))))
 
 abbrev removed : Bytes
 removed = encode ((path "z", deleted) ∷ [])
@@ -253,6 +258,16 @@ answers =
     ∷ (toldFinding (Unanswered MalformedListing), refused 2 0 0)
     ∷ []
 
+-- E, a table buffer's length, and whether both are allowed: 16 MiB is, a byte more is not
+pub bounds : List ((ℕ × ℕ) × Bool)
+bounds =
+    ((0, 0), true)
+    ∷ ((4096, 16_777_216), true)
+    ∷ ((4097, 16_777_216), false)
+    ∷ ((4096, 16_777_217), false)
+    ∷ ((0, 16_777_217), false)
+    ∷ []
+
 pub record Forms : Type 0 where
   pub of-paths : map (λ (x : Path × Bool). isPath (x .0)) paths ≡ map (λ x. x .1) paths
   pub of-listings : map (λ (x : Bytes × Bool). isListing (x .0)) listings ≡ map (λ x. x .1) listings
@@ -260,7 +275,16 @@ pub record Forms : Type 0 where
   pub of-refusals : map (λ (x : Reply × Reply). x .0) refusals ≡ map (λ x. x .1) refusals
   pub of-answers : map (λ (x : Reply × Reply). x .0) answers ≡ map (λ x. x .1) answers
   pub of-openings : map (λ (x : (Reply × Bytes × ℕ) × (Reply × Bytes × ℕ)). x .0) openings ≡ map (λ x. x .1) openings
+  pub of-bounds : map (λ (x : (ℕ × ℕ) × Bool). sized (x .0 .0) (x .0 .1)) bounds ≡ map (λ x. x .1) bounds
 
 pub forms-hold : Forms
-unfolding paths listings tables refusals answers openings
-forms-hold = record { of-paths = refl; of-listings = refl; of-tables = refl; of-refusals = refl; of-answers = refl; of-openings = refl }
+unfolding paths listings tables refusals answers openings bounds
+forms-hold = record {
+  of-paths = refl;
+  of-listings = refl;
+  of-tables = refl;
+  of-refusals = refl;
+  of-answers = refl;
+  of-openings = refl;
+  of-bounds = refl;
+}

@@ -265,11 +265,10 @@ pub extern "C" fn overlay_run_new(
     entry_size: u64,
 ) -> u64
     ensures { λ r. ⌜ runLeft r (now (rec .exit)) (now (table .exit)) (now (work .exit)) (now (report .exit))
-        ≡ newScriptRun (now (listing .entry)) «entry_size» (now (table .entry)) (now (rec .entry))
-        (now (work .entry)) (now (script .entry)) (now (report .entry)) ⌝ }
-    ensures { λ r. ⌜ (r ≡ 0 → Holds (now (listing .entry))
-        (begin (now (listing .entry)) «entry_size» (now (table .entry)))
-        (requests (now (listing .entry)) (stepsIn (now (script .entry)))
+        ≡ newScriptRun (now (listing .entry)) «entry_size» (now (table .entry)) (now (rec .entry)) (now (work .entry))
+        (now (script .entry)) (now (report .entry)) ⌝ }
+    ensures { λ r. ⌜ (r ≡ 0 → Holds (now (listing .entry)) (begin (now (listing .entry)) «entry_size»
+        (now (table .entry))) (requests (now (listing .entry)) (stepsIn (now (script .entry)))
         (begin (now (listing .entry)) «entry_size» (now (table .entry)) .store) (now (work .entry)))
         (stored (now (table .exit)) (recordIn (now (rec .exit))))) ⌝ }
 {

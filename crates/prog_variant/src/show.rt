@@ -1,22 +1,29 @@
 // The lines that are printed: a head, one line for each call, and what the table holds at the end.
 // Where the script or the report ends early, so do the lines.
-ghost use Prim.Native.Nat.{_≤_};
+ghost use Prim.Native.Nat.{_+_, _≤_};
 ghost use lib.ListN.{length};
+use crate::shown;
+use libc::STDERR_FILENO;
 use libc::STDOUT_FILENO;
 use model::Record;
+use run_script::ROW_SIZE;
+use run_script::SCRIPT_HEAD;
+use run_script::STEP_HEAD;
 
 fn text(s: &[u8]) {
     io::write_all(STDOUT_FILENO, s);
 }
 
-// A number at the right of a column of this width, if it has room.
+// A number at the right of a column of this width. A blank stands before it however wide it is.
 fn column(n: u64, width: usize) {
     let mut digits = [0u8; 20];
     let k = io::decimal(n, &mut digits);
     let blanks = [b' '; 20];
-    if k <= width {
+    text(b" ");
+    if k < width {
         if width <= 20 {
-            io::write_all(STDOUT_FILENO, &blanks[k..width]);
+            let from = k + 1;
+            io::write_all(STDOUT_FILENO, &blanks[from..width]);
         }
     }
     io::write_all(STDOUT_FILENO, &digits[..k]);
@@ -37,57 +44,74 @@ fn name(kind: u8) {
     }
 }
 
-// The answer: accepted with its value, or refused with document 01's number, path and length.
+// Document 01's words for its numbers, in a column: 7 to 13, then all.
+fn words_from_7(number: u64) {
+    if number == 7 {
+        text(b" not a directory         ");
+    } else if number == 8 {
+        text(b" is a directory          ");
+    } else if number == 9 {
+        text(b" not empty               ");
+    } else if number == 10 {
+        text(b" destination below source");
+    } else if number == 11 {
+        text(b" limit                   ");
+    } else if number == 12 {
+        text(b" moved key too long      ");
+    } else {
+        text(b" table buffer too short  ");
+    }
+}
+
+fn words(number: u64) {
+    if number == 1 {
+        text(b" table, record or work buffer malformed");
+    } else if number == 2 {
+        text(b" listing malformed       ");
+    } else if number == 3 {
+        text(b" path malformed          ");
+    } else if number == 4 {
+        text(b" link met, or root given ");
+    } else if number == 5 {
+        text(b" not found               ");
+    } else if number == 6 {
+        text(b" exists                  ");
+    } else {
+        words_from_7(number);
+    }
+}
+
+// The answer: accepted with its value, or refused with document 01's number and words, path and length.
 fn answer(number: u64, path: u64, len: u64) {
     if number == 0 {
-        text(b"accepted  ");
+        text(b"accepted                           ");
     } else {
-        text(b"refused ");
-        column(number, 2);
+        text(b"refused");
+        column(number, 3);
+        words(number);
     }
     column(path, 5);
-    column(len, 6);
-}
-
-// A byte of a path. What a terminal might act on is shown as a question mark.
-fn byte(b: u8) {
-    let shown = [b];
-    if (b < 32) | (b == 127) {
-        text(b"?");
-    } else {
-        text(&shown);
-    }
-}
-
-fn path(s: &[u8]) {
-    for i in 0..s.len() {
-        byte(s[i]);
-    }
+    column(len, 8);
 }
 
 // The paths of the step at `at`, and where it ends; a write's data is not shown.
 fn paths(script: &[u8], at: usize, kind: u8) -> usize
-    requires { ⌜ at ≤ length (now script) ⌝ }
+    requires { ⌜ at + 24 ≤ length (now script) ⌝ }
     ensures { λ r. ⌜ r ≤ length (now (script .entry)) ⌝ }
 {
-    if script.len() < at + 24 {
+    let end = run_script::end_of(script, at);
+    if script.len() < end {
         return script.len();
     }
-    let n = base_fields::le16(script, at + 2) as usize;
-    let m = base_fields::le32(script, at + 4) as usize;
-    let from = at + 24;
-    let between = from + n;
-    let to = between + m;
-    if script.len() < to {
-        return script.len();
-    }
-    path(&script[from..between]);
+    let first = run_script::first_part(script, at);
+    shown::bytes(STDOUT_FILENO, first);
     if kind == 5 {
+        let second = run_script::second_part(script, at);
         text(b" -> ");
-        path(&script[between..to]);
+        shown::bytes(STDOUT_FILENO, second);
     }
     text(b"\n");
-    to
+    end
 }
 
 // The line of a call: its step stands at `at` in the script, its row at `row` in the report. Answers where the step
@@ -96,13 +120,13 @@ fn line(script: &[u8], at: usize, report: &[u8], row: usize) -> usize
     requires { ⌜ (at ≤ length (now script)) × (row ≤ length (now report)) ⌝ }
     ensures { λ r. ⌜ r ≤ length (now (script .entry)) ⌝ }
 {
-    if script.len() < at + 24 {
+    if script.len() < at + STEP_HEAD {
         return script.len();
     }
-    if report.len() < row + 32 {
+    if report.len() < row + ROW_SIZE {
         return script.len();
     }
-    column(row as u64 / 32 + 1, 5);
+    column((row / ROW_SIZE) as u64 + 1, 6);
     name(script[at]);
     answer(
         base_fields::le64(report, row),
@@ -115,18 +139,19 @@ fn line(script: &[u8], at: usize, report: &[u8], row: usize) -> usize
 }
 
 pub fn calls(script: &[u8], report: &[u8]) {
-    text(b"   no  call    answer      path   len   charge  on\n");
+    text(b"    no  call    answer                              path     len   charge  on\n");
     let mut row: usize = 0;
-    let mut at: usize = 8;
+    let mut at: usize = SCRIPT_HEAD;
     while row < report.len() {
         if script.len() <= at {
             return;
         }
         at = line(script, at, report, row);
-        row += 32;
+        row += ROW_SIZE;
     }
 }
 
+// What the table holds. Where standard output cannot be written to, the last line shows it, and this says so.
 pub fn left(rec: Record) {
     text(b"the table holds ");
     io::print_decimal(STDOUT_FILENO, rec.count);
@@ -134,5 +159,10 @@ pub fn left(rec: Record) {
     io::print_decimal(STDOUT_FILENO, rec.used);
     text(b" bytes, charged ");
     io::print_decimal(STDOUT_FILENO, rec.charge);
-    text(b"\n");
+    if !io::write_all(STDOUT_FILENO, b"\n") {
+        io::write_all(
+            STDERR_FILENO,
+            b"variant: standard output cannot be written to\n",
+        );
+    }
 }

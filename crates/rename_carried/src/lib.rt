@@ -46,9 +46,9 @@ pub fn head_at(own: &[u8], part: &[u8], stream: Stream) -> Head
     requires { ⌜ Standing (now own) (stream .entries .left) (stream .entries .at) ⌝ }
     requires { ⌜ listing.Standing (now part) (stream .listed .left) (stream .listed .at) ⌝ }
     ensures { λ r. ⌜ Next (now (own .entry)) (now (part .entry)) stream r ⌝ }
-    ensures { λ r. ⌜ ((table : Bytes) (a : Path) (t : Table) (l : Tree) (f : List Bool)
-        → Carrying (now (own .entry)) (now (part .entry)) table a t l f stream
-        → Ending (ahead t a (now (own .entry)) (now (part .entry)) stream) r) ⌝ }
+    ensures { λ r. ⌜ ((table : Bytes) (a : Path) (t : Table) (l : Tree) (f : List Bool) → Carrying (now (own .entry))
+        (now (part .entry)) table a t l f stream → Ending (ahead t a (now (own .entry)) (now (part .entry)) stream)
+        r) ⌝ }
     ensures { λ r. ⌜ ((t : Table) (a : Path) → ascends [] (ahead t a (now (own .entry)) (now (part .entry)) stream)
         ≡ true) ⌝ }
 {
@@ -98,9 +98,9 @@ pub fn first(
     ensures { λ r. ⌜ Carrying (now (own .entry)) (now (part .entry)) (now (table .entry)) (now (source .entry))
         (tableIn (now (table .entry)) rec) (treeAt (now (part .entry)) records 0) (now (flags .exit)) r ⌝ }
     ensures { λ r. ⌜ ((l : Tree) → ascends [] l ≡ true → treeAt (now (part .entry)) records 0
-        ≡ only (below (now (source .entry))) l
-        → ahead (tableIn (now (table .entry)) rec) (now (source .entry)) (now (own .entry)) (now (part .entry)) r
-        ≡ carriedBelow (tableIn (now (table .entry)) rec) l (now (source .entry))) ⌝ }
+        ≡ only (below (now (source .entry))) l → ahead (tableIn (now (table .entry)) rec) (now (source .entry))
+        (now (own .entry)) (now (part .entry)) r ≡ carriedBelow (tableIn (now (table .entry)) rec) l
+        (now (source .entry))) ⌝ }
 {
     let listed = rename_uncovered::first_uncovered(flags, part, records, table, rec, source);
     let entries = table_entries::Place { at: 0, left: count };
@@ -127,13 +127,10 @@ pub fn advance(
     ensures { λ r. ⌜ remaining r < remaining stream ⌝ }
     ensures { λ r. ⌜ Streaming (now (own .entry)) (now (part .entry)) (now (table .entry)) (now (source .entry))
         (now (flags .exit)) r ⌝ }
-    ensures { λ r. ⌜ ((t : Table) (l : Tree)
-        → Carrying (now (own .entry)) (now (part .entry)) (now (table .entry)) (now (source .entry)) t l
-        (now (flags .entry)) stream
-        → Carrying (now (own .entry)) (now (part .entry)) (now (table .entry)) (now (source .entry)) t l
-        (now (flags .exit)) r
-        × (ahead t (now (source .entry)) (now (own .entry)) (now (part .entry)) stream
-        ≡ itemAt (now (own .entry)) (now (part .entry)) stream head
+    ensures { λ r. ⌜ ((t : Table) (l : Tree) → Carrying (now (own .entry)) (now (part .entry)) (now (table .entry))
+        (now (source .entry)) t l (now (flags .entry)) stream → Carrying (now (own .entry)) (now (part .entry))
+        (now (table .entry)) (now (source .entry)) t l (now (flags .exit)) r × (ahead t (now (source .entry))
+        (now (own .entry)) (now (part .entry)) stream ≡ itemAt (now (own .entry)) (now (part .entry)) stream head
         ∷ ahead t (now (source .entry)) (now (own .entry)) (now (part .entry)) r)) ⌝ }
 {
     let entries = stream.entries;

@@ -69,9 +69,8 @@ pub fn check_destination(listing: &[u8], table: &[u8], rec: Record, path: &[u8])
     requires { ⌜ isTable (now table) rec ≡ true ⌝ }
     requires { ⌜ isPath (now path) ≡ true ⌝ }
     ensures { λ r. ⌜ checkOf r ≡ (parentChecks 1 (shown (tableIn (now (table .entry)) rec)
-        (treeIn (now (listing .entry)))) (now (path .entry))
-        then notLink 1 (length (now (path .entry))) (kind (shown (tableIn (now (table .entry)) rec)
-        (treeIn (now (listing .entry)))) (now (path .entry)))) ⌝ }
+        (treeIn (now (listing .entry)))) (now (path .entry)) then notLink 1 (length (now (path .entry)))
+        (kind (shown (tableIn (now (table .entry)) rec) (treeIn (now (listing .entry)))) (now (path .entry)))) ⌝ }
 {
     let parents = check_parents::ensure_parent_exists(listing, table, rec, path, 1);
     if check_judged::is_refused(parents) {
@@ -115,10 +114,9 @@ pub fn check_source(listing: &[u8], table: &[u8], rec: Record, path: &[u8]) -> J
     requires { ⌜ isTable (now table) rec ≡ true ⌝ }
     requires { ⌜ isPath (now path) ≡ true ⌝ }
     ensures { λ r. ⌜ checkOf r ≡ (parentChecks 0 (shown (tableIn (now (table .entry)) rec)
-        (treeIn (now (listing .entry)))) (now (path .entry))
-        then notDeleted (length (now (path .entry))) (lookup (tableIn (now (table .entry)) rec) (now (path .entry)))
-        then notLink 0 (length (now (path .entry))) (kind (shown (tableIn (now (table .entry)) rec)
-        (treeIn (now (listing .entry)))) (now (path .entry)))) ⌝ }
+        (treeIn (now (listing .entry)))) (now (path .entry)) then notDeleted (length (now (path .entry)))
+        (lookup (tableIn (now (table .entry)) rec) (now (path .entry))) then notLink 0 (length (now (path .entry)))
+        (kind (shown (tableIn (now (table .entry)) rec) (treeIn (now (listing .entry)))) (now (path .entry)))) ⌝ }
 {
     let parents = check_parents::ensure_parent_exists(listing, table, rec, path, 0);
     if check_judged::is_refused(parents) {
@@ -171,9 +169,8 @@ fn reject_rename_onto_nonempty_dir(
 ) -> Judged
     requires { ⌜ isListing (now listing) ≡ true ⌝ }
     requires { ⌜ isTable (now table) rec ≡ true ⌝ }
-    ensures { λ r. ⌜ checkOf r ≡ ifDirectory (visibleKind source)
-        (ifDirectory (visibleKind destination) (noVisibleChild 1 (tableIn (now (table .entry)) rec)
-        (treeIn (now (listing .entry))) (now (path .entry)))) ⌝ }
+    ensures { λ r. ⌜ checkOf r ≡ ifDirectory (visibleKind source) (ifDirectory (visibleKind destination)
+        (noVisibleChild 1 (tableIn (now (table .entry)) rec) (treeIn (now (listing .entry))) (now (path .entry)))) ⌝ }
 {
     if !view_at::is_directory(source) {
         return Judged::Pass;
@@ -186,8 +183,8 @@ fn reject_rename_onto_nonempty_dir(
 
 // 10 for a destination below the source.
 fn reject_below(source: &[u8], destination: &[u8]) -> Judged
-    ensures { λ r. ⌜ checkOf r ≡ cond (below (now (source .entry)) (now (destination .entry)))
-        (refuse 10 0 (length (now (source .entry)))) pass ⌝ }
+    ensures { λ r. ⌜ checkOf r ≡ cond (below (now (source .entry)) (now (destination .entry))) (refuse 10 0
+        (length (now (source .entry)))) pass ⌝ }
 {
     if base_paths::is_below(source, destination) {
         return Judged::Refused(Refusal::BelowSource(source.len() as u64));
@@ -225,8 +222,8 @@ pub fn check_both(
 ) -> Judged
     requires { ⌜ isListing (now listing) ≡ true ⌝ }
     requires { ⌜ isTable (now table) rec ≡ true ⌝ }
-    ensures { λ r. ⌜ checkOf r ≡ bothChecks (tableIn (now (table .entry)) rec)
-        (treeIn (now (listing .entry))) (now (source .entry)) (now (destination .entry)) ⌝ }
+    ensures { λ r. ⌜ checkOf r ≡ bothChecks (tableIn (now (table .entry)) rec) (treeIn (now (listing .entry)))
+        (now (source .entry)) (now (destination .entry)) ⌝ }
 {
     let from = view_at::visible_at(listing, table, rec, source);
     let to = view_at::visible_at(listing, table, rec, destination);
@@ -256,8 +253,8 @@ pub fn early_checks(
     requires { ⌜ isListing (now listing) ≡ true ⌝ }
     requires { ⌜ isTable (now table) rec ≡ true ⌝ }
     requires { ⌜ (isPath (now source) ≡ true) × (isPath (now destination) ≡ true) ⌝ }
-    ensures { λ r. ⌜ checkOf r ≡ earlyChecks (tableIn (now (table .entry)) rec)
-        (treeIn (now (listing .entry))) (now (source .entry)) (now (destination .entry)) ⌝ }
+    ensures { λ r. ⌜ checkOf r ≡ earlyChecks (tableIn (now (table .entry)) rec) (treeIn (now (listing .entry)))
+        (now (source .entry)) (now (destination .entry)) ⌝ }
 {
     let roots = reject_roots(source, destination);
     if check_judged::is_refused(roots) {

@@ -15,6 +15,7 @@ use Rattle.model.specs.Tree.{Entry, Table}
 use Rattle.model.specs.Table.{bodyOf}
 use Rattle.model.specs.declared.Record.{Record}
 use Rattle.model.proofs.Orders.{bot}
+use Rattle.table_charge.specs.Charge.{chargeBy}
 use Rattle.table_entries.specs.declared.Place.{Place}
 use Rattle.table_measure.specs.Measure.{Measured}
 use Rattle.rename_measure.specs.Tallies.{near, Counted}
@@ -45,14 +46,14 @@ pub lent-short : (bytes : Bytes) (n : ℕ) → n ≤ 512 → length bytes ≡ 51
 lent-short bytes n h e = let l = lent-length bytes n h e in omega arith
 
 module _ (s : Bytes) (b key : Path) (from m : ℕ) (x : Tally) where
-  pub counted-far : 512 < length b + (length key - from)
+  pub counted-far : (v : ℕ) → v ≡ chargeBy (x .rec .«entry_size») (length b + (length key - from)) m → 512 < length b + (length key - from)
       → Counted s (b ++ drop from key) m x (record {
         place = x .place;
         rec = x .rec;
-        extra = x .extra + 256 + (length b + (length key - from)) + x .rec .«entry_size» + m;
+        extra = x .extra + v;
         long = true;
       })
-  counted-far h =
+  counted-far v ev h =
       let k : Path = b ++ drop from key in
       let l : length k ≡ length b + (length key - from) = composed-length b key from in
       let f : near k ≡ false = lt-leb (length k) 512 (omega arith) in

@@ -13,6 +13,7 @@ use Rattle.model.specs.Tree.{Entry, Table, Tree, shown, aDirectory, aFile, kind
 use Rattle.model.specs.Table.{bodyOf, charge, recordOf}
 use Rattle.model.specs.Rename.{asEntry, uncovered, carried, moved}
 use Rattle.model.specs.declared.Record.{Record}
+use Rattle.table_charge.specs.Charge.{chargeBy}
 use Rattle.table_measure.specs.Measure.{Measured}
 use Rattle.rename_measure.specs.declared.Tally.{Tally}
 use Rattle.rename_measure.specs.declared.Moves.{Moves}
@@ -33,7 +34,7 @@ pub record Counted (s : Bytes) (k : Path) (m : ℕ) (x y : Tally) : Type 0 where
       → Measured s (put k v t) k (y .place .left) (y .place .at) (x .rec .«entry_size») (y .rec)
   pub kept : near k ≡ true → y .extra ≡ x .extra
   pub passed : near k ≡ false → (y .place ≡ x .place) × (y .rec ≡ x .rec)
-  pub charged : near k ≡ false → y .extra ≡ x .extra + 256 + length k + x .rec .«entry_size» + m
+  pub charged : near k ≡ false → y .extra ≡ x .extra + chargeBy (x .rec .«entry_size») (length k) m
   pub long : y .long ≡ (x .long || not (short k))
 
 -- r has all of M counted, over the table t

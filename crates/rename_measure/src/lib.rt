@@ -65,10 +65,9 @@ pub fn measure_deletions<'a>(
     requires { ⌜ PartBelow (now part) (now source) records ⌝ }
     requires { ⌜ (0 < length (now source)) × (length (now source) ≤ 512) ⌝ }
     ensures { λ r. ⌜ ((l : Tree) → ascends [] l ≡ true → treeAt (now (part .entry)) records 0
-        ≡ only (below (now (source .entry))) l
-        → r ≡ recordOf (rec .«entry_size») (puts (each deleted (now (source .entry)
-        ∷ keys (carriedBelow (tableIn (now (table .entry)) rec) l (now (source .entry)))))
-        (tableIn (now (table .entry)) rec))) ⌝ }
+        ≡ only (below (now (source .entry))) l → r ≡ recordOf (rec .«entry_size»)
+        (puts (each deleted (now (source .entry) ∷ keys (carriedBelow (tableIn (now (table .entry)) rec) l
+        (now (source .entry))))) (tableIn (now (table .entry)) rec))) ⌝ }
     ensures { λ r. ⌜ Small r ⌝ }
 {
     let begin = table_entries::first_entry(table, rec);
@@ -106,10 +105,11 @@ fn counted(table: &[u8], tally: Tally, destination: &[u8], key: &[u8], from: usi
     let place = tally.place;
     let rec = tally.rec;
     if model::PATH_MAX < n {
+        let usage = table_charge::entry_memory_usage(rec.entry_size, n as u64, m);
         return Tally {
             place: place,
             rec: rec,
-            extra: tally.extra + model::ENTRY_MEMORY_USAGE + n as u64 + rec.entry_size + m,
+            extra: tally.extra + usage,
             long: true,
         };
     }
@@ -149,10 +149,9 @@ fn with_move<'a>(
     requires { ⌜ (length (now source) ≤ length (itemAt (now own) (now part) stream head .0))
         × (length (itemAt (now own) (now part) stream head .0) ≤ 512)
         × (length (bodyOf (itemAt (now own) (now part) stream head .1)) ≤ 16777216) ⌝ }
-    ensures { λ r. ⌜ Counted (now (table .entry))
-        (newKey (now (source .entry)) (now (destination .entry))
-        (itemAt (now (own .entry)) (now (part .entry)) stream head .0))
-        (length (bodyOf (itemAt (now (own .entry)) (now (part .entry)) stream head .1))) tally r ⌝ }
+    ensures { λ r. ⌜ Counted (now (table .entry)) (newKey (now (source .entry)) (now (destination .entry))
+        (itemAt (now (own .entry)) (now (part .entry)) stream head .0)) (length (bodyOf (itemAt (now (own .entry))
+        (now (part .entry)) stream head .1))) tally r ⌝ }
 {
     let key = rename_items::item_key(own, part, stream, head);
     let body = rename_items::item_body(own, part, stream, head);
@@ -171,11 +170,9 @@ fn first_move(table: &[u8], rec: model::Record, destination: &[u8], m: u64) -> T
     requires { ⌜ isTable (now table) rec ≡ true ⌝ }
     requires { ⌜ (length (now destination) ≤ 512) × (m ≤ 16777216) ⌝ }
     ensures { λ r. ⌜ ((t : Table) (j : Path) (v : Entry) → Measured (now (table .entry)) t j (rec .count) 0
-        (rec .«entry_size») rec
-        → before j (now (destination .entry)) ≡ true → length (bodyOf v) ≡ m
+        (rec .«entry_size») rec → before j (now (destination .entry)) ≡ true → length (bodyOf v) ≡ m
         → Measured (now (table .entry)) (put (now (destination .entry)) v t) (now (destination .entry)) (r .place .left)
-        (r .place .at)
-        (rec .«entry_size») (r .rec)) ⌝ }
+        (r .place .at) (rec .«entry_size») (r .rec)) ⌝ }
     ensures { λ r. ⌜ (r .extra ≡ 0) × (r .long ≡ not (short (now (destination .entry)))) ⌝ }
 {
     let begin = table_entries::first_entry(table, rec);
@@ -211,11 +208,9 @@ pub fn measure_moves<'a>(
     requires { ⌜ entriesAt (now own) count 0 ≡ only (below (now source)) (tableIn (now table) rec) ⌝ }
     requires { ⌜ PartBelow (now part) (now source) records ⌝ }
     requires { ⌜ (0 < length (now destination)) × (length (now destination) ≤ 512) × («first_len» ≤ 16777216) ⌝ }
-    ensures { λ r. ⌜ ((l : Tree) (e : Entry) → ascends [] l ≡ true
-        → treeAt (now (part .entry)) records 0 ≡ only (below (now (source .entry))) l
-        → length (bodyOf e) ≡ «first_len»
-        → Moved (rec .«entry_size») (tableIn (now (table .entry)) rec)
-        (rekey (now (source .entry)) (now (destination .entry))
+    ensures { λ r. ⌜ ((l : Tree) (e : Entry) → ascends [] l ≡ true → treeAt (now (part .entry)) records 0
+        ≡ only (below (now (source .entry))) l → length (bodyOf e) ≡ «first_len» → Moved (rec .«entry_size»)
+        (tableIn (now (table .entry)) rec) (rekey (now (source .entry)) (now (destination .entry))
         ((now (source .entry), e) ∷ carriedBelow (tableIn (now (table .entry)) rec) l (now (source .entry)))) r) ⌝ }
     ensures { λ r. ⌜ Small (r .rec) × (r .extra ≤ 0x4000_0000_0000_0000) ⌝ }
 {
@@ -251,8 +246,8 @@ fn deletions_below<'a>(
     requires { ⌜ isListing (now listing) ≡ true ⌝ }
     requires { ⌜ isTable (now table) rec ≡ true ⌝ }
     requires { ⌜ (0 < length (now source)) × (length (now source) ≤ 512) ⌝ }
-    ensures { λ r. ⌜ r ≡ recordOf (rec .«entry_size») (puts (each deleted (now (source .entry)
-        ∷ keys (carriedBelow (tableIn (now (table .entry)) rec) (treeIn (now (listing .entry))) (now (source .entry)))))
+    ensures { λ r. ⌜ r ≡ recordOf (rec .«entry_size») (puts (each deleted (now (source .entry) ∷ keys (carriedBelow
+        (tableIn (now (table .entry)) rec) (treeIn (now (listing .entry))) (now (source .entry)))))
         (tableIn (now (table .entry)) rec)) ⌝ }
     ensures { λ r. ⌜ Small r ⌝ }
 {
@@ -289,9 +284,8 @@ fn moves_below<'a>(
     requires { ⌜ isListing (now listing) ≡ true ⌝ }
     requires { ⌜ isTable (now table) rec ≡ true ⌝ }
     requires { ⌜ (0 < length (now destination)) × (length (now destination) ≤ 512) × («first_len» ≤ 16777216) ⌝ }
-    ensures { λ r. ⌜ ((e : Entry) → length (bodyOf e) ≡ «first_len»
-        → Moved (rec .«entry_size») (tableIn (now (table .entry)) rec)
-        (rekey (now (source .entry)) (now (destination .entry))
+    ensures { λ r. ⌜ ((e : Entry) → length (bodyOf e) ≡ «first_len» → Moved (rec .«entry_size»)
+        (tableIn (now (table .entry)) rec) (rekey (now (source .entry)) (now (destination .entry))
         ((now (source .entry), e) ∷ carriedBelow (tableIn (now (table .entry)) rec) (treeIn (now (listing .entry)))
         (now (source .entry)))) r) ⌝ }
     ensures { λ r. ⌜ Small (r .rec) × (r .extra ≤ 0x4000_0000_0000_0000) ⌝ }
@@ -331,10 +325,8 @@ fn all_deletions<'a>(
     requires { ⌜ isTable (now table) rec ≡ true ⌝ }
     requires { ⌜ (0 < length (now source)) × (length (now source) ≤ 512) ⌝ }
     requires { ⌜ Source (tableIn (now table) rec) (treeIn (now listing)) (now source) whole ⌝ }
-    ensures { λ r. ⌜ r ≡ recordOf (rec .«entry_size»)
-        (puts (each deleted (keys (carried (tableIn (now (table .entry)) rec) (treeIn (now (listing .entry)))
-        (now (source .entry)))))
-        (tableIn (now (table .entry)) rec)) ⌝ }
+    ensures { λ r. ⌜ r ≡ recordOf (rec .«entry_size») (puts (each deleted (keys (carried (tableIn (now (table .entry))
+        rec) (treeIn (now (listing .entry))) (now (source .entry))))) (tableIn (now (table .entry)) rec)) ⌝ }
     ensures { λ r. ⌜ Small r ⌝ }
 {
     if whole {
@@ -347,9 +339,8 @@ fn all_deletions<'a>(
 fn one_move(table: &[u8], rec: model::Record, destination: &[u8], m: u64) -> Moves
     requires { ⌜ isTable (now table) rec ≡ true ⌝ }
     requires { ⌜ (0 < length (now destination)) × (length (now destination) ≤ 512) × (m ≤ 16777216) ⌝ }
-    ensures { λ r. ⌜ ((a : Path) (e : Entry) → length (bodyOf e) ≡ m
-        → Moved (rec .«entry_size») (tableIn (now (table .entry)) rec)
-        (rekey a (now (destination .entry)) ((a, e) ∷ [])) r) ⌝ }
+    ensures { λ r. ⌜ ((a : Path) (e : Entry) → length (bodyOf e) ≡ m → Moved (rec .«entry_size»)
+        (tableIn (now (table .entry)) rec) (rekey a (now (destination .entry)) ((a, e) ∷ [])) r) ⌝ }
     ensures { λ r. ⌜ Small (r .rec) × (r .extra ≤ 0x4000_0000_0000_0000) ⌝ }
 {
     let after = table_insert::projected_record(table, rec, destination, m);
@@ -375,12 +366,12 @@ fn all_moves<'a>(
     requires { ⌜ isTable (now table) rec ≡ true ⌝ }
     requires { ⌜ (0 < length (now destination)) × (length (now destination) ≤ 512) × («first_len» ≤ 16777216) ⌝ }
     requires { ⌜ Source (tableIn (now table) rec) (treeIn (now listing)) (now source) whole ⌝ }
-    requires { ⌜ ((e : Entry) → lookup (puts (tableIn (now table) rec)
-        (mapped asEntry (only (uncovered (tableIn (now table) rec) (now source))
-        (treeIn (now listing))))) (now source) ≡ some e → length (bodyOf e) ≡ «first_len») ⌝ }
-    ensures { λ r. ⌜ Moved (rec .«entry_size») (tableIn (now (table .entry)) rec)
-        (rekey (now (source .entry)) (now (destination .entry))
-        (carried (tableIn (now (table .entry)) rec) (treeIn (now (listing .entry))) (now (source .entry)))) r ⌝ }
+    requires { ⌜ ((e : Entry) → lookup (puts (tableIn (now table) rec) (mapped asEntry
+        (only (uncovered (tableIn (now table) rec) (now source)) (treeIn (now listing))))) (now source) ≡ some e
+        → length (bodyOf e) ≡ «first_len») ⌝ }
+    ensures { λ r. ⌜ Moved (rec .«entry_size») (tableIn (now (table .entry)) rec) (rekey (now (source .entry))
+        (now (destination .entry)) (carried (tableIn (now (table .entry)) rec) (treeIn (now (listing .entry)))
+        (now (source .entry)))) r ⌝ }
     ensures { λ r. ⌜ Small (r .rec) × (r .extra ≤ 0x4000_0000_0000_0000) ⌝ }
 {
     if whole {
@@ -426,14 +417,13 @@ pub fn projected_move<'a>(
     requires { ⌜ (0 < length (now source)) × (length (now source) ≤ 512) ⌝ }
     requires { ⌜ (0 < length (now destination)) × (length (now destination) ≤ 512) ⌝ }
     requires { ⌜ Source (tableIn (now table) rec) (treeIn (now listing)) (now source) whole ⌝ }
-    requires { ⌜ ((e : Entry) → lookup (puts (tableIn (now table) rec)
-        (mapped asEntry (only (uncovered (tableIn (now table) rec) (now source))
-        (treeIn (now listing))))) (now source) ≡ some e → length (bodyOf e) ≡ «first_len») ⌝ }
+    requires { ⌜ ((e : Entry) → lookup (puts (tableIn (now table) rec) (mapped asEntry
+        (only (uncovered (tableIn (now table) rec) (now source)) (treeIn (now listing))))) (now source) ≡ some e
+        → length (bodyOf e) ≡ «first_len») ⌝ }
     requires { ⌜ (same (now source) (now destination) ≡ false → (q r : Path) → rest (now source) q ≡ some r
         → rest (now destination) q ≡ none) ⌝ }
     ensures { λ r. ⌜ Foretold (rec .«entry_size») (tableIn (now (table .entry)) rec) (treeIn (now (listing .entry)))
-        (now (source .entry))
-        (now (destination .entry)) r ⌝ }
+        (now (source .entry)) (now (destination .entry)) r ⌝ }
 {
     let moves = all_moves(listing, table, rec, source, destination, whole, first_len);
     let after = moves.rec;

@@ -3,7 +3,7 @@ use mathlib.Core.Path.{_≡_, refl, ap, _∙_}
 use mathlib.Core.Bool.{true}
 use mathlib.Core.List.{[], _∷_}
 use mathlib.Core.Option.{Option, some}
-use Prim.Native.Nat.{ℕ, _+_, _-_, _*_, _<_, _≤_}
+use Prim.Native.Nat.{ℕ, _+_, _-_, _*_}
 use native.Mathlib.Omega.{arith}
 use lib.ListN.{length}
 use borrow.Author.Tests.{le-leb, lt-leb}
@@ -14,6 +14,10 @@ use Rattle.model.specs.Tree.{Table}
 use Rattle.model.specs.Table.{charge}
 use Rattle.model.specs.Checks.{Check, refuse, _then_, limited}
 use Rattle.model.specs.Rename.{newKey, planned, plan, budget}
+use Rattle.base_budget.specs.Budget.{shrunk}
+use Rattle.base_budget.specs.declared.MemoryBudget.{MemoryBudget}
+use Rattle.base_budget.specs.declared.Shrunk.the-variants.{Left, MemoryUsageLimitExceeded}
+use Rattle.base_budget.proofs.Budgets.{left-is, exceeded-is}
 use Rattle.model.proofs.Orders.{yea, nay, test}
 use Rattle.model.proofs.Maps.{every-only}
 
@@ -32,18 +36,36 @@ pub planned-part :
     (a b : Path) (t p : Table) (s : ℕ) → p ≡ only (below a) t → (every (below a) (keys p) ≡ true → s ≡ planned a b p) → s ≡ planned a b t
 planned-part a b t p s e h = h (ap (λ (m : Table). every (below a) (keys m)) e ∙ every-only (below a) t) ∙ ap (planned a b) e ∙ planned-below a b t
 
--- c is the table's charge, and s the plan's sum
+-- c is the table's charge; what it leaves of the limit is a budget, and what the plan's sum s leaves of that another
 module _ (E limit : ℕ) (t : Table) (a b : Path) (c : ℕ) (e : c ≡ charge E t) where
-  pub over-charge : (d : Check) → limit < c → refuse 11 0 0 ≡ (plan (limited E limit) t a b then d)
-  over-charge d h = rw (lt-leb (charge E t) limit (omega arith))
+  abbrev whole : MemoryBudget
+  whole = record { available = limit; limit = limit }
 
-  module _ (s : ℕ) (f : s ≡ planned a b t) (h : c ≤ limit) where
-    pub over-sum : (d : Check) → limit - c < s → refuse 11 0 0 ≡ (plan (limited E limit) t a b then d)
-    over-sum d i = rw (le-leb (charge E t) limit (omega arith), lt-leb (planned a b t) (limit - charge E t) (omega arith))
+  pub over-charge : (d : Check) (n : ℕ) → shrunk whole c ≡ MemoryUsageLimitExceeded n
+      → refuse 11 0 0 ≡ (plan (limited E limit) t a b then d)
+  over-charge d n h = let o = exceeded-is whole c n h in rw (lt-leb (charge E t) limit (omega arith))
+
+  module _ (s : ℕ) (f : s ≡ planned a b t) (free : MemoryBudget) (h : shrunk whole c ≡ Left free) where
+    pub over-sum : (d : Check) (n : ℕ) → shrunk free s ≡ MemoryUsageLimitExceeded n
+        → refuse 11 0 0 ≡ (plan (limited E limit) t a b then d)
+    over-sum d n i =
+        let l = left-is whole c free h in
+        let o = exceeded-is free s n i in
+        let y = l .0 in
+        let z = l .1 in
+        rw (le-leb (charge E t) limit (omega arith), lt-leb (planned a b t) (limit - charge E t) (omega arith))
 
     -- x is what the next check, `at` a budget, gave
-    pub within : (at : Option ℕ → Check) (x : Check) → s ≤ limit - c → x ≡ at (some (limit - c - s))
-        → x ≡ (plan (limited E limit) t a b then at (budget (limited E limit) t a b))
-    within at x i j =
-        let z : limit - c - s ≡ limit - charge E t - planned a b t = ap (λ (n : ℕ). limit - n - s) e ∙ ap (λ (n : ℕ). limit - charge E t - n) f in
-        rw (le-leb (charge E t) limit (omega arith), le-leb (planned a b t) (limit - charge E t) (omega arith)) (j ∙ ap (λ (n : ℕ). at (some n)) z)
+    pub within : (at : Option ℕ → Check) (x : Check) (rest : MemoryBudget) → shrunk free s ≡ Left rest
+        → x ≡ at (some (rest .available)) → x ≡ (plan (limited E limit) t a b then at (budget (limited E limit) t a b))
+    within at x rest i j =
+        let l = left-is whole c free h in
+        let m = left-is free s rest i in
+        let y = l .0 in
+        let z = l .1 in
+        let u = m .0 in
+        let v = m .1 in
+        let w : rest .available ≡ limit - charge E t - planned a b t =
+        v ∙ ap (λ (n : ℕ). n - s) z ∙ ap (λ (n : ℕ). limit - n - s) e ∙ ap (λ (n : ℕ). limit - charge E t - n) f in
+        rw (le-leb (charge E t) limit (omega arith), le-leb (planned a b t) (limit - charge E t) (omega arith))
+        (j ∙ ap (λ (n : ℕ). at (some n)) w)

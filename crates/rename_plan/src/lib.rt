@@ -1,7 +1,7 @@
 // rename's plan and walk as one check, for a source that is a directory: both ask whether the limit allows what moving
 // it may take. Assumes a listing, a table and two paths that were checked: only this repository's crates call. The plan
-// reads heads and keys of the table up to the last below the source, and those below it twice; rename_descendants says
-// what the walk costs.
+// reads heads and keys of the table up to the last below the source, and those below it twice; rename_walk says what
+// the walk costs.
 ghost use mathlib.Core.Path.{_≡_};
 ghost use mathlib.Core.Bool.{true};
 ghost use mathlib.Core.Option.{some};
@@ -16,6 +16,8 @@ ghost use Rattle.model.specs.Rename.{ifDirectory, planned, plan, walkFrom};
 ghost use Rattle.model.specs.Rename as rename;
 ghost use Rattle.check_judged.specs.Judged.{checkOf};
 ghost use Rattle.rename_walk.specs.Walked.{walkOf};
+use base_budget::MemoryBudget;
+use base_budget::Shrunk;
 use check_judged::Judged;
 use model::Record;
 use model::Refusal;
@@ -64,23 +66,22 @@ fn check_walked(walk: rename_walk::Walked, len: u64) -> Judged
 }
 
 // The walk, where the source is listed as a directory. Where it is not, nothing is listed below it.
-fn walk_checks(listing: &[u8], table: &[u8], rec: Record, source: &[u8], budget: u64) -> Judged
+fn walk_checks(
+    listing: &[u8],
+    table: &[u8],
+    rec: Record,
+    source: &[u8],
+    budget: MemoryBudget,
+) -> Judged
     requires { ⌜ isListing (now listing) ≡ true ⌝ }
     requires { ⌜ isTable (now table) rec ≡ true ⌝ }
     requires { ⌜ isPath (now source) ≡ true ⌝ }
     ensures { λ r. ⌜ checkOf r ≡ ifDirectory (kind (lookup (treeIn (now (listing .entry)))) (now (source .entry)))
         (rename.walked (length (now (source .entry))) (walkFrom (tableIn (now (table .entry)) rec)
-        (treeIn (now (listing .entry)))
-        (some budget) (now (source .entry)))) ⌝ }
+        (treeIn (now (listing .entry))) (some (budget .available)) (now (source .entry)))) ⌝ }
 {
     if is_listed_directory(listing, source) {
-        let walk = rename_descendants::collect_real_descendants(
-            listing,
-            table,
-            rec,
-            source,
-            budget,
-        );
+        let walk = rename_walk::collect_real_descendants(listing, table, rec, source, budget);
         return check_walked(walk, source.len() as u64);
     }
     Judged::Pass
@@ -100,22 +101,18 @@ pub fn plan_checks(
     requires { ⌜ isTable (now table) rec ≡ true ⌝ }
     requires { ⌜ (isPath (now source) ≡ true) × (isPath (now destination) ≡ true) ⌝ }
     ensures { λ r. ⌜ checkOf r ≡ (plan (limited (rec .«entry_size») limit) (tableIn (now (table .entry)) rec)
-        (now (source .entry))
-        (now (destination .entry)) then ifDirectory (kind (lookup (treeIn (now (listing .entry))))
-        (now (source .entry)))
-        (rename.walked (length (now (source .entry))) (walkFrom (tableIn (now (table .entry)) rec)
-        (treeIn (now (listing .entry)))
-        (rename.budget (limited (rec .«entry_size») limit) (tableIn (now (table .entry)) rec) (now (source .entry))
-        (now (destination .entry)))
+        (now (source .entry)) (now (destination .entry)) then ifDirectory (kind (lookup (treeIn (now (listing .entry))))
+        (now (source .entry))) (rename.walked (length (now (source .entry))) (walkFrom (tableIn (now (table .entry))
+        rec) (treeIn (now (listing .entry))) (rename.budget (limited (rec .«entry_size») limit)
+        (tableIn (now (table .entry)) rec) (now (source .entry)) (now (destination .entry)))
         (now (source .entry))))) ⌝ }
 {
-    if limit < rec.charge {
+    let Shrunk::Left(free) = base_budget::available_memory(rec.charge, limit) else {
         return Judged::Refused(Refusal::Limit);
-    }
-    let left = limit - rec.charge;
+    };
     let sum = planned_sum(table, rec, source, destination);
-    if left < sum {
+    let Shrunk::Left(rest) = free.shrink(sum) else {
         return Judged::Refused(Refusal::Limit);
-    }
-    walk_checks(listing, table, rec, source, left - sum)
+    };
+    walk_checks(listing, table, rec, source, rest)
 }

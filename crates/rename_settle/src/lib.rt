@@ -100,14 +100,14 @@ pub fn last_checks<'a>(
     requires { ⌜ isTable (now table) rec ≡ true ⌝ }
     requires { ⌜ (isPath (now source) ≡ true) × (isPath (now destination) ≡ true) ⌝ }
     requires { ⌜ earlyChecks (tableIn (now table) rec) (treeIn (now listing)) (now source) (now destination) ≡ pass ⌝ }
-    requires { ⌜ kind (shown (tableIn (now table) rec) (treeIn (now listing))) (now source)
-        ≡ cond whole aDirectory aFile ⌝ }
+    requires { ⌜ kind (shown (tableIn (now table) rec) (treeIn (now listing))) (now source) ≡ cond whole aDirectory
+        aFile ⌝ }
     ensures { λ r. ⌜ settledCheck r ≡ lastChecks (limited (rec .«entry_size») limit) (length (now (table .entry)))
-        (tableIn (now (table .entry)) rec)
-        (treeIn (now (listing .entry))) (now (source .entry)) (now (destination .entry)) ⌝ }
-    ensures { λ r. ⌜ ((after : Record) → r ≡ settled.Done after
-        → after ≡ recordOf (rec .«entry_size») (moved (tableIn (now (table .entry)) rec)
-        (treeIn (now (listing .entry))) (now (source .entry)) (now (destination .entry)))) ⌝ }
+        (tableIn (now (table .entry)) rec) (treeIn (now (listing .entry))) (now (source .entry))
+        (now (destination .entry)) ⌝ }
+    ensures { λ r. ⌜ ((after : Record) → r ≡ settled.Done after → after ≡ recordOf (rec .«entry_size»)
+        (moved (tableIn (now (table .entry)) rec) (treeIn (now (listing .entry))) (now (source .entry))
+        (now (destination .entry)))) ⌝ }
 {
     let len = first_len(listing, table, rec, source);
     let projected = rename_measure::projected_move(

@@ -28,16 +28,16 @@ pub fn write_move(
     requires { ⌜ isTable (now table) rec ≡ true ⌝ }
     requires { ⌜ isListing (now listing) ≡ true ⌝ }
     requires { ⌜ earlyChecks (tableIn (now table) rec) (treeIn (now listing)) (now source) (now destination) ≡ pass ⌝ }
-    requires { ⌜ kind (shown (tableIn (now table) rec) (treeIn (now listing))) (now source)
-        ≡ cond whole aDirectory aFile ⌝ }
-    requires { ⌜ every short (keys (rekey (now source) (now destination)
-        (carried (tableIn (now table) rec) (treeIn (now listing)) (now source)))) ≡ true ⌝ }
+    requires { ⌜ kind (shown (tableIn (now table) rec) (treeIn (now listing))) (now source) ≡ cond whole aDirectory
+        aFile ⌝ }
+    requires { ⌜ every short (keys (rekey (now source) (now destination) (carried (tableIn (now table) rec)
+        (treeIn (now listing)) (now source)))) ≡ true ⌝ }
     requires { ⌜ length (encode (moved (tableIn (now table) rec) (treeIn (now listing)) (now source) (now destination)))
         ≤ length (now table) ⌝ }
     requires { ⌜ length (now table) ≤ length (now work) ⌝ }
     ensures { λ _. ⌜ now (table .exit) ≡ padded (length (now (table .entry)))
-        (encode (moved (tableIn (now (table .entry)) rec)
-        (treeIn (now (listing .entry))) (now (source .entry)) (now (destination .entry)))) ⌝ }
+        (encode (moved (tableIn (now (table .entry)) rec) (treeIn (now (listing .entry))) (now (source .entry))
+        (now (destination .entry)))) ⌝ }
     ensures { λ _. ⌜ now (work .exit) ≡ replicate (length (now (work .entry))) 0 ⌝ }
 {
     rename_write::write_ordered(table, work, rec, listing, source, destination, whole);

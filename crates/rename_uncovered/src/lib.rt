@@ -22,8 +22,7 @@ pub fn cover(flags: &mut [bool; 513], path: &[u8], from: usize, absent: bool) ->
     requires { ⌜ (from < length (now path)) × (length (now path) ≤ 512) × (length (now flags) ≡ 513) ⌝ }
     ensures { λ r. ⌜ length (now (flags .exit)) ≡ 513 ⌝ }
     ensures { λ r. ⌜ ((t : Table) (a : Path) (l : Tree) (p : Path) → Covering t a l (now (flags .entry)) p
-        → Following a l p (now (path .entry))
-        → from ≡ length a → absent ≡ isNone (lookup t (now (path .entry)))
+        → Following a l p (now (path .entry)) → from ≡ length a → absent ≡ isNone (lookup t (now (path .entry)))
         → (r ≡ uncovered t a (now (path .entry))) × Covering t a l (now (flags .exit)) (now (path .entry))) ⌝ }
 {
     let end = base_paths::parent_end(path, from);
@@ -54,13 +53,11 @@ fn seek_uncovered(
         (entries .at) ⌝ }
     ensures { λ r. ⌜ ReadyAt (now (part .entry)) (now (table .entry)) (now (source .entry)) (now (flags .exit)) r ⌝ }
     ensures { λ r. ⌜ r .left ≤ records .left ⌝ }
-    ensures { λ r. ⌜ ((t : Table) (l : Tree)
-        → Reading (now (part .entry)) (now (table .entry)) (now (source .entry)) t l (now (flags .entry))
-        (records .left) (records .at)
-        (entries .left) (entries .at) → AheadAt (now (part .entry)) (now (table .entry)) (now (source .entry)) t l
-        (now (flags .exit)) r
-        × (toCome t (now (source .entry)) (now (part .entry)) (r .left) (r .at)
-        ≡ toCome t (now (source .entry)) (now (part .entry)) (records .left) (records .at))) ⌝ }
+    ensures { λ r. ⌜ ((t : Table) (l : Tree) → Reading (now (part .entry)) (now (table .entry)) (now (source .entry)) t
+        l (now (flags .entry)) (records .left) (records .at) (entries .left) (entries .at) → AheadAt (now (part .entry))
+        (now (table .entry)) (now (source .entry)) t l (now (flags .exit)) r × (toCome t (now (source .entry))
+        (now (part .entry)) (r .left) (r .at) ≡ toCome t (now (source .entry)) (now (part .entry)) (records .left)
+        (records .at))) ⌝ }
 {
     let mut here = records;
     let mut place = entries;
@@ -101,11 +98,9 @@ pub fn first_uncovered(
     ensures { λ r. ⌜ ReadyAt (now (part .entry)) (now (table .entry)) (now (source .entry)) (now (flags .exit)) r ⌝ }
     ensures { λ r. ⌜ r .left ≤ count ⌝ }
     ensures { λ r. ⌜ AheadAt (now (part .entry)) (now (table .entry)) (now (source .entry))
-        (tableIn (now (table .entry)) rec)
-        (treeAt (now (part .entry)) count 0) (now (flags .exit)) r ⌝ }
+        (tableIn (now (table .entry)) rec) (treeAt (now (part .entry)) count 0) (now (flags .exit)) r ⌝ }
     ensures { λ r. ⌜ toCome (tableIn (now (table .entry)) rec) (now (source .entry)) (now (part .entry)) (r .left)
-        (r .at)
-        ≡ toCome (tableIn (now (table .entry)) rec) (now (source .entry)) (now (part .entry)) count 0 ⌝ }
+        (r .at) ≡ toCome (tableIn (now (table .entry)) rec) (now (source .entry)) (now (part .entry)) count 0 ⌝ }
 {
     let first = table_entries::first_entry(table, rec);
     let records = listing_records::Place { at: 0, left: count };
@@ -125,12 +120,11 @@ pub fn next_uncovered(
     requires { ⌜ 0 < cursor .left ⌝ }
     ensures { λ r. ⌜ ReadyAt (now (part .entry)) (now (table .entry)) (now (source .entry)) (now (flags .exit)) r ⌝ }
     ensures { λ r. ⌜ r .left < cursor .left ⌝ }
-    ensures { λ r. ⌜ ((t : Table) (l : Tree) → AheadAt (now (part .entry)) (now (table .entry))
-        (now (source .entry)) t l (now (flags .entry)) cursor
-        → AheadAt (now (part .entry)) (now (table .entry)) (now (source .entry)) t l (now (flags .exit)) r
-        × (toCome t (now (source .entry)) (now (part .entry)) (r .left) (r .at)
-        ≡ toCome t (now (source .entry)) (now (part .entry)) (cursor .left - 1)
-        (recordEnd (now (part .entry)) (cursor .at)))) ⌝ }
+    ensures { λ r. ⌜ ((t : Table) (l : Tree) → AheadAt (now (part .entry)) (now (table .entry)) (now (source .entry)) t
+        l (now (flags .entry)) cursor → AheadAt (now (part .entry)) (now (table .entry)) (now (source .entry)) t l
+        (now (flags .exit)) r × (toCome t (now (source .entry)) (now (part .entry)) (r .left) (r .at)
+        ≡ toCome t (now (source .entry)) (now (part .entry)) (cursor .left - 1) (recordEnd (now (part .entry))
+        (cursor .at)))) ⌝ }
 {
     let here = listing_records::Place {
         at: cursor.at,

@@ -1,29 +1,30 @@
 -- One node visited within a budget, as the code adds, and what an answer says of a node.
-use mathlib.Core.Path.{_≡_, refl, ap, _∙_}
-use mathlib.Core.Bool.{true, false}
+use mathlib.Core.Path.{_≡_, refl, sym, ap, _∙_}
+use mathlib.Core.Bool.{Bool, true, false}
 use mathlib.Core.Option.{Option, some}
-use Prim.Native.Nat.{ℕ, _+_, _-_, _*_, _<_, _≤_}
+use Prim.Native.Nat.{ℕ, _+_, _*_, _<_, _≤_}
 use native.Mathlib.Omega.{arith}
 use lib.ListN.{length}
-use borrow.Author.Tests.{le-leb, lt-leb}
+use borrow.Author.Tests.{leb-true, leb-false, le-leb, lt-leb}
 use Rattle.model.specs.Path.{Path}
 use Rattle.model.specs.Tree.{Node, dir, file, link, kindOf, isDirectory}
 use Rattle.model.specs.Rename.{Walk, sum, overBudget, atLink, inBudget, visit}
 use Rattle.model.proofs.Orders.{bot}
 use Rattle.listing_records.specs.Found.{foundOf}
+use Rattle.base_budget.specs.Budget.{covers, shrunk}
+use Rattle.base_budget.specs.declared.MemoryBudget.{MemoryBudget}
+use Rattle.base_budget.specs.declared.Shrunk.the-variants.{Left}
+use Rattle.base_budget.proofs.Budgets.{left-is}
 use Rattle.rename_walk.specs.Walked.{ended}
 use Rattle.listing_records.specs.declared.Found.the-variants as found
 
 module _ (b s : ℕ) where
-  -- a sum above the budget, a cost above what is left of it, and one within
+  -- a sum above the budget before the addition, and one within after it
   pub over-before : (c : ℕ) → b < s → overBudget ≡ inBudget (some b) (s + c)
   over-before c h = rw (lt-leb (s + c) b (omega arith))
 
-  pub over-after : (c : ℕ) → s ≤ b → b - s < c → overBudget ≡ inBudget (some b) (s + c)
-  over-after c g h = rw (lt-leb (s + c) b (omega arith))
-
-  pub within : (c : ℕ) → s ≤ b → c ≤ b - s → sum (s + c) ≡ inBudget (some b) (s + c)
-  within c g h = rw (le-leb (s + c) b (omega arith))
+  within : (c : ℕ) → s + c ≤ b → sum (s + c) ≡ inBudget (some b) (s + c)
+  within c h = rw (le-leb (s + c) b h)
 
   module _ (n : ℕ) (p : Path) (e : n ≡ length p) where
     pub at-dir : (x : Node) (m : ℕ) → found.Directory m ≡ foundOf (some x) → (r : Walk) → r ≡ inBudget (some b) (s + (3 * n + 512))
@@ -69,3 +70,20 @@ pub link-is : (x : Node) → found.Link ≡ foundOf (some x) → false ≡ isDir
 link-is (dir k) h = absurd (bot (cc))
 link-is (file k y c) h = absurd (bot (cc))
 link-is link h = refl
+
+-- the budget b was shrunk by the sum s to r, and t is whether r covers the cost c
+module _ (b : MemoryBudget) (s c : ℕ) (r : MemoryBudget) (e : shrunk b s ≡ Left r) (t : Bool) (f : t ≡ covers r c) where
+  pub covered : t ≡ true → s + c ≤ b .available
+  covered h =
+      let l = left-is b s r e in
+      let m = leb-true c (r .available) (sym f ∙ h) in
+      omega (arith, l .0, l .1)
+
+  pub within-rest : t ≡ true → sum (s + c) ≡ inBudget (some (b .available)) (s + c)
+  within-rest h = within (b .available) s c (covered h)
+
+  pub over-rest : t ≡ false → overBudget ≡ inBudget (some (b .available)) (s + c)
+  over-rest h =
+      let l = left-is b s r e in
+      let m = leb-false c (r .available) (sym f ∙ h) in
+      rw (lt-leb (s + c) (b .available) (omega (arith, l .0, l .1)))

@@ -1,7 +1,7 @@
-// rename's walk in its order: asked only where a link is reached and the budget is exceeded too, since there the one
-// that comes first is the answer. Assumes a listing and a table that were checked, and a path: only this repository's
-// crates call. A record or an entry is passed a few times at each of 32 levels, once for each of 20 halvings there, and
-// for each directory whose path it begins with.
+// rename's walk: a directory's listed children without an entry are visited in ascending order, then the directories
+// among them entered, the last found first. A stretch of records is entered by halves, the second first, since a
+// listing can only be read forward. Assumes a listing and a table that were checked, and a path: only this repository's
+// crates call. A record or an entry is passed a few times at each of 32 levels, once for each of 20 halvings there.
 ghost use mathlib.Core.Path.{_≡_};
 ghost use mathlib.Core.Bool.{true, _&&_};
 ghost use mathlib.Core.Option.{some};
@@ -21,6 +21,8 @@ ghost use Rattle.table_entries.specs.Place.{Standing, Sought};
 ghost use Rattle.table_entries.specs.Cut.{since};
 ghost use Rattle.rename_walk.specs.Walked.{walkOf, ended};
 ghost use Rattle.rename_walk.specs.Stretch.{endAfter, slashed, lead, Under, Halved, entered};
+use base_budget::MemoryBudget;
+use base_budget::Shrunk;
 
 // What the walk comes to: a sum, or its end above the budget or at a link.
 pub enum Walked {
@@ -55,23 +57,23 @@ pub struct Seen {
 }
 
 // A cost added to a sum. It is compared with what the budget leaves, so that no addition can overflow.
-fn added(total: u64, cost: u64, budget: u64) -> Walked
-    ensures { λ r. ⌜ walkOf r ≡ inBudget (some budget) (total + cost) ⌝ }
+fn added(total: u64, cost: u64, budget: MemoryBudget) -> Walked
+    ensures { λ r. ⌜ walkOf r ≡ inBudget (some (budget .available)) (total + cost) ⌝ }
 {
-    if budget < total {
+    let Shrunk::Left(rest) = budget.shrink(total) else {
         return Walked::OverBudget;
+    };
+    if rest.check(cost) {
+        return Walked::Sum(total + cost);
     }
-    if budget - total < cost {
-        return Walked::OverBudget;
-    }
-    Walked::Sum(total + cost)
+    Walked::OverBudget
 }
 
 // One node visited, at a path of `len` bytes: a link ends the walk. A listed node is never absent.
-fn visit_from(total: u64, found: listing_records::Found, len: u64, budget: u64) -> Walked
+fn visit_from(total: u64, found: listing_records::Found, len: u64, budget: MemoryBudget) -> Walked
     requires { ⌜ len ≤ 16777216 ⌝ }
-    ensures { λ r. ⌜ ((p : Path) (n : Node) → found ≡ foundOf (some n) → len ≡ length p
-        → walkOf r ≡ visit (some budget) (rename.sum total) p n) ⌝ }
+    ensures { λ r. ⌜ ((p : Path) (n : Node) → found ≡ foundOf (some n) → len ≡ length p → walkOf r
+        ≡ visit (some (budget .available)) (rename.sum total) p n) ⌝ }
 {
     match found {
         listing_records::Found::Directory(_) => {
@@ -90,10 +92,10 @@ fn visit_from(total: u64, found: listing_records::Found, len: u64, budget: u64) 
 }
 
 // The same of a walk that may have ended: then it stays so.
-fn visited(walked: Walked, found: listing_records::Found, len: u64, budget: u64) -> Walked
+fn visited(walked: Walked, found: listing_records::Found, len: u64, budget: MemoryBudget) -> Walked
     requires { ⌜ len ≤ 16777216 ⌝ }
-    ensures { λ r. ⌜ ((p : Path) (n : Node) → found ≡ foundOf (some n) → len ≡ length p
-        → walkOf r ≡ visit (some budget) (walkOf walked) p n) ⌝ }
+    ensures { λ r. ⌜ ((p : Path) (n : Node) → found ≡ foundOf (some n) → len ≡ length p → walkOf r
+        ≡ visit (some (budget .available)) (walkOf walked) p n) ⌝ }
 {
     match walked {
         Walked::Sum(total) => {
@@ -158,12 +160,10 @@ fn bare_child(
     requires { ⌜ 0 < here .left ⌝ }
     requires { ⌜ Standing (now table) (place .left) (place .at) ⌝ }
     ensures { λ r. ⌜ r .bare ≡ (child (now (dir .entry)) (recordAt (now (records .entry)) (here .at) .path)
-        && isNone (lookup
-        (entriesAt (now (table .entry)) (place .left) (place .at))
-        (recordAt (now (records .entry)) (here .at) .path))) ⌝ }
+        && isNone (lookup (entriesAt (now (table .entry)) (place .left) (place .at)) (recordAt (now (records .entry))
+        (here .at) .path))) ⌝ }
     ensures { λ r. ⌜ Sought (now (table .entry)) (recordAt (now (records .entry)) (here .at) .path) (place .left)
-        (place .at) (r .place .left)
-        (r .place .at) ⌝ }
+        (place .at) (r .place .left) (r .place .at) ⌝ }
 {
     let path = listing_records::record_path(records, here);
     let got = table_entries::get_from(table, place, path);
@@ -183,18 +183,17 @@ fn visit_record(
     table: &[u8],
     place: table_entries::Place,
     dir: &[u8],
-    budget: u64,
+    budget: MemoryBudget,
     walked: Walked,
 ) -> Seen
     requires { ⌜ listing.Standing (now records) (here .left) (here .at) ⌝ }
     requires { ⌜ 0 < here .left ⌝ }
     requires { ⌜ Standing (now table) (place .left) (place .at) ⌝ }
-    ensures { λ r. ⌜ walkOf (r .walked) ≡ visits (some budget) (walkOf walked)
-        (children (entriesAt (now (table .entry)) (place .left) (place .at))
-        (treeAt (now (records .entry)) 1 (here .at)) (now (dir .entry))) ⌝ }
+    ensures { λ r. ⌜ walkOf (r .walked) ≡ visits (some (budget .available)) (walkOf walked)
+        (children (entriesAt (now (table .entry)) (place .left) (place .at)) (treeAt (now (records .entry)) 1
+        (here .at)) (now (dir .entry))) ⌝ }
     ensures { λ r. ⌜ Sought (now (table .entry)) (recordAt (now (records .entry)) (here .at) .path) (place .left)
-        (place .at) (r .place .left)
-        (r .place .at) ⌝ }
+        (place .at) (r .place .left) (r .place .at) ⌝ }
 {
     let child = bare_child(records, here, table, place, dir);
     let next = child.place;
@@ -221,15 +220,15 @@ fn visit_children(
     table: &[u8],
     place: table_entries::Place,
     dir: &[u8],
-    budget: u64,
+    budget: MemoryBudget,
     walked: Walked,
 ) -> Walked
     requires { ⌜ listing.Standing (now records) (stretch .left) (stretch .at) ⌝ }
     requires { ⌜ stretch .count ≤ stretch .left ⌝ }
     requires { ⌜ Standing (now table) (place .left) (place .at) ⌝ }
-    ensures { λ r. ⌜ walkOf r ≡ visits (some budget) (walkOf walked)
-        (children (entriesAt (now (table .entry)) (place .left) (place .at))
-        (treeAt (now (records .entry)) (stretch .count) (stretch .at)) (now (dir .entry))) ⌝ }
+    ensures { λ r. ⌜ walkOf r ≡ visits (some (budget .available)) (walkOf walked)
+        (children (entriesAt (now (table .entry)) (place .left) (place .at)) (treeAt (now (records .entry))
+        (stretch .count) (stretch .at)) (now (dir .entry))) ⌝ }
 {
     let mut at = stretch.at;
     let mut left = stretch.left;
@@ -261,8 +260,8 @@ fn visit_children(
 fn seek_below(records: &[u8], place: listing_records::Place, dir: &[u8]) -> listing_records::Place
     requires { ⌜ listing.Standing (now records) (place .left) (place .at) ⌝ }
     ensures { λ r. ⌜ listing.Standing (now (records .entry)) (r .left) (r .at) ⌝ }
-    ensures { λ r. ⌜ treeAt (now (records .entry)) (r .left) (r .at)
-        ≡ since (slashed (now (dir .entry))) (treeAt (now (records .entry)) (place .left) (place .at)) ⌝ }
+    ensures { λ r. ⌜ treeAt (now (records .entry)) (r .left) (r .at) ≡ since (slashed (now (dir .entry)))
+        (treeAt (now (records .entry)) (place .left) (place .at)) ⌝ }
 {
     let mut at = place.at;
     let mut left = place.left;
@@ -343,8 +342,7 @@ fn halved(records: &[u8], stretch: Stretch) -> Halves
     requires { ⌜ listing.Standing (now records) (stretch .left) (stretch .at) ⌝ }
     requires { ⌜ (stretch .count ≤ stretch .left) × (1 < stretch .count) ⌝ }
     ensures { λ r. ⌜ Halved (now (records .entry)) (stretch .left) (stretch .count) (stretch .at) (r .low .left)
-        (r .low .count) (r .low .at)
-        (r .high .left) (r .high .count) (r .high .at) ⌝ }
+        (r .low .count) (r .low .at) (r .high .left) (r .high .count) (r .high .at) ⌝ }
 {
     let at = stretch.at;
     let left = stretch.left;
@@ -372,7 +370,7 @@ fn enter_record(
     table: &[u8],
     place: table_entries::Place,
     dir: &[u8],
-    budget: u64,
+    budget: MemoryBudget,
     walked: Walked,
     depth: u64,
 ) -> Walked
@@ -380,7 +378,7 @@ fn enter_record(
     requires { ⌜ 0 < here .left ⌝ }
     requires { ⌜ Standing (now table) (place .left) (place .at) ⌝ }
     ensures { λ r. ⌜ walkOf r ≡ entered depth (entriesAt (now (table .entry)) (place .left) (place .at))
-        (treeAt (now (records .entry)) (here .left) (here .at)) (some budget) (now (dir .entry))
+        (treeAt (now (records .entry)) (here .left) (here .at)) (some (budget .available)) (now (dir .entry))
         (treeAt (now (records .entry)) 1 (here .at)) (walkOf walked) ⌝ }
 {
     if depth == 0 {
@@ -407,7 +405,7 @@ fn enter_stretch(
     table: &[u8],
     place: table_entries::Place,
     dir: &[u8],
-    budget: u64,
+    budget: MemoryBudget,
     walked: Walked,
     depth: u64,
 ) -> Walked
@@ -415,7 +413,7 @@ fn enter_stretch(
     requires { ⌜ stretch .count ≤ stretch .left ⌝ }
     requires { ⌜ Standing (now table) (place .left) (place .at) ⌝ }
     ensures { λ r. ⌜ walkOf r ≡ entered depth (entriesAt (now (table .entry)) (place .left) (place .at))
-        (treeAt (now (records .entry)) (stretch .left) (stretch .at)) (some budget) (now (dir .entry))
+        (treeAt (now (records .entry)) (stretch .left) (stretch .at)) (some (budget .available)) (now (dir .entry))
         (treeAt (now (records .entry)) (stretch .count) (stretch .at)) (walkOf walked) ⌝ }
 {
     let count = stretch.count;
@@ -439,20 +437,21 @@ fn enter_stretch(
 }
 
 // The walk below a source, from 2 × its length + 1 on: its children are visited, then the directories among them
-// entered. A path has at most 32 components, so 32 levels, of which the source's children are the first, reach all that
-// is listed.
-pub fn walk_in_order(
+// entered. The Rust's function of this name collects what the walk finds; here nothing is collected, and the sum is
+// answered. A path has at most 32 components, so 32 levels, of which the source's children are the first, reach all
+// that is listed.
+pub fn collect_real_descendants(
     listing: &[u8],
     table: &[u8],
     rec: model::Record,
     source: &[u8],
-    budget: u64,
+    budget: MemoryBudget,
 ) -> Walked
     requires { ⌜ isListing (now listing) ≡ true ⌝ }
     requires { ⌜ isTable (now table) rec ≡ true ⌝ }
     requires { ⌜ isPath (now source) ≡ true ⌝ }
     ensures { λ r. ⌜ walkOf r ≡ walkFrom (tableIn (now (table .entry)) rec) (treeIn (now (listing .entry)))
-        (some budget) (now (source .entry)) ⌝ }
+        (some (budget .available)) (now (source .entry)) ⌝ }
 {
     let start = 2 * source.len() as u64 + 1;
     let first = listing_records::first_record(listing);

@@ -69,8 +69,8 @@ pub fn put_deletions<'a>(
     requires { ⌜ Standing (now own) count 0 ⌝ }
     requires { ⌜ entriesAt (now own) count 0 ≡ only (below (now source)) (tableIn (now table) rec) ⌝ }
     requires { ⌜ PartBelow (now part) (now source) records ⌝ }
-    requires { ⌜ Puttable deletion (now table) (now work) (now part) (tableIn (now table) rec)
-        (now source) records merge ⌝ }
+    requires { ⌜ Puttable deletion (now table) (now work) (now part) (tableIn (now table) rec) (now source) records
+        merge ⌝ }
     ensures { λ r. ⌜ PutAll deletion (now (table .entry)) (now (work .entry)) (now (work .exit)) (now (part .entry))
         (tableIn (now (table .entry)) rec) (now (source .entry)) records merge r ⌝ }
 {
@@ -102,11 +102,10 @@ fn put_move<'a>(
     requires { ⌜ Next (now own) (now part) stream head ⌝ }
     requires { ⌜ 0 < remaining stream ⌝ }
     requires { ⌜ movable (now source) (now destination) (itemAt (now own) (now part) stream head) ≡ true ⌝ }
-    requires { ⌜ Room (now table) (now work) merge (move (now source) (now destination)
-        (itemAt (now own) (now part) stream head)) ⌝ }
-    ensures { λ r. ⌜ Put (now (table .entry)) (now (work .entry)) (now (work .exit)) merge r
-        (move (now (source .entry)) (now (destination .entry))
-        (itemAt (now (own .entry)) (now (part .entry)) stream head)) ⌝ }
+    requires { ⌜ Room (now table) (now work) merge (move (now source) (now destination) (itemAt (now own) (now part)
+        stream head)) ⌝ }
+    ensures { λ r. ⌜ Put (now (table .entry)) (now (work .entry)) (now (work .exit)) merge r (move (now (source .entry))
+        (now (destination .entry)) (itemAt (now (own .entry)) (now (part .entry)) stream head)) ⌝ }
 {
     let path = rename_items::item_key(own, part, stream, head);
     let key = rename_keys::moved_key(destination, path, source.len());
@@ -145,13 +144,12 @@ pub fn put_moves<'a>(
     requires { ⌜ Standing (now own) count 0 ⌝ }
     requires { ⌜ entriesAt (now own) count 0 ≡ only (below (now source)) (tableIn (now table) rec) ⌝ }
     requires { ⌜ PartBelow (now part) (now source) records ⌝ }
-    requires { ⌜ Puttable (move (now source) (now destination)) (now table) (now work) (now part)
-        (tableIn (now table) rec)
-        (now source) records merge ⌝ }
+    requires { ⌜ Puttable (move (now source) (now destination)) (now table) (now work) (now part) (tableIn (now table)
+        rec) (now source) records merge ⌝ }
     requires { ⌜ Movables (now part) (tableIn (now table) rec) (now source) (now destination) records ⌝ }
     ensures { λ r. ⌜ PutAll (move (now (source .entry)) (now (destination .entry))) (now (table .entry))
-        (now (work .entry)) (now (work .exit))
-        (now (part .entry)) (tableIn (now (table .entry)) rec) (now (source .entry)) records merge r ⌝ }
+        (now (work .entry)) (now (work .exit)) (now (part .entry)) (tableIn (now (table .entry)) rec)
+        (now (source .entry)) records merge r ⌝ }
 {
     let mut next = merge;
     let mut stream = rename_carried::first(flags, own, count, part, records, table, rec, source);
@@ -177,8 +175,8 @@ pub fn put_moves<'a>(
 // A deleted entry at the source itself.
 fn put_source_deletion(work: &mut [u8], table: &[u8], source: &[u8], merge: Merge) -> Merge
     requires { ⌜ Fits (now table) (now work) ((now source, deleted) ∷ []) merge ⌝ }
-    ensures { λ r. ⌜ AllPut (now (table .entry)) (now (work .entry)) (now (work .exit))
-        ((now (source .entry), deleted) ∷ []) merge r ⌝ }
+    ensures { λ r. ⌜ AllPut (now (table .entry)) (now (work .entry)) (now (work .exit)) ((now (source .entry), deleted)
+        ∷ []) merge r ⌝ }
 {
     table_write::put_next(work, table, merge, source, DELETED, 0, 0, &source[..0])
 }
@@ -195,11 +193,10 @@ fn put_lower_deletions<'a>(
 ) -> Merge
     requires { ⌜ isTable (now table) rec ≡ true ⌝ }
     requires { ⌜ isListing (now listing) ≡ true ⌝ }
-    requires { ⌜ Fits (now table) (now work) (turned deletion
-        (lower whole (tableIn (now table) rec) (treeIn (now listing)) (now source))) merge ⌝ }
-    ensures { λ r. ⌜ AllPut (now (table .entry)) (now (work .entry)) (now (work .exit))
-        (turned deletion (lower whole (tableIn (now (table .entry)) rec) (treeIn (now (listing .entry)))
-        (now (source .entry)))) merge r ⌝ }
+    requires { ⌜ Fits (now table) (now work) (turned deletion (lower whole (tableIn (now table) rec)
+        (treeIn (now listing)) (now source))) merge ⌝ }
+    ensures { λ r. ⌜ AllPut (now (table .entry)) (now (work .entry)) (now (work .exit)) (turned deletion (lower whole
+        (tableIn (now (table .entry)) rec) (treeIn (now (listing .entry))) (now (source .entry)))) merge r ⌝ }
 {
     if !whole {
         return merge;
@@ -240,15 +237,13 @@ fn put_lower_moves<'a>(
 ) -> Merge
     requires { ⌜ isTable (now table) rec ≡ true ⌝ }
     requires { ⌜ isListing (now listing) ≡ true ⌝ }
-    requires { ⌜ every (movable (now source) (now destination))
-        (lower whole (tableIn (now table) rec) (treeIn (now listing)) (now source)) ≡ true ⌝ }
-    requires { ⌜ Fits (now table) (now work) (turned (move (now source) (now destination))
-        (lower whole (tableIn (now table) rec) (treeIn (now listing)) (now source))) merge ⌝ }
+    requires { ⌜ every (movable (now source) (now destination)) (lower whole (tableIn (now table) rec)
+        (treeIn (now listing)) (now source)) ≡ true ⌝ }
+    requires { ⌜ Fits (now table) (now work) (turned (move (now source) (now destination)) (lower whole
+        (tableIn (now table) rec) (treeIn (now listing)) (now source))) merge ⌝ }
     ensures { λ r. ⌜ AllPut (now (table .entry)) (now (work .entry)) (now (work .exit))
-        (turned (move (now (source .entry)) (now
-        (destination .entry)))
-        (lower whole (tableIn (now (table .entry)) rec) (treeIn (now (listing .entry))) (now (source .entry)))) merge
-        r ⌝ }
+        (turned (move (now (source .entry)) (now (destination .entry))) (lower whole (tableIn (now (table .entry)) rec)
+        (treeIn (now (listing .entry))) (now (source .entry)))) merge r ⌝ }
 {
     if !whole {
         return merge;
@@ -288,8 +283,10 @@ fn put_stored(
     requires { ⌜ Standing (now table) (place .left) (place .at) ⌝ }
     requires { ⌜ 0 < place .left ⌝ }
     requires { ⌜ Fits (now table) (now work) ((now destination, entryAt (now table) (place .at)) ∷ []) merge ⌝ }
-    ensures { λ r. ⌜ AllPut (now (table .entry)) (now (work .entry)) (now (work .exit))
-        ((now (destination .entry), entryAt (now (table .entry)) (place .at)) ∷ []) merge r ⌝ }
+    ensures { λ r. ⌜ AllPut (now (table .entry)) (now (work .entry)) (now (work .exit)) ((
+      now (destination .entry),
+      entryAt (now (table .entry)) (place .at),
+    ) ∷ []) merge r ⌝ }
 {
     let item = table_entries::entry_fields(table, place);
     let body = table_entries::entry_body(table, place);
@@ -318,9 +315,10 @@ fn put_listed(
     requires { ⌜ isListing (now listing) ≡ true ⌝ }
     requires { ⌜ Fits (now table) (now work) ((now destination, topOf none (lookup (treeIn (now listing)) (now source)))
         ∷ []) merge ⌝ }
-    ensures { λ r. ⌜ AllPut (now (table .entry)) (now (work .entry)) (now (work .exit))
-        ((now (destination .entry), topOf none (lookup (treeIn (now (listing .entry))) (now (source .entry)))) ∷ [])
-        merge r ⌝ }
+    ensures { λ r. ⌜ AllPut (now (table .entry)) (now (work .entry)) (now (work .exit)) ((
+      now (destination .entry),
+      topOf none (lookup (treeIn (now (listing .entry))) (now (source .entry))),
+    ) ∷ []) merge r ⌝ }
 {
     let found = listing_dir::find(listing, source);
     match found {
@@ -371,14 +369,14 @@ fn put_top(
     requires { ⌜ isListing (now listing) ≡ true ⌝ }
     requires { ⌜ Fits (now table) (now work) ((
       now destination,
-      top (tableIn (now table) rec) (treeIn (now listing)) (now source),
+      top (tableIn (now table) rec) (treeIn (now listing))
+          (now source),
     ) ∷ []) merge ⌝ }
-    ensures { λ r. ⌜ AllPut (now (table .entry)) (now (work .entry)) (now (work .exit))
-        ((
-          now (destination .entry),
-          top (tableIn (now (table .entry)) rec) (treeIn (now (listing .entry)))
-              (now (source .entry)),
-        ) ∷ []) merge r ⌝ }
+    ensures { λ r. ⌜ AllPut (now (table .entry)) (now (work .entry)) (now (work .exit)) ((
+      now (destination .entry),
+      top
+          (tableIn (now (table .entry)) rec) (treeIn (now (listing .entry))) (now (source .entry)),
+    ) ∷ []) merge r ⌝ }
 {
     let first = table_entries::first_entry(table, rec);
     let got = table_entries::get_from(table, first, source);
@@ -404,9 +402,8 @@ fn put_departures<'a>(
     requires { ⌜ isListing (now listing) ≡ true ⌝ }
     requires { ⌜ Fits (now table) (now work) (departures whole (tableIn (now table) rec) (treeIn (now listing))
         (now source)) merge ⌝ }
-    ensures { λ r. ⌜ AllPut (now (table .entry)) (now (work .entry)) (now (work .exit))
-        (departures whole (tableIn (now (table .entry)) rec) (treeIn
-        (now (listing .entry))) (now (source .entry))) merge r ⌝ }
+    ensures { λ r. ⌜ AllPut (now (table .entry)) (now (work .entry)) (now (work .exit)) (departures whole
+        (tableIn (now (table .entry)) rec) (treeIn (now (listing .entry))) (now (source .entry))) merge r ⌝ }
 {
     let next = put_source_deletion(work, table, source, merge);
     put_lower_deletions(work, table, rec, listing, source, whole, next)
@@ -425,14 +422,13 @@ fn put_arrivals<'a>(
 ) -> Merge
     requires { ⌜ isTable (now table) rec ≡ true ⌝ }
     requires { ⌜ isListing (now listing) ≡ true ⌝ }
-    requires { ⌜ every (movable (now source) (now destination))
-        (lower whole (tableIn (now table) rec) (treeIn (now listing)) (now source)) ≡ true ⌝ }
+    requires { ⌜ every (movable (now source) (now destination)) (lower whole (tableIn (now table) rec)
+        (treeIn (now listing)) (now source)) ≡ true ⌝ }
     requires { ⌜ Fits (now table) (now work) (arrivals whole (tableIn (now table) rec) (treeIn (now listing))
-        (now source)
-        (now destination)) merge ⌝ }
-    ensures { λ r. ⌜ AllPut (now (table .entry)) (now (work .entry)) (now (work .exit))
-        (arrivals whole (tableIn (now (table .entry)) rec) (treeIn
-        (now (listing .entry))) (now (source .entry)) (now (destination .entry))) merge r ⌝ }
+        (now source) (now destination)) merge ⌝ }
+    ensures { λ r. ⌜ AllPut (now (table .entry)) (now (work .entry)) (now (work .exit)) (arrivals whole
+        (tableIn (now (table .entry)) rec) (treeIn (now (listing .entry))) (now (source .entry))
+        (now (destination .entry))) merge r ⌝ }
 {
     let next = put_top(work, table, rec, listing, source, destination, merge);
     put_lower_moves(work, table, rec, listing, source, destination, whole, next)
@@ -451,16 +447,15 @@ fn put_source_first<'a>(
 ) -> Merge
     requires { ⌜ isTable (now table) rec ≡ true ⌝ }
     requires { ⌜ isListing (now listing) ≡ true ⌝ }
-    requires { ⌜ every (movable (now source) (now destination))
-        (lower whole (tableIn (now table) rec) (treeIn (now listing)) (now source)) ≡ true ⌝ }
+    requires { ⌜ every (movable (now source) (now destination)) (lower whole (tableIn (now table) rec)
+        (treeIn (now listing)) (now source)) ≡ true ⌝ }
     requires { ⌜ Fits (now table) (now work) (departures whole (tableIn (now table) rec) (treeIn (now listing))
-        (now source) ++ arrivals whole
-        (tableIn (now table) rec) (treeIn (now listing)) (now source) (now destination)) merge ⌝ }
-    ensures { λ r. ⌜ AllPut (now (table .entry)) (now (work .entry)) (now (work .exit))
-        (departures whole (tableIn (now (table .entry)) rec) (treeIn
-        (now (listing .entry))) (now (source .entry)) ++ arrivals whole (tableIn (now (table .entry)) rec)
-        (treeIn (now (listing .entry))) (now
-        (source .entry)) (now (destination .entry))) merge r ⌝ }
+        (now source) ++ arrivals whole (tableIn (now table) rec) (treeIn (now listing)) (now source) (now destination))
+        merge ⌝ }
+    ensures { λ r. ⌜ AllPut (now (table .entry)) (now (work .entry)) (now (work .exit)) (departures whole
+        (tableIn (now (table .entry)) rec) (treeIn (now (listing .entry))) (now (source .entry)) ++ arrivals whole
+        (tableIn (now (table .entry)) rec) (treeIn (now (listing .entry))) (now (source .entry))
+        (now (destination .entry))) merge r ⌝ }
 {
     let next = put_departures(work, table, rec, listing, source, whole, merge);
     put_arrivals(work, table, rec, listing, source, destination, whole, next)
@@ -479,16 +474,15 @@ fn put_destination_first<'a>(
 ) -> Merge
     requires { ⌜ isTable (now table) rec ≡ true ⌝ }
     requires { ⌜ isListing (now listing) ≡ true ⌝ }
-    requires { ⌜ every (movable (now source) (now destination))
-        (lower whole (tableIn (now table) rec) (treeIn (now listing)) (now source)) ≡ true ⌝ }
+    requires { ⌜ every (movable (now source) (now destination)) (lower whole (tableIn (now table) rec)
+        (treeIn (now listing)) (now source)) ≡ true ⌝ }
     requires { ⌜ Fits (now table) (now work) (arrivals whole (tableIn (now table) rec) (treeIn (now listing))
-        (now source)
-        (now destination) ++ departures whole (tableIn (now table) rec) (treeIn (now listing)) (now source)) merge ⌝ }
-    ensures { λ r. ⌜ AllPut (now (table .entry)) (now (work .entry)) (now (work .exit))
-        (arrivals whole (tableIn (now (table .entry)) rec) (treeIn
-        (now (listing .entry))) (now (source .entry)) (now (destination .entry))
-        ++ departures whole (tableIn (now (table .entry)) rec) (treeIn (now
-        (listing .entry))) (now (source .entry))) merge r ⌝ }
+        (now source) (now destination) ++ departures whole (tableIn (now table) rec) (treeIn (now listing))
+        (now source)) merge ⌝ }
+    ensures { λ r. ⌜ AllPut (now (table .entry)) (now (work .entry)) (now (work .exit)) (arrivals whole
+        (tableIn (now (table .entry)) rec) (treeIn (now (listing .entry))) (now (source .entry))
+        (now (destination .entry)) ++ departures whole (tableIn (now (table .entry)) rec)
+        (treeIn (now (listing .entry))) (now (source .entry))) merge r ⌝ }
 {
     let next = put_arrivals(work, table, rec, listing, source, destination, whole, merge);
     put_departures(work, table, rec, listing, source, whole, next)
@@ -507,17 +501,15 @@ fn put_destination_within<'a>(
 ) -> Merge
     requires { ⌜ isTable (now table) rec ≡ true ⌝ }
     requires { ⌜ isListing (now listing) ≡ true ⌝ }
-    requires { ⌜ every (movable (now source) (now destination))
-        (lower whole (tableIn (now table) rec) (treeIn (now listing)) (now source)) ≡ true ⌝ }
-    requires { ⌜ Fits (now table) (now work) ((now source, deleted)
-        ∷ (arrivals whole (tableIn (now table) rec) (treeIn (now listing)) (now source)
-        (now destination) ++ turned deletion (lower whole (tableIn (now table) rec) (treeIn (now listing))
-        (now source)))) merge ⌝ }
-    ensures { λ r. ⌜ AllPut (now (table .entry)) (now (work .entry)) (now (work .exit))
-        ((now (source .entry), deleted) ∷ (arrivals whole (tableIn
-        (now (table .entry)) rec) (treeIn (now (listing .entry))) (now (source .entry)) (now (destination .entry))
-        ++ turned deletion (lower whole
-        (tableIn (now (table .entry)) rec) (treeIn (now (listing .entry))) (now (source .entry))))) merge r ⌝ }
+    requires { ⌜ every (movable (now source) (now destination)) (lower whole (tableIn (now table) rec)
+        (treeIn (now listing)) (now source)) ≡ true ⌝ }
+    requires { ⌜ Fits (now table) (now work) ((now source, deleted) ∷ (arrivals whole (tableIn (now table) rec)
+        (treeIn (now listing)) (now source) (now destination) ++ turned deletion (lower whole (tableIn (now table) rec)
+        (treeIn (now listing)) (now source)))) merge ⌝ }
+    ensures { λ r. ⌜ AllPut (now (table .entry)) (now (work .entry)) (now (work .exit)) ((now (source .entry), deleted)
+        ∷ (arrivals whole (tableIn (now (table .entry)) rec) (treeIn (now (listing .entry))) (now (source .entry))
+        (now (destination .entry)) ++ turned deletion (lower whole (tableIn (now (table .entry)) rec)
+        (treeIn (now (listing .entry))) (now (source .entry))))) merge r ⌝ }
 {
     let first = put_source_deletion(work, table, source, merge);
     let next = put_arrivals(work, table, rec, listing, source, destination, whole, first);
@@ -537,23 +529,23 @@ fn put_source_within<'a>(
 ) -> Merge
     requires { ⌜ isTable (now table) rec ≡ true ⌝ }
     requires { ⌜ isListing (now listing) ≡ true ⌝ }
-    requires { ⌜ every (movable (now source) (now destination))
-        (lower whole (tableIn (now table) rec) (treeIn (now listing)) (now source)) ≡ true ⌝ }
+    requires { ⌜ every (movable (now source) (now destination)) (lower whole (tableIn (now table) rec)
+        (treeIn (now listing)) (now source)) ≡ true ⌝ }
     requires { ⌜ Fits (now table) (now work) ((
       now destination,
-      top (tableIn (now table) rec) (treeIn (now listing)) (now source),
-    ) ∷
-        (departures whole (tableIn (now table) rec) (treeIn (now listing)) (now source)
-        ++ turned (move (now source) (now destination)) (lower whole
-        (tableIn (now table) rec) (treeIn (now listing)) (now source)))) merge ⌝ }
+      top (tableIn (now table) rec) (treeIn (now listing))
+          (now source),
+    ) ∷ (departures whole (tableIn (now table) rec) (treeIn (now listing)) (now source) ++ turned
+        (move (now source) (now destination)) (lower whole (tableIn (now table) rec) (treeIn (now listing))
+        (now source)))) merge ⌝ }
     ensures { λ r. ⌜ AllPut (now (table .entry)) (now (work .entry)) (now (work .exit)) ((
       now (destination .entry),
-      top (tableIn (now
-          (table .entry)) rec) (treeIn (now (listing .entry))) (now (source .entry)),
-    ) ∷ (departures whole (tableIn (now (table .entry)) rec) (treeIn
-        (now (listing .entry))) (now (source .entry)) ++ turned (move (now (source .entry)) (now (destination .entry)))
-        (lower whole (tableIn (now
-        (table .entry)) rec) (treeIn (now (listing .entry))) (now (source .entry))))) merge r ⌝ }
+      top
+          (tableIn (now (table .entry)) rec) (treeIn (now (listing .entry))) (now (source .entry)),
+    ) ∷ (departures whole
+        (tableIn (now (table .entry)) rec) (treeIn (now (listing .entry))) (now (source .entry)) ++ turned
+        (move (now (source .entry)) (now (destination .entry))) (lower whole (tableIn (now (table .entry)) rec)
+        (treeIn (now (listing .entry))) (now (source .entry))))) merge r ⌝ }
 {
     let first = put_top(work, table, rec, listing, source, destination, merge);
     let next = put_departures(work, table, rec, listing, source, whole, first);
@@ -573,13 +565,13 @@ fn put_ordered<'a>(
 ) -> Merge
     requires { ⌜ isTable (now table) rec ≡ true ⌝ }
     requires { ⌜ isListing (now listing) ≡ true ⌝ }
-    requires { ⌜ every (movable (now source) (now destination))
-        (lower whole (tableIn (now table) rec) (treeIn (now listing)) (now source)) ≡ true ⌝ }
+    requires { ⌜ every (movable (now source) (now destination)) (lower whole (tableIn (now table) rec)
+        (treeIn (now listing)) (now source)) ≡ true ⌝ }
     requires { ⌜ Fits (now table) (now work) (ordered whole (tableIn (now table) rec) (treeIn (now listing))
         (now source) (now destination)) merge ⌝ }
-    ensures { λ r. ⌜ AllPut (now (table .entry)) (now (work .entry)) (now (work .exit))
-        (ordered whole (tableIn (now (table .entry)) rec) (treeIn
-        (now (listing .entry))) (now (source .entry)) (now (destination .entry))) merge r ⌝ }
+    ensures { λ r. ⌜ AllPut (now (table .entry)) (now (work .entry)) (now (work .exit)) (ordered whole
+        (tableIn (now (table .entry)) rec) (treeIn (now (listing .entry))) (now (source .entry))
+        (now (destination .entry))) merge r ⌝ }
 {
     if base_fields::is_same(source, destination) {
         return put_arrivals(work, table, rec, listing, source, destination, whole, merge);
@@ -617,18 +609,16 @@ pub fn write_ordered(
 )
     requires { ⌜ isTable (now table) rec ≡ true ⌝ }
     requires { ⌜ isListing (now listing) ≡ true ⌝ }
-    requires { ⌜ every (movable (now source) (now destination))
-        (lower whole (tableIn (now table) rec) (treeIn (now listing)) (now source)) ≡ true ⌝ }
+    requires { ⌜ every (movable (now source) (now destination)) (lower whole (tableIn (now table) rec)
+        (treeIn (now listing)) (now source)) ≡ true ⌝ }
     requires { ⌜ ascends [] (ordered whole (tableIn (now table) rec) (treeIn (now listing)) (now source)
         (now destination)) ≡ true ⌝ }
     requires { ⌜ length (encode (into (ordered whole (tableIn (now table) rec) (treeIn (now listing)) (now source)
-        (now destination))
-        (tableIn (now table) rec))) ≤ length (now table) ⌝ }
+        (now destination)) (tableIn (now table) rec))) ≤ length (now table) ⌝ }
     requires { ⌜ length (now table) ≤ length (now work) ⌝ }
     ensures { λ _. ⌜ now (table .exit) ≡ padded (length (now (table .entry)))
-        (encode (into (ordered whole (tableIn (now (table .entry)) rec)
-        (treeIn (now (listing .entry))) (now (source .entry)) (now (destination .entry)))
-        (tableIn (now (table .entry)) rec))) ⌝ }
+        (encode (into (ordered whole (tableIn (now (table .entry)) rec) (treeIn (now (listing .entry)))
+        (now (source .entry)) (now (destination .entry))) (tableIn (now (table .entry)) rec))) ⌝ }
     ensures { λ _. ⌜ now (work .exit) ≡ replicate (length (now (work .entry))) 0 ⌝ }
 {
     let merge = Merge {

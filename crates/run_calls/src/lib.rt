@@ -68,8 +68,7 @@ fn run_step(
 ) -> Answered
     requires { ⌜ (at + 24 ≤ length (now script)) × (stepEnd (now script) at ≤ length (now script)) ⌝ }
     ensures { λ r. ⌜ Meets (outcome (now (listing .entry)) (requestOf (stepAt (now (script .entry)) at)
-        (now (work .entry)))
-        (stored (now (table .entry)) rec)) r (now (table .exit)) (now (work .exit)) ⌝ }
+        (now (work .entry))) (stored (now (table .entry)) rec)) r (now (table .exit)) (now (work .exit)) ⌝ }
 {
     let order = run_script::order_at(script, at);
     let first = run_script::first_part(script, at);
@@ -90,8 +89,8 @@ fn run_steps(
     requires { ⌜ isScript (now script) ≡ true ⌝ }
     requires { ⌜ 32 * stepCount (now script) ≤ length (now report) ⌝ }
     ensures { λ r. ⌜ Finished (leftAfter (now (listing .entry)) (stepsIn (now (script .entry)))
-        (stored (now (table .entry)) rec) (now (work .entry)))
-        (now (report .entry)) r (now (table .exit)) (now (work .exit)) (now (report .exit)) ⌝ }
+        (stored (now (table .entry)) rec) (now (work .entry))) (now (report .entry)) r (now (table .exit))
+        (now (work .exit)) (now (report .exit)) ⌝ }
 {
     let mut last = rec;
     let mut more = base_fields::le32(script, 4);
@@ -119,8 +118,7 @@ pub fn run(
     report: &mut [u8],
 ) -> Ran
     ensures { λ r. ⌜ Gives (ranOn (now (listing .entry)) (stored (now (table .entry)) rec) (now (work .entry))
-        (now (script .entry))
-        (now (report .entry))) r (now (table .exit)) (now (work .exit)) (now (report .exit)) ⌝ }
+        (now (script .entry)) (now (report .entry))) r (now (table .exit)) (now (work .exit)) (now (report .exit)) ⌝ }
 {
     if !run_script::check(script) {
         return Ran::MalformedScript;
@@ -161,12 +159,10 @@ pub fn run_new(
     report: &mut [u8],
 ) -> RanNew
     ensures { λ r. ⌜ Gives (ranNew (now (listing .entry)) «entry_size» (now (table .entry)) (now (work .entry))
-        (now (script .entry))
-        (now (report .entry))) r (now (table .exit)) (now (work .exit)) (now (report .exit)) ⌝ }
-    ensures { λ r. ⌜ ((last : model.Record) → r ≡ RanNew.Done last
-        → Holds (now (listing .entry)) (begin (now (listing .entry)) «entry_size» (now (table .entry)))
-        (requests (now (listing .entry)) (stepsIn (now (script .entry)))
-        (begin (now (listing .entry)) «entry_size» (now (table .entry)) .store)
+        (now (script .entry)) (now (report .entry))) r (now (table .exit)) (now (work .exit)) (now (report .exit)) ⌝ }
+    ensures { λ r. ⌜ ((last : model.Record) → r ≡ RanNew.Done last → Holds (now (listing .entry))
+        (begin (now (listing .entry)) «entry_size» (now (table .entry))) (requests (now (listing .entry))
+        (stepsIn (now (script .entry))) (begin (now (listing .entry)) «entry_size» (now (table .entry)) .store)
         (now (work .entry))) (stored (now (table .exit)) last)) ⌝ }
 {
     let opened = table_open::open(table, entry_size);

@@ -1,2 +1,3 @@
 pub mod Script
 pub mod Encoded
+pub mod Wrong

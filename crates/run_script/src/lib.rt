@@ -2,19 +2,20 @@
 // any bytes; what reads a step asks that its head stands there, or the whole step: only this repository's crates call
 // it. A check is one pass over the script's steps.
 ghost use mathlib.Core.Path.{_≡_};
-ghost use mathlib.Core.Bool.{_&&_};
+ghost use mathlib.Core.Bool.{true, _&&_};
 ghost use Prim.Native.Nat.{_+_, _*_, _≤_, _<_};
 ghost use lib.Dec.{leb};
 ghost use lib.ListN.{length};
 ghost use Rattle.run_script.specs.Script.{ruled, fits, headed, marked, firstPart, secondPart, stepEnd, orderAt};
 ghost use Rattle.run_script.specs.Script.{stepCount, isScript, stepKind};
+ghost use Rattle.run_script.specs.Wrong.{wrongFrom};
 use call_values::Kind;
 use call_values::Order;
 
 // The bytes of a script before its steps, and of a step before its parts.
 pub const SCRIPT_HEAD: usize = 8;
 
-const STEP_HEAD: usize = 24;
+pub const STEP_HEAD: usize = 24;
 
 // The bytes of a report's row, which a run writes for each step.
 pub const ROW_SIZE: usize = 32;
@@ -123,6 +124,28 @@ pub fn check(script: &[u8]) -> bool
         left -= 1;
     }
     at == script.len()
+}
+
+// Where bytes that are no script go wrong: at 0 if the head is wrong, else at the first step that is, or behind the
+// last step. Of a script it is the end.
+pub fn wrong_from(script: &[u8]) -> usize
+    ensures { λ r. ⌜ r ≡ wrongFrom (now (script .entry)) ⌝ }
+    ensures { λ r. ⌜ r ≤ length (now (script .entry)) ⌝ }
+    ensures { λ r. ⌜ (isScript (now (script .entry)) ≡ true → r ≡ length (now (script .entry))) ⌝ }
+{
+    if !is_marked(script) {
+        return 0;
+    }
+    let mut left = base_fields::le32(script, 4);
+    let mut at: usize = SCRIPT_HEAD;
+    while 0 < left {
+        if !is_step(script, at) {
+            return at;
+        }
+        at = end_of(script, at);
+        left -= 1;
+    }
+    at
 }
 
 fn kind_of(kind: u64) -> Kind

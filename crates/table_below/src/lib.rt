@@ -66,8 +66,7 @@ fn is_visible_child(part: &[u8], place: table_entries::Place, dir: &[u8]) -> boo
     requires { ⌜ Standing (now part) (place .left) (place .at) ⌝ }
     requires { ⌜ 0 < place .left ⌝ }
     ensures { λ r. ⌜ r ≡ (child (now (dir .entry)) (keyAt (now (part .entry)) (place .at))
-        && not (isDeleted (entryAt (now (part .entry))
-        (place .at)))) ⌝ }
+        && not (isDeleted (entryAt (now (part .entry)) (place .at)))) ⌝ }
 {
     let at = place.at;
     let kind = base_fields::le16(part, at + 2);

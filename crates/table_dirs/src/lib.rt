@@ -25,9 +25,8 @@ pub fn check_replacements(
     requires { ⌜ isTable (now table) rec ≡ true ⌝ }
     requires { ⌜ isPath (now path) ≡ true ⌝ }
     requires { ⌜ (dirs .count ≤ 32) × (climbs 0 (length (now path)) (endsOf dirs) ≡ true) ⌝ }
-    ensures { λ r. ⌜ ((m : ℕ) → r ≡ recordOf (rec .«entry_size»)
-        (puts (each (directory m) (prefixes (now (path .entry)) (endsOf dirs)))
-        (tableIn (now (table .entry)) rec))) ⌝ }
+    ensures { λ r. ⌜ ((m : ℕ) → r ≡ recordOf (rec .«entry_size») (puts (each (directory m) (prefixes (now (path .entry))
+        (endsOf dirs))) (tableIn (now (table .entry)) rec))) ⌝ }
 {
     let ends = dirs.ends;
     let count = dirs.count;
@@ -64,11 +63,10 @@ fn insert_all_unchecked(
     requires { ⌜ isPath (now path) ≡ true ⌝ }
     requires { ⌜ (dirs .count ≤ 32) × (climbs 0 (length (now path)) (endsOf dirs) ≡ true)
         × (length (now table) ≤ length (now work)) ⌝ }
-    requires { ⌜ length (encode (puts (each (directory mtime) (prefixes (now path) (endsOf dirs)))
-        (tableIn (now table) rec))) ≤ length (now table) ⌝ }
-    ensures { λ _. ⌜ now (table .exit) ≡ padded (length (now (table .entry)))
-        (encode (puts (each (directory mtime) (prefixes (now (path .entry))
-        (endsOf dirs))) (tableIn (now (table .entry)) rec))) ⌝ }
+    requires { ⌜ length (encode (puts (each (directory mtime) (prefixes (now path) (endsOf dirs))) (tableIn (now table)
+        rec))) ≤ length (now table) ⌝ }
+    ensures { λ _. ⌜ now (table .exit) ≡ padded (length (now (table .entry))) (encode (puts (each (directory mtime)
+        (prefixes (now (path .entry)) (endsOf dirs))) (tableIn (now (table .entry)) rec))) ⌝ }
     ensures { λ _. ⌜ now (work .exit) ≡ replicate (length (now (work .entry))) 0 ⌝ }
 {
     let ends = dirs.ends;
@@ -112,12 +110,11 @@ pub fn insert_all(
     requires { ⌜ isPath (now path) ≡ true ⌝ }
     requires { ⌜ (dirs .count ≤ 32) × (climbs 0 (length (now path)) (endsOf dirs) ≡ true)
         × (length (now table) ≤ length (now work)) ⌝ }
-    ensures { λ r. ⌜ r ≡ insertion (rec .«entry_size») limit (length (now (table .entry)))
-        (puts (each (directory mtime) (prefixes (now (path .entry))
-        (endsOf dirs))) (tableIn (now (table .entry)) rec)) ⌝ }
+    ensures { λ r. ⌜ r ≡ insertion (rec .«entry_size») limit (length (now (table .entry))) (puts (each (directory mtime)
+        (prefixes (now (path .entry)) (endsOf dirs))) (tableIn (now (table .entry)) rec)) ⌝ }
     ensures { λ r. ⌜ now (table .exit) ≡ ifDone r (padded (length (now (table .entry)))
-        (encode (puts (each (directory mtime)
-        (prefixes (now (path .entry)) (endsOf dirs))) (tableIn (now (table .entry)) rec)))) (now (table .entry)) ⌝ }
+        (encode (puts (each (directory mtime) (prefixes (now (path .entry)) (endsOf dirs)))
+        (tableIn (now (table .entry)) rec)))) (now (table .entry)) ⌝ }
     ensures { λ r. ⌜ now (work .exit) ≡ ifDone r (replicate (length (now (work .entry))) 0) (now (work .entry)) ⌝ }
 {
     let after = check_replacements(table, rec, path, dirs);

@@ -208,8 +208,8 @@ pub fn seek(table: &[u8], place: Place, key: &[u8]) -> Place
 // The entry at a place, if it has this key.
 fn entry_if(table: &[u8], place: Place, key: &[u8]) -> OverlayEntry
     requires { ⌜ Standing (now table) (place .left) (place .at) ⌝ }
-    ensures { λ r. ⌜ saidOf (now (table .entry)) r ≡ said (firstIf (now (key .entry))
-        (entriesAt (now (table .entry)) (place .left) (place .at))) ⌝ }
+    ensures { λ r. ⌜ saidOf (now (table .entry)) r ≡ said (firstIf (now (key .entry)) (entriesAt (now (table .entry))
+        (place .left) (place .at))) ⌝ }
 {
     let left = place.left;
     if left == 0 {
@@ -226,8 +226,8 @@ fn entry_if(table: &[u8], place: Place, key: &[u8]) -> OverlayEntry
 // from the place that the one before gave.
 pub fn get_from(table: &[u8], place: Place, key: &[u8]) -> Got
     requires { ⌜ Standing (now table) (place .left) (place .at) ⌝ }
-    ensures { λ r. ⌜ saidOf (now (table .entry)) (r .entry) ≡ said (lookup
-        (entriesAt (now (table .entry)) (place .left) (place .at)) (now (key .entry))) ⌝ }
+    ensures { λ r. ⌜ saidOf (now (table .entry)) (r .entry) ≡ said (lookup (entriesAt (now (table .entry)) (place .left)
+        (place .at)) (now (key .entry))) ⌝ }
     ensures { λ r. ⌜ Sought (now (table .entry)) (now (key .entry)) (place .left) (place .at) (r .place .left)
         (r .place .at) ⌝ }
 {

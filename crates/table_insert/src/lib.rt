@@ -34,8 +34,8 @@ pub fn memory_usage(table: &[u8], rec: model::Record) -> u64
 pub fn projected_record(table: &[u8], rec: model::Record, key: &[u8], len: u64) -> model::Record
     requires { ⌜ isTable (now table) rec ≡ true ⌝ }
     requires { ⌜ (before [] (now key) ≡ true) × (length (now key) ≤ 512) × (len ≤ 0x8000_0000_0000_0000) ⌝ }
-    ensures { λ r. ⌜ ((v : Entry) → length (bodyOf v) ≡ len
-        → r ≡ recordOf (rec .«entry_size») (put (now (key .entry)) v (tableIn (now (table .entry)) rec))) ⌝ }
+    ensures { λ r. ⌜ ((v : Entry) → length (bodyOf v) ≡ len → r ≡ recordOf (rec .«entry_size») (put (now (key .entry)) v
+        (tableIn (now (table .entry)) rec))) ⌝ }
 {
     let first = table_entries::first_entry(table, rec);
     let after = table_measure::projected(table, first, rec, key, len);
@@ -46,8 +46,8 @@ pub fn projected_record(table: &[u8], rec: model::Record, key: &[u8], len: u64) 
 pub fn projected_usage(table: &[u8], rec: model::Record, key: &[u8], len: u64) -> u64
     requires { ⌜ isTable (now table) rec ≡ true ⌝ }
     requires { ⌜ (before [] (now key) ≡ true) × (length (now key) ≤ 512) × (len ≤ 0x8000_0000_0000_0000) ⌝ }
-    ensures { λ r. ⌜ ((v : Entry) → length (bodyOf v) ≡ len
-        → r ≡ charge (rec .«entry_size») (put (now (key .entry)) v (tableIn (now (table .entry)) rec))) ⌝ }
+    ensures { λ r. ⌜ ((v : Entry) → length (bodyOf v) ≡ len → r ≡ charge (rec .«entry_size») (put (now (key .entry)) v
+        (tableIn (now (table .entry)) rec))) ⌝ }
 {
     let after = projected_record(table, rec, key, len);
     after.charge
@@ -63,8 +63,8 @@ pub fn check_file_replacement(
 ) -> bool
     requires { ⌜ isTable (now table) rec ≡ true ⌝ }
     requires { ⌜ (before [] (now key) ≡ true) × (length (now key) ≤ 512) × (len ≤ 0x8000_0000_0000_0000) ⌝ }
-    ensures { λ r. ⌜ ((v : Entry) → length (bodyOf v) ≡ len
-        → r ≡ leb (charge (rec .«entry_size») (put (now (key .entry)) v (tableIn (now (table .entry)) rec))) limit) ⌝ }
+    ensures { λ r. ⌜ ((v : Entry) → length (bodyOf v) ≡ len → r ≡ leb (charge (rec .«entry_size»)
+        (put (now (key .entry)) v (tableIn (now (table .entry)) rec))) limit) ⌝ }
 {
     let usage = projected_usage(table, rec, key, len);
     usage <= limit

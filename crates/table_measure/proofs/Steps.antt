@@ -9,7 +9,7 @@ use Rattle.model.specs.Bytes.{Bytes, numberAt, same, before}
 use Rattle.model.specs.Path.{Path}
 use Rattle.model.specs.Map.{put}
 use Rattle.model.specs.Tree.{Entry, Table}
-use Rattle.model.specs.Table.{bodyOf, entryBytes, encode, charge, keyAt, entryAt, entryEnd, entriesAt}
+use Rattle.model.specs.Table.{bodyOf, entryBytes, encode, bodyCharge, charge, keyAt, entryAt, entryEnd, entriesAt}
 use Rattle.model.specs.declared.Record.{Record}
 use Rattle.model.proofs.Orders.{bot}
 use Rattle.model.proofs.Codec.{entry-length}
@@ -64,7 +64,7 @@ module _ (s : Bytes) (q : Path) (n at m to : ℕ) (r : Record) (c : Counts s n a
   first : since q (entriesAt s n at) ≡ (keyAt s to, entryAt s to) ∷ entriesAt s (m - 1) (entryEnd s to)
   first = sym (f .are) ∙ first-entry s m to h
 
-  pub old-fits : (old : ℕ) → old ≡ numberAt s (to + 4) 4 → (old ≤ r .used) × (old ≤ r .charge)
+  pub old-fits : (old : ℕ) → old ≡ numberAt s (to + 4) 4 → (old ≤ r .used) × (bodyCharge old ≤ r .charge)
   old-fits old e =
       let b : Table = entriesAt s n at in
       let w = ap (λ (t : Table). length (encode t)) (up-since q b) in

@@ -9,6 +9,7 @@ use Rattle.model.specs.Path.{Path}
 use Rattle.model.specs.Tree.{Table}
 use Rattle.model.specs.Table.{encode, bodyCharge, charge, recordOf, entriesAt}
 use Rattle.model.specs.declared.Record.{Record}
+use Rattle.table_charge.specs.Charge.{chargeBy}
 use Rattle.table_entries.specs.Place.{Standing}
 
 -- the first entry has the key k
@@ -22,7 +23,7 @@ abbrev pub added : Record → ℕ → ℕ → Record
 added r n m = record {
   used = r .used + 24 + n + m;
   count = r .count + 1;
-  charge = r .charge + 256 + n + r .«entry_size» + bodyCharge m;
+  charge = r .charge + chargeBy (r .«entry_size») n m;
   «entry_size» = r .«entry_size»;
 }
 

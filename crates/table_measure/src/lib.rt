@@ -9,7 +9,7 @@ ghost use Rattle.model.specs.Bytes.{before};
 ghost use Rattle.model.specs.Path.{Path};
 ghost use Rattle.model.specs.Map.{put};
 ghost use Rattle.model.specs.Tree.{Entry, Table};
-ghost use Rattle.model.specs.Table.{bodyOf, entriesAt};
+ghost use Rattle.model.specs.Table.{bodyOf, bodyCharge, entriesAt};
 ghost use Rattle.table_entries.specs.Place.{Standing, endOf};
 ghost use Rattle.table_entries.specs.Cut.{unlessFirst};
 ghost use Rattle.table_measure.specs.Measure.{startsAt, added, replaced, Measured, Counts};
@@ -40,10 +40,10 @@ pub fn has_key(table: &[u8], place: table_entries::Place, key: &[u8]) -> bool
 pub fn behind_key(table: &[u8], place: table_entries::Place, key: &[u8]) -> table_entries::Place
     requires { ⌜ Standing (now table) (place .left) (place .at) ⌝ }
     ensures { λ r. ⌜ Standing (now (table .entry)) (r .left) (r .at) ⌝ }
-    ensures { λ r. ⌜ entriesAt (now (table .entry)) (r .left) (r .at)
-        ≡ unlessFirst (now (key .entry)) (entriesAt (now (table .entry)) (place .left) (place .at)) ⌝ }
-    ensures { λ r. ⌜ endOf (now (table .entry)) (r .left) (r .at)
-        ≡ endOf (now (table .entry)) (place .left) (place .at) ⌝ }
+    ensures { λ r. ⌜ entriesAt (now (table .entry)) (r .left) (r .at) ≡ unlessFirst (now (key .entry)) (entriesAt
+        (now (table .entry)) (place .left) (place .at)) ⌝ }
+    ensures { λ r. ⌜ endOf (now (table .entry)) (r .left) (r .at) ≡ endOf (now (table .entry)) (place .left)
+        (place .at) ⌝ }
 {
     if has_key(table, place, key) {
         return table_entries::next_entry(table, place);
@@ -59,10 +59,11 @@ fn with_entry(rec: model::Record, n: u64, m: u64) -> model::Record
     ensures { λ r. ⌜ r ≡ added rec n m ⌝ }
 {
     let e = rec.entry_size;
+    let usage = table_charge::entry_memory_usage(e, n, m);
     model::Record {
         used: rec.used + ENTRY_HEAD_64 + n + m,
         count: rec.count + 1,
-        charge: rec.charge + model::ENTRY_MEMORY_USAGE + n + e + m,
+        charge: rec.charge + usage,
         entry_size: e,
     }
 }
@@ -71,13 +72,15 @@ fn with_entry(rec: model::Record, n: u64, m: u64) -> model::Record
 fn with_body(rec: model::Record, old: u64, m: u64) -> model::Record
     requires { ⌜ (rec .used ≤ 0x4000_0000_0000_0000) × (rec .charge ≤ 0x4000_0000_0000_0000)
         × (m ≤ 0x8000_0000_0000_0000) ⌝ }
-    requires { ⌜ (old ≤ rec .used) × (old ≤ rec .charge) ⌝ }
+    requires { ⌜ (old ≤ rec .used) × (bodyCharge old ≤ rec .charge) ⌝ }
     ensures { λ r. ⌜ r ≡ replaced rec old m ⌝ }
 {
+    let charged = table_charge::body_charge(m);
+    let was = table_charge::body_charge(old);
     model::Record {
         used: rec.used + m - old,
         count: rec.count,
-        charge: rec.charge + m - old,
+        charge: rec.charge + charged - was,
         entry_size: rec.entry_size,
     }
 }
@@ -94,11 +97,9 @@ pub fn projected(
     requires { ⌜ Counts (now table) (place .left) (place .at) rec ⌝ }
     requires { ⌜ (length (now key) ≤ 512) × (len ≤ 0x8000_0000_0000_0000) ⌝ }
     ensures { λ r. ⌜ ((t : Table) (k : Path) (v : Entry) → Measured (now (table .entry)) t k (place .left) (place .at)
-        (rec .«entry_size») rec
-        → before k (now (key .entry)) ≡ true → length (bodyOf v) ≡ len
+        (rec .«entry_size») rec → before k (now (key .entry)) ≡ true → length (bodyOf v) ≡ len
         → Measured (now (table .entry)) (put (now (key .entry)) v t) (now (key .entry)) (r .place .left) (r .place .at)
-        (rec .«entry_size»)
-        (r .rec)) ⌝ }
+        (rec .«entry_size») (r .rec)) ⌝ }
 {
     let found = table_entries::seek(table, place, key);
     if has_key(table, found, key) {

@@ -19,7 +19,8 @@ use Rattle.model.proofs.Orders.{eqb-eq, and-true}
 use Rattle.model.proofs.Codec.{entry-length}
 use Rattle.base_fields.specs.Read.{zeros}
 use Rattle.base_fields.proofs.Pieces.{cut, part-length, piece, grouped}
-use Rattle.table_open.specs.Pass.{headed, referring, inOrder, chargeOf, run}
+use Rattle.table_charge.specs.Charge.{chargeBy}
+use Rattle.table_open.specs.Pass.{headed, referring, inOrder, run}
 use Rattle.table_open.proofs.Steps.{Ordered, ordered}
 use Rattle.table_open.proofs.Rules.{Types, types, Says, says, bodyRule, in-form}
 
@@ -126,7 +127,7 @@ passed s bs r zero at p c w h =
       nothing = sym (ap (λ (i : ℕ). zeros (drop i s)) u) ∙ a .1;
     }
 passed s bs r (suc n) at p c w h =
-    let d : ℕ = c + chargeOf (r .«entry_size») (numberAt s at 2) (numberAt s (at + 4) 4) in
+    let d : ℕ = c + chargeBy (r .«entry_size») (numberAt s at 2) (numberAt s (at + 4) 4) in
     let a = and-true (inOrder s at p) (run s r n (entryEnd s at) (keyAt s at) d) h in
     let o = ordered s at p (a .0) in
     let ih = passed s bs r n (entryEnd s at) (keyAt s at) d (o .end) (a .1) in

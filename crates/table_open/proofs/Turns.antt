@@ -13,7 +13,8 @@ use Rattle.model.specs.Table.{keyAt, entryEnd, sized}
 use Rattle.model.specs.declared.Record.{Record}
 use Rattle.model.proofs.Orders.{and-true}
 use Rattle.base_fields.specs.Read.{zeros, part}
-use Rattle.table_open.specs.Pass.{inOrder, chargeOf, run, passes}
+use Rattle.table_charge.specs.Charge.{chargeBy}
+use Rattle.table_open.specs.Pass.{inOrder, run, passes}
 use Rattle.table_open.proofs.Steps.{key-is, ordered}
 
 -- before an entry is read: the key before it stands from `from` up to `to`, and c is charged so far
@@ -54,7 +55,7 @@ module _ (s : Bytes) (r : Record) {b : Bool} (e : b ≡ sized (r .«entry_size»
 
 turned : (s : Bytes) (r : Record) (left at : ℕ) (p : Path) (c : ℕ) → 0 < left
     → run s r left at p c
-    ≡ (inOrder s at p && run s r (left - 1) (entryEnd s at) (keyAt s at) (c + chargeOf (r .«entry_size») (numberAt s at 2) (numberAt s (at + 4) 4)))
+    ≡ (inOrder s at p && run s r (left - 1) (entryEnd s at) (keyAt s at) (c + chargeBy (r .«entry_size») (numberAt s at 2) (numberAt s (at + 4) 4)))
 turned s r zero at p c h = absurd (omega arith)
 turned s r (suc n) at p c h = let d : suc n - 1 ≡ n = omega arith in rw d
 
@@ -81,12 +82,12 @@ module _ {s : Bytes} {r : Record} {left at from to c : ℕ} (k : Kept s r left a
         pub end : at + 24 + n + m ≤ length s
         end = rw (en, em) (ordered s at (part s from to) in-order .end)
 
-        pub kept-on : Kept s r (left - 1) (at + 24 + n + m) (at + 24) (at + 24 + n) (c + (256 + n + r .«entry_size» + m))
-        kept-on =
+        pub kept-on : {v : ℕ} → v ≡ chargeBy (r .«entry_size») n m → Kept s r (left - 1) (at + 24 + n + m) (at + 24) (at + 24 + n) (c + v)
+        kept-on ev =
             let size = k .size in
             let bound = k .bound in
             let last = end in
-            let go : run s r (left - 1) (entryEnd s at) (keyAt s at) (c + chargeOf (r .«entry_size») (numberAt s at 2) (numberAt s (at + 4) 4)) ≡ passes s r
+            let go : run s r (left - 1) (entryEnd s at) (keyAt s at) (c + chargeBy (r .«entry_size») (numberAt s at 2) (numberAt s (at + 4) 4)) ≡ passes s r
             = rw in-order at (sym (turned s r left at (part s from to) c h) ∙ k .rest) in
             record {
               small = k .small;
@@ -95,5 +96,5 @@ module _ {s : Bytes} {r : Record} {left at from to c : ℕ} (k : Kept s r left a
               start = omega arith;
               end = omega arith;
               bound = omega arith;
-              rest = rw (key-is s at n en, en, em) go;
+              rest = rw (ev, key-is s at n en, en, em) go;
             }

@@ -21,9 +21,10 @@ use Rattle.model.proofs.Codec.{decoded, same-record}
 use Rattle.base_fields.specs.Read.{zeros}
 use Rattle.base_fields.proofs.Pieces.{bytes-of}
 use Rattle.base_fields.proofs.Zeros.{zeros-of, zeros-behind}
+use Rattle.table_charge.specs.Charge.{chargeBy}
 use Rattle.table_entries.specs.Place.{Standing}
 use Rattle.table_entries.proofs.Entries.{Stands, stands, table-stands, count-is}
-use Rattle.table_open.specs.Pass.{headed, referring, chargeOf, run, passes}
+use Rattle.table_open.specs.Pass.{headed, referring, run, passes}
 use Rattle.table_open.proofs.Steps.{Ordered, in-order}
 use Rattle.table_open.proofs.Rules.{form-ruled, form-body}
 use Rattle.table_open.proofs.Back.{passed}
@@ -85,7 +86,7 @@ module _ (s : Bytes) (r : Record) (z : zeros (drop (r .used) s) ≡ true) where
       let bl = w .body-length in
       let en = w .end in
       let la = length-append (entryBytes (keyAt s at) (entryAt s at)) (encode (entriesAt s n (entryEnd s at))) in
-      let d : ℕ = c + chargeOf (r .«entry_size») (numberAt s at 2) (numberAt s (at + 4) 4) in
+      let d : ℕ = c + chargeBy (r .«entry_size») (numberAt s at 2) (numberAt s (at + 4) 4) in
       rw (in-order s at p (entry-ordered s n at p w (a .0)))
       (runs n (entryEnd s at) (keyAt s at) d (w .next) (a .1) (omega arith) (omega arith))
 

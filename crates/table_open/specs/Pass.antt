@@ -7,9 +7,10 @@ use lib.Dec.{leb, ltb, eqb}
 use lib.ListN.{length, drop}
 use Rattle.model.specs.Bytes.{Bytes, numberAt, before}
 use Rattle.model.specs.Path.{Path, isPath}
-use Rattle.model.specs.Table.{bodyCharge, keyAt, bodyAt, entryEnd, sized}
+use Rattle.model.specs.Table.{keyAt, bodyAt, entryEnd, sized}
 use Rattle.model.specs.declared.Record.{Record}
 use Rattle.base_fields.specs.Read.{zeros}
+use Rattle.table_charge.specs.Charge.{chargeBy}
 
 -- an entry's type k, body length b, mtime bits m and size z go together
 unfoldable pub typeRule : ℕ → ℕ → ℕ → ℕ → Bool
@@ -34,17 +35,13 @@ referring s at = cond (eqb (numberAt s (at + 2) 2) 2) (ltb 0 (numberAt s (at + 4
 unfoldable pub inOrder : Bytes → ℕ → Path → Bool
 inOrder s at p = fits s at && (headed s at && (isPath (keyAt s at) && (referring s at && before p (keyAt s at))))
 
--- what an entry is charged, by the lengths of its key and its body
-abbrev pub chargeOf : ℕ → ℕ → ℕ → ℕ
-chargeOf E n m = 256 + n + E + bodyCharge m
-
 -- n entries from `at` on are in order, behind the key p and with the charge c so far, and the record agrees with where
 -- they end
 abbrev pub run : Bytes → Record → ℕ → ℕ → Path → ℕ → Bool
 run s r zero at p c = (eqb at (r .used) && eqb c (r .charge)) && zeros (drop at s)
 run s r (suc n) at p c =
     inOrder s at p && run s r n (entryEnd s at) (keyAt s at)
-    (c + chargeOf (r .«entry_size») (numberAt s at 2) (numberAt s (at + 4) 4))
+    (c + chargeBy (r .«entry_size») (numberAt s at 2) (numberAt s (at + 4) 4))
 
 unfoldable pub passes : Bytes → Record → Bool
 passes s r = sized (r .«entry_size») (length s) && run s r (r .count) 0 [] 0

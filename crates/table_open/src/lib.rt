@@ -143,7 +143,7 @@ pub fn check(table: &[u8], rec: model::Record) -> bool
         from = at + model::ENTRY_HEAD;
         to = from + n as usize;
         at = to + m as usize;
-        charge += model::ENTRY_MEMORY_USAGE + n + entry_size + m;
+        charge += table_charge::entry_memory_usage(entry_size, n, m);
         left -= 1;
     }
     (at as u64 == rec.used) & (charge == rec.charge) & base_fields::all_zero(table, at)

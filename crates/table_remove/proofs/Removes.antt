@@ -1,30 +1,33 @@
 -- One entry removed from a table: what stands before its key stays, then what stands behind it; the record is less by the entry between.
 use mathlib.Core.Path.{_≡_, refl, ap, ap₂, sym, subst, _∙_}
 use mathlib.Core.List.{[], _∷_, _++_}
-use mathlib.Core.Bool.{true, false}
-use Prim.Native.Nat.{ℕ, zero, suc, _+_, _-_, _<_, _≤_}
+use mathlib.Core.Bool.{Bool, true, false}
+use Prim.Native.Nat.{ℕ, _+_, _-_, _<_, _≤_}
 use native.Mathlib.Omega.{arith}
-use lib.Dec.{eqb}
+use lib.Dec.{leb}
 use lib.ListN.{length, take, drop, length-append}
-use Rattle.model.specs.Bytes.{Bytes, same, before}
+use borrow.Author.Tests.{leb-true}
+use Rattle.model.specs.Bytes.{Bytes, numberAt, same, before}
 use Rattle.model.specs.Path.{Path}
 use Rattle.model.specs.Map.{del}
 use Rattle.model.specs.Tree.{Entry, Table}
-use Rattle.model.specs.Table.{encode, charge, recordOf, entriesAt, tableIn, isTable}
+use Rattle.model.specs.Table.{bodyOf, encode, charge, recordOf, keyAt, entryAt, entriesAt, tableIn, isTable}
 use Rattle.model.specs.declared.Record.{Record}
-use Rattle.model.proofs.Orders.{Lt, Lt-irrefl, Lt-trans, Lt-≢, Cmp, cmp, same-no, same-refl, test, yea, nay, eqb-eq}
+use Rattle.model.proofs.Orders.{Lt, Lt-irrefl, Lt-trans, Lt-≢, Cmp, cmp, same-no, same-refl, test, yea, nay, and-true}
 use Rattle.model.proofs.Maps.{Above, Ascending, above-trans, ascends-is}
-use Rattle.model.proofs.Codec.{decoded}
+use Rattle.model.proofs.Codec.{decoded, entry-length, same-is}
 use Rattle.base_fields.specs.Write.{overwritten}
 use Rattle.base_fields.proofs.Common.{before-Lt, Lt-before}
 use Rattle.base_fields.proofs.Writes.{take-overwritten}
+use Rattle.table_charge.specs.Charge.{chargeBy}
 use Rattle.table_entries.specs.declared.Place.{Place}
 use Rattle.table_entries.specs.Place.{Standing, Sought, endOf}
 use Rattle.table_entries.specs.Cut.{upTo, since, unlessFirst, behind}
-use Rattle.table_entries.proofs.Entries.{table-stands}
+use Rattle.table_entries.proofs.Entries.{Stands, stands-here, first-entry, table-stands}
 use Rattle.table_entries.proofs.Cuts.{up-since, charge-append}
-use Rattle.table_measure.proofs.Passes.{all-up, bytes-append, bytes-cons}
-use Rattle.table_measure.proofs.Steps.{sought-end}
+use Rattle.table_measure.specs.Measure.{startsAt}
+use Rattle.table_measure.proofs.Passes.{all-up, bytes-append, bytes-cons, charge-cons}
+use Rattle.table_measure.proofs.Steps.{some-left, gone-on, same-key, stayed, sought-end}
 use Rattle.table_write.specs.Merge.{Merged}
 use Rattle.table_write.proofs.Merges.{stretch}
 use Rattle.table_insert.proofs.Inserts.{rest-fits, same-used}
@@ -53,24 +56,6 @@ del-cut k (x ∷ xs) a =
       | Cmp.gt l w ↦ rw (w, Lt-before (x .0) k l) (ap (λ (l : Table). x ∷ l) (del-cut k xs (a .1)))
     ]
 
--- a record lessened by no bytes, and by some
-pub some-bytes : (n : ℕ) → (n ≡ 0 → ⊥) → 0 < n
-some-bytes zero h = absurd (h refl)
-some-bytes (suc n) h = omega arith
-
-pub none-less : (r : Record) (n : ℕ) → n ≡ 0 → r ≡ lessened r n
-none-less r n z = sym (ap (lessened r) z)
-
-pub one-less : (r : Record) (n : ℕ) → (n ≡ 0 → ⊥)
-    → _≡_ {A = Record} (record {
-      used = r .used - n;
-      count = r .count - 1;
-      charge = r .charge - (232 + r .«entry_size» + n);
-      «entry_size» = r .«entry_size»;
-    }) (lessened r n)
-one-less r zero h = absurd (h refl)
-one-less r (suc n) h = elim (test (eqb (suc n) 0)) [ yea a ↦ absurd (h (eqb-eq (suc n) 0 a)) | nay a ↦ rw a ]
-
 -- whether the first entry has the key k
 data First (k : Path) (t : Table) : Type 0 where
   stays : unlessFirst k t ≡ t → First k t
@@ -90,8 +75,8 @@ behind-less k t =
       | goes x e f ↦ let b = ap bytesOf f ∙ bytes-cons 0 x e (behind k t) in omega arith
     ]
 
--- the record, where n is the bytes of the entry at k, or 0
-module _ (E : ℕ) (t : Table) (k : Path) (n : ℕ) (gap : n + bytesOf (behind k t) ≡ bytesOf (since k t)) where
+-- bytes, entries and charge of the table, and of the table without k
+module _ (E : ℕ) (t : Table) (k : Path) where
   bytes-cut : bytesOf t ≡ bytesOf (upTo k t) + bytesOf (since k t)
   bytes-cut = ap bytesOf (sym (up-since k t)) ∙ bytes-append E (upTo k t) (since k t)
 
@@ -100,20 +85,6 @@ module _ (E : ℕ) (t : Table) (k : Path) (n : ℕ) (gap : n + bytesOf (behind k
 
   charge-cut : charge E t ≡ charge E (upTo k t) + charge E (since k t)
   charge-cut = ap (charge E) (sym (up-since k t)) ∙ charge-append E (upTo k t) (since k t)
-
-  held : 0 < n → (n ≤ bytesOf t) × (1 ≤ length t) × (232 + E + n ≤ charge E t)
-  held h =
-      elim (first-of k (since k t)) [
-        | stays f ↦ let b = ap bytesOf f in absurd (omega arith)
-        | goes x e f ↦
-            let b = ap bytesOf f ∙ bytes-cons E x e (behind k t) in
-            let m = ap length f in
-            let c = ap (charge E) f in
-            let b1 = bytes-cut in
-            let m1 = count-cut in
-            let c1 = charge-cut in
-            (omega arith, omega arith, omega arith)
-      ]
 
   module _ (up : Ascending t) where
     bytes-del : bytesOf (del k t) ≡ bytesOf (upTo k t) + bytesOf (behind k t)
@@ -129,29 +100,107 @@ module _ (E : ℕ) (t : Table) (k : Path) (n : ℕ) (gap : n + bytesOf (behind k
         → _≡_ {A = Record} (record { used = u; count = m; charge = c; «entry_size» = E }) (recordOf E (del k t))
     same-record u m c a d e = λ i. record { used = a i; count = d i; charge = e i; «entry_size» = E }
 
-    lessened-is : lessened (recordOf E t) n ≡ recordOf E (del k t)
-    lessened-is =
-        elim (first-of k (since k t)) [
-          | stays f ↦
-              let b = ap bytesOf f in
-              let z : n ≡ 0 = omega arith in
-              let d : del k t ≡ t = del-cut k t up ∙ ap (λ (l : Table). upTo k t ++ l) f ∙ up-since k t in
-              ap (lessened (recordOf E t)) z ∙ ap (recordOf E) (sym d)
-          | goes x e f ↦
-              let b = ap bytesOf f ∙ bytes-cons E x e (behind k t) in
-              let m = ap length f in
-              let c = ap (charge E) f in
-              let b1 = bytes-cut in
-              let m1 = count-cut in
-              let c1 = charge-cut in
-              let b2 = bytes-del in
-              let m2 = count-del in
-              let c2 = charge-del in
-              elim (test (eqb n 0)) [
-                | yea a ↦ let z = eqb-eq n 0 a in absurd (omega arith)
-                | nay a ↦ rw a (same-record _ _ _ (omega arith) (omega arith) (omega arith))
-              ]
-        ]
+    -- nothing stands at k
+    none-less : since k t ≡ behind k t → recordOf E t ≡ recordOf E (del k t)
+    none-less f = sym (ap (recordOf E) (del-cut k t up ∙ ap (λ (l : Table). upTo k t ++ l) (sym f) ∙ up-since k t))
+
+  -- the entry e stands there
+  module _ (x : Path) (e : Entry) (key : x ≡ k) (f : since k t ≡ (x, e) ∷ behind k t) where
+    held : (24 + length k + length (bodyOf e) ≤ bytesOf t) × (1 ≤ length t) × (chargeBy E (length k) (length (bodyOf e)) ≤ charge E t)
+    held =
+        let l = ap length key in
+        let b = ap bytesOf f ∙ bytes-cons E x e (behind k t) in
+        let m = ap length f in
+        let c = ap (charge E) f ∙ charge-cons E x e (behind k t) in
+        let b1 = bytes-cut in
+        let m1 = count-cut in
+        let c1 = charge-cut in
+        (omega arith, omega arith, omega arith)
+
+    one-less : Ascending t → lessened (recordOf E t) (length k) (length (bodyOf e)) ≡ recordOf E (del k t)
+    one-less up =
+        let l = ap length key in
+        let b = ap bytesOf f ∙ bytes-cons E x e (behind k t) in
+        let m = ap length f in
+        let c = ap (charge E) f ∙ charge-cons E x e (behind k t) in
+        let b1 = bytes-cut in
+        let m1 = count-cut in
+        let c1 = charge-cut in
+        let b2 = bytes-del up in
+        let m2 = count-del up in
+        let c2 = charge-del up in
+        same-record up _ _ _ (omega arith) (omega arith) (omega arith)
+
+table-ascends : (s : Bytes) (r : Record) → isTable s r ≡ true → Ascending (tableIn s r)
+table-ascends s r h = ascends-is [] (tableIn s r) (decoded s r h .ascending) .1
+
+-- the record without k, by the place where the search for k ends and whether the entry there has the key
+module _ (s : Bytes) (r : Record) (k : Path) (left at : ℕ) (h : isTable s r ≡ true) (f : Sought s k (r .count) 0 left at)
+    (b : Bool) (is : b ≡ startsAt k (entriesAt s left at)) where
+  abbrev all : Table
+  all = tableIn s r
+
+  pub not-there : b ≡ false → r ≡ recordOf (r .«entry_size») (del k all)
+  not-there out =
+      let e : since k all ≡ behind k all = stayed k (since k all) b (is ∙ ap (startsAt k) (f .are)) out in
+      decoded s r h .rec ∙ none-less (r .«entry_size») all k (table-ascends s r h) e
+
+  module _ (hit : b ≡ true) where
+    some-entry : 0 < left
+    some-entry = some-left s k left at b is hit
+
+    there : Stands s (left - 1) at
+    there = stands-here s left at some-entry (f .stand)
+
+    key-there : keyAt s at ≡ k
+    key-there = same-is (keyAt s at) k (same-key s k left at b is hit)
+
+    from-there : since k all ≡ (keyAt s at, entryAt s at) ∷ behind k all
+    from-there =
+        sym (f .are)
+        ∙ first-entry s left at some-entry
+        ∙ ap (λ (t : Table). (keyAt s at, entryAt s at) ∷ t) (gone-on s k left at b is hit ∙ ap (unlessFirst k) (f .are))
+
+    pub head-fits : at + 8 ≤ length s
+    head-fits =
+        let i = there .inside in
+        let e = there .end in
+        let l = entry-length (keyAt s at) (entryAt s at) in
+        omega arith
+
+    module _ (m : ℕ) (body : m ≡ numberAt s (at + 4) 4) where
+      is-body : m ≡ length (bodyOf (entryAt s at))
+      is-body = body ∙ there .body-length
+
+      -- the entry's bytes and charge are in the record's
+      pub in-record : ((r .«entry_size» ≤ 4096) × (length k ≤ 16777216) × (m ≤ 16777216))
+          × ((24 + length k + m ≤ r .used) × (1 ≤ r .count) × (chargeBy (r .«entry_size») (length k) m ≤ r .charge))
+      in-record =
+          let c = held (r .«entry_size») all k (keyAt s at) (entryAt s at) key-there from-there in
+          let e = decoded s r h .rec in
+          let u : r .used ≡ bytesOf all = ap (λ (q : Record). q .used) e in
+          let d = decoded s r h .fits in
+          let i = is-body in
+          let g : (24 + length k + m ≤ r .used) × (1 ≤ r .count) × (chargeBy (r .«entry_size») (length k) m ≤ r .charge) =
+          subst (λ (q : Record). (24 + length k + m ≤ q .used) × (1 ≤ q .count) × (chargeBy (r .«entry_size») (length k) m ≤ q .charge)) (sym e)
+          (subst
+          (λ (n : ℕ). (24 + length k + n ≤ bytesOf all) × (1 ≤ length all) × (chargeBy (r .«entry_size») (length k) n ≤ charge (r .«entry_size») all))
+          (sym is-body) c) in
+          let g0 = g .0 in
+          let z = and-true (leb (r .«entry_size») 4096) (leb (length s) 16777216) (decoded s r h .size) in
+          let S = leb-true (length s) 16777216 (z .1) in
+          ((leb-true (r .«entry_size») 4096 (z .0), omega arith, omega arith), g)
+
+      pub taken-out : (q : Record) → q ≡ lessened r (length k) m → q ≡ recordOf (r .«entry_size») (del k all)
+      taken-out q e =
+          e
+          ∙ ap₂ (λ (x : Record) (n : ℕ). lessened x (length k) n) (decoded s r h .rec) is-body
+          ∙ one-less (r .«entry_size») all k (keyAt s at) (entryAt s at) key-there from-there (table-ascends s r h)
+
+-- a search from the first entry on is one of all
+pub sought-all : (s : Bytes) (r : Record) (k : Path) (first found : Place) → first ≡ record { at = 0; left = r .count }
+    → Sought s k (first .left) (first .at) (found .left) (found .at) → Sought s k (r .count) 0 (found .left) (found .at)
+sought-all s r k first found begin f = subst (λ (p : Place). Sought s k (p .left) (p .at) (found .left) (found .at)) begin f
 
 -- the places that `remove` has: the first entry, the first that is not before k, and the one behind k
 module _ (s : Bytes) (r : Record) (k : Path) (first found next : Place) (h : isTable s r ≡ true) (begin : first ≡ record { at = 0; left = r .count })
@@ -162,40 +211,20 @@ module _ (s : Bytes) (r : Record) (k : Path) (first found next : Place) (h : isT
   t = tableIn s r
 
   sought : Sought s k (r .count) 0 (found .left) (found .at)
-  sought = subst (λ (p : Place). Sought s k (p .left) (p .at) (found .left) (found .at)) begin search-from
+  sought = sought-all s r k first found begin search-from
 
   ahead : entriesAt s (next .left) (next .at) ≡ behind k t
   ahead = on ∙ ap (unlessFirst k) (sought .are)
 
   ascending : Ascending t
-  ascending = ascends-is [] t (decoded s r h .ascending) .1
+  ascending = table-ascends s r h
 
-  pub gone-up : found .at ≤ next .at
+  gone-up : found .at ≤ next .at
   gone-up =
       let a = ap bytesOf ahead in
       let b = ap bytesOf (sought .are) in
       let l = behind-less k t in
       omega arith
-
-  gap : next .at - found .at + bytesOf (behind k t) ≡ bytesOf (since k t)
-  gap =
-      let a = ap bytesOf ahead in
-      let b = ap bytesOf (sought .are) in
-      let g = gone-up in
-      omega arith
-
-  -- the entry's bytes and charge are in the record's
-  pub in-record : 0 < next .at - found .at
-      → (next .at - found .at ≤ r .used) × (1 ≤ r .count) × (232 + r .«entry_size» + (next .at - found .at) ≤ r .charge)
-  in-record z =
-      subst (λ (q : Record). (next .at - found .at ≤ q .used) × (1 ≤ q .count) × (232 + r .«entry_size» + (next .at - found .at) ≤ q .charge))
-      (sym (decoded s r h .rec)) (held (r .«entry_size») t k (next .at - found .at) gap z)
-
-  pub record-is : (q : Record) → q ≡ lessened r (next .at - found .at) → q ≡ recordOf (r .«entry_size») (del k t)
-  record-is q e =
-      e
-      ∙ ap (λ (x : Record). lessened x (next .at - found .at)) (decoded s r h .rec)
-      ∙ lessened-is (r .«entry_size») t k (next .at - found .at) gap ascending
 
   whole-end : endOf s (next .left) (next .at) ≡ endOf s (r .count) 0
   whole-end = end ∙ sought-end s k (r .count) 0 (found .left) (found .at) sought
@@ -205,8 +234,8 @@ module _ (s : Bytes) (r : Record) (k : Path) (first found next : Place) (h : isT
 
   del-fits : bytesOf (del k t) ≤ length s
   del-fits =
-      let a = bytes-cut 0 t k (next .at - found .at) gap in
-      let b = bytes-del 0 t k (next .at - found .at) gap ascending in
+      let a = bytes-cut 0 t k in
+      let b = bytes-del 0 t k ascending in
       let l = behind-less k t in
       let f = decoded s r h .fits in
       omega arith
@@ -217,7 +246,7 @@ module _ (s : Bytes) (r : Record) (k : Path) (first found next : Place) (h : isT
     front =
         let u : Bytes = encode (upTo k t) in
         let there : found .at ≡ 0 + length u = sought .there in
-        let a = bytes-cut 0 t k (next .at - found .at) gap in
+        let a = bytes-cut 0 t k in
         let f = decoded s r h .fits in
         let e : w₁ ≡ overwritten w 0 u = copied ∙ ap (overwritten w 0) (stretch s k (r .count) 0 (found .at) (table-stands s r h) there) in
         ap₂ take there e ∙ take-overwritten w 0 u (omega arith)

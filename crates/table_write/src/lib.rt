@@ -27,8 +27,8 @@ pub struct Merge {
 
 fn put_sizes(work: &mut [u8], at: usize, n: u64, kind: u64, m: u64)
     requires { ⌜ at + 8 ≤ length (now work) ⌝ }
-    ensures { λ _. ⌜ now (work .exit) ≡ overwritten (now (work .entry)) at
-        (bytes 2 n ++ (bytes 2 kind ++ bytes 4 m)) ⌝ }
+    ensures { λ _. ⌜ now (work .exit) ≡ overwritten (now (work .entry)) at (bytes 2 n ++ (bytes 2 kind ++ bytes 4
+        m)) ⌝ }
 {
     base_fields::put16(work, at, n);
     base_fields::put16(work, at + 2, kind);
@@ -79,16 +79,14 @@ pub fn put_next(
     requires { ⌜ Standing (now table) (merge .left) (merge .at) ⌝ }
     requires { ⌜ Written kind mtime size (now body) ⌝ }
     requires { ⌜ merge .out + length (encode (upTo (now key) (entriesAt (now table) (merge .left) (merge .at)))) +
-        (24 + length (now key) + length
-        (now body)) ≤ length (now work) ⌝ }
+        (24 + length (now key) + length (now body)) ≤ length (now work) ⌝ }
     ensures { λ r. ⌜ ((t : Table) (k : Path) → Merged (now (table .entry)) (now (work .entry)) t k (merge .left)
-        (merge .at) (merge .out)
-        → before k (now (key .entry)) ≡ true
-        → Merged (now (table .entry)) (now (work .exit)) (put (now (key .entry))
-        (entryOf kind mtime size (now (body .entry))) t) (now (key .entry)) (r .left) (r .at) (r .out)) ⌝ }
+        (merge .at) (merge .out) → before k (now (key .entry)) ≡ true → Merged (now (table .entry)) (now (work .exit))
+        (put (now (key .entry)) (entryOf kind mtime size (now (body .entry))) t) (now (key .entry)) (r .left) (r .at)
+        (r .out)) ⌝ }
     ensures { λ _. ⌜ length (now (work .exit)) ≡ length (now (work .entry)) ⌝ }
-    ensures { λ r. ⌜ endOf (now (table .entry)) (r .left) (r .at)
-        ≡ endOf (now (table .entry)) (merge .left) (merge .at) ⌝ }
+    ensures { λ r. ⌜ endOf (now (table .entry)) (r .left) (r .at) ≡ endOf (now (table .entry)) (merge .left)
+        (merge .at) ⌝ }
 {
     let at = merge.at;
     let left = merge.left;
@@ -113,9 +111,8 @@ pub fn finish(table: &mut [u8], work: &mut [u8], merge: Merge, used: usize)
     requires { ⌜ (merge .at ≤ used) × (used ≤ length (now table)) ⌝ }
     requires { ⌜ (merge .out + (used - merge .at) ≤ length (now table)) × (length (now table) ≤ length (now work)) ⌝ }
     ensures { λ _. ⌜ ((t : Table) (k : Path) → Merged (now (table .entry)) (now (work .entry)) t k (merge .left)
-        (merge .at) (merge .out)
-        → used ≡ endOf (now (table .entry)) (merge .left) (merge .at)
-        → now (table .exit) ≡ padded (length (now (table .entry))) (encode t)) ⌝ }
+        (merge .at) (merge .out) → used ≡ endOf (now (table .entry)) (merge .left) (merge .at) → now (table .exit)
+        ≡ padded (length (now (table .entry))) (encode t)) ⌝ }
     ensures { λ _. ⌜ now (work .exit) ≡ replicate (length (now (work .entry))) 0 ⌝ }
 {
     let at = merge.at;

@@ -57,9 +57,8 @@ fn of_target(target: listing_records::RealTarget) -> Visible
 
 // What is visible where the table has this entry, or none, and the listing this.
 fn over(entry: table_entries::OverlayEntry, target: listing_records::RealTarget) -> Visible
-    ensures { λ r. ⌜ ((s : Bytes) (e : Option Entry) (n : Option Node) → saidOf s entry ≡ said e
-        → targetKind target ≡ kindOf n
-        → visibleKind r ≡ kindOf (tree.over e n)) ⌝ }
+    ensures { λ r. ⌜ ((s : Bytes) (e : Option Entry) (n : Option Node) → saidOf s entry ≡ said e → targetKind target
+        ≡ kindOf n → visibleKind r ≡ kindOf (tree.over e n)) ⌝ }
 {
     match entry {
         table_entries::OverlayEntry::File { mtime, at, len } => {

@@ -91,9 +91,9 @@ pub fn has_visible_children(listing: &[u8], table: &[u8], rec: model::Record, di
     requires { ⌜ isListing (now listing) ≡ true ⌝ }
     requires { ⌜ isTable (now table) rec ≡ true ⌝ }
     ensures { λ r. ⌜ r ≡ (visibleChild (shown (tableIn (now (table .entry)) rec) (treeIn (now (listing .entry))))
-        (now (dir .entry)) (keys
-        (tableIn (now (table .entry)) rec)) || visibleChild (shown (tableIn (now (table .entry)) rec)
-        (treeIn (now (listing .entry)))) (now (dir .entry)) (keys (treeIn (now (listing .entry))))) ⌝ }
+        (now (dir .entry)) (keys (tableIn (now (table .entry)) rec)) || visibleChild
+        (shown (tableIn (now (table .entry)) rec) (treeIn (now (listing .entry)))) (now (dir .entry))
+        (keys (treeIn (now (listing .entry))))) ⌝ }
 {
     if overlay_directory_has_children(table, rec, dir) {
         return true;

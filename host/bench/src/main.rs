@@ -4,6 +4,8 @@
 //! the thread's own CPU clock (so that other programs on the machine count less), less what reading that clock takes.
 //! The original keeps its table as a map and looks paths up; the port reads and checks all bytes with every call.
 
+mod walks;
+
 use std::{env, hint::black_box, rc::Rc, sync::OnceLock};
 
 use differential::{
@@ -250,6 +252,9 @@ fn named(size: usize) -> String {
 }
 
 fn main() {
+    if env::args().nth(1).as_deref() == Some("walks") {
+        return walks::rows();
+    }
     let most = env::args().nth(1).and_then(|word| word.parse().ok()).unwrap_or(16 << 20);
     let sizes =
         [1 << 10, 16 << 10, 256 << 10, 4 << 20, 16 << 20].into_iter().filter(|size| *size <= most).collect::<Vec<_>>();

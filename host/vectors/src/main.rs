@@ -1,11 +1,15 @@
-//! Replays the vectors of calls.jsonl against the library: every answer, record, table and work buffer must be as they say.
-//! With an argument it reads that file. It prints what it compared, and ends with status 1 at the first difference.
+//! Replays the vectors of calls.jsonl and worked.jsonl against the library: every answer, record, table and work buffer
+//! must be as they say. The rows of docs/WORKED-CALLS.md must be those of worked.jsonl, and docs/DEFINITION.md may cite no
+//! other. With the name of a file it replays that one alone; with `--rows` it prints the rows of worked.jsonl. It says
+//! what it compared, and ends with status 1 at the first difference.
 mod json;
 mod sha256;
+mod worked;
 
 use json::{Json, parse};
 use overlay::{OverlayMut, Record, Refusal, raw, unpack};
 use std::{collections::BTreeMap, env, fs, process::ExitCode};
+use worked::{Rows, stated};
 
 /// A vector's answer as an answer of the library: number, path, length, value.
 fn four(answer: Result<u64, Refusal>) -> [u64; 4] {
@@ -57,12 +61,16 @@ impl State {
 
     /// Makes a call and compares what it answers and leaves.
     fn compare(&mut self, listing: &[u8], call: &Json) -> Result<(), String> {
+        let before = self.table.clone();
         let (answer, work) = self.call(listing, call);
         let record: [u64; 4] = self.record.into();
         let sha = sha256::hex(&self.table);
         let wanted = (call.get("answer").four(), call.get("record").four(), call.get("sha").text());
         if (four(answer), record, sha.as_str()) != wanted {
             return Err(format!("{call:?}\ngives {:?} {record:?} {sha}", four(answer)));
+        }
+        if call.find("id").or(call.find("entries")).is_some() {
+            stated(call.find("entries"), &before, &self.table, record).map_err(|error| format!("{call:?}\n{error}"))?;
         }
         if work { Ok(()) } else { Err(format!("{call:?}\nleaves another work buffer")) }
     }
@@ -112,17 +120,58 @@ fn replay(line: &str, counts: &mut BTreeMap<String, u64>) -> Result<(), String> 
     Ok(())
 }
 
-fn main() -> ExitCode {
-    let file = env::args().nth(1).unwrap_or_else(|| concat!(env!("CARGO_MANIFEST_DIR"), "/calls.jsonl").to_string());
-    let text = fs::read_to_string(&file).unwrap_or_else(|error| panic!("{file}: {error}"));
+/// A file of this crate or of the repository, by its name below this crate's folder.
+fn beside(name: &str) -> String {
+    format!("{}/{name}", env!("CARGO_MANIFEST_DIR"))
+}
+
+fn read(file: &str) -> Result<String, String> {
+    fs::read_to_string(file).map_err(|error| format!("{file}: {error}"))
+}
+
+fn replay_file(file: &str) -> Result<(), String> {
     let mut counts = BTreeMap::new();
-    for (number, line) in text.lines().enumerate() {
-        if let Err(difference) = replay(line, &mut counts) {
-            println!("{file}:{}: {difference}", number + 1);
-            return ExitCode::FAILURE;
-        }
+    for (number, line) in read(file)?.lines().enumerate() {
+        replay(line, &mut counts).map_err(|difference| format!("{file}:{}: {difference}", number + 1))?;
     }
     let each: Vec<String> = counts.iter().map(|(name, count)| format!("{name} {count}")).collect();
     println!("vectors: {} calls, all as they say: {}", counts.values().sum::<u64>(), each.join(", "));
-    ExitCode::SUCCESS
+    Ok(())
+}
+
+fn worked_rows(file: &str) -> Result<Rows, String> {
+    let mut rows = Rows::default();
+    for (number, line) in read(file)?.lines().enumerate() {
+        parse(line).and_then(|vector| rows.read(&vector)).map_err(|error| format!("{file}:{}: {error}", number + 1))?;
+    }
+    rows.covers().map_err(|error| format!("{file}: {error}"))?;
+    Ok(rows)
+}
+
+fn compare() -> Result<(), String> {
+    let (calls, worked) = (beside("calls.jsonl"), beside("worked.jsonl"));
+    let (page, definition) = (beside("../../docs/WORKED-CALLS.md"), beside("../../docs/DEFINITION.md"));
+    match env::args().nth(1).as_deref() {
+        Some("--rows") => worked_rows(&worked)?.print(),
+        Some(file) => replay_file(file)?,
+        None => {
+            replay_file(&calls)?;
+            replay_file(&worked)?;
+            let rows = worked_rows(&worked)?;
+            rows.stand_in(&read(&page)?).map_err(|error| format!("{page}: {error}"))?;
+            rows.cited_in(&read(&definition)?).map_err(|error| format!("{definition}: {error}"))?;
+            println!("worked calls: {} rows, in the page as in the vectors", rows.len());
+        }
+    }
+    Ok(())
+}
+
+fn main() -> ExitCode {
+    match compare() {
+        Ok(()) => ExitCode::SUCCESS,
+        Err(difference) => {
+            println!("{difference}");
+            ExitCode::FAILURE
+        }
+    }
 }

@@ -1,60 +1,68 @@
 -- `base_fields::shared` meets its contract. The invariant: what is in common from i on, and i, are what is in common.
--- The measure is what is left of the first.
-use mathlib.Core.Path.{_≡_}
+-- The measure is what is left of the shorter one.
+use mathlib.Core.Path.{_≡_, sym, _∙_}
 use Prim.Native.Nat.{_+_, _-_, _≤_}
 use native.Mathlib.Omega.{arith}
 use lib.ListN.{length, drop}
 use borrow.Author.Needs.{needs}
 use Rattle.base_fields.specs.Read.{common}
-use Rattle.base_fields.proofs.Common.{first-over, second-over, parting, going}
+use Rattle.base_fields.proofs.Pieces.{bytes-of}
+use Rattle.base_fields.proofs.Words.{same-word}
 use Rattle.base_fields.proofs.shared.Statement.{statement}
 use Rattle.base_fields.proofs.shared.Tie as tie
 
 abbrev Inv-loop : tie.InvT-loop
-Inv-loop a b i₀ i = (i ≤ length a) × (i ≤ length b) × (common a b ≡ i + common (drop i a) (drop i b))
+Inv-loop a b m i₀ i = (i ≤ m) × (m ≤ length a) × (m ≤ length b) × (common a b ≡ i + common (drop i a) (drop i b))
 
 abbrev μ-loop : tie.MeasureT-loop
-μ-loop a b i₀ i = length a - i
+μ-loop a b m i₀ i = m - i
+
+least-requires : tie.Need-least-requires Inv-loop μ-loop
+least-requires c κs = search needs
 
 loop-holds : tie.Need-loop-holds Inv-loop μ-loop
-loop-holds c = (search needs, search needs, omega arith)
+loop-holds c = (search needs, search needs, search needs, omega arith)
+
+sub-loop : tie.Need-sub-loop Inv-loop μ-loop
+sub-loop c = search needs
+
+le64-requires : tie.Need-le64-requires Inv-loop μ-loop
+le64-requires c κs = search needs
+
+le64-requires-2 : tie.Need-le64-requires-2 Inv-loop μ-loop
+le64-requires-2 c κs = search needs
+
+shared-from-requires : tie.Need-shared-from-requires Inv-loop μ-loop
+shared-from-requires c κs = search needs
 
 returns : tie.Need-returns Inv-loop μ-loop
-returns c =
-    let a = c .before .before .before .args in
-    let l = c .before .before .loop in
-    (omega (arith, second-over (a .a .now) (a .b .now) (l .i) (search needs)), omega arith)
-
-shared-slice-read-x : tie.Need-shared-slice-read-x Inv-loop μ-loop
-shared-slice-read-x c = search needs
-
-shared-slice-read-y : tie.Need-shared-slice-read-y Inv-loop μ-loop
-shared-slice-read-y c = search needs
-
-returns-2 : tie.Need-returns-2 Inv-loop μ-loop
-returns-2 c =
-    let p = c .before .before .before .before .before in
-    let a = p .before .args in
-    (omega (arith, parting (a .a .now) (a .b .now) (p .loop .i) (search needs) (search needs) (c .if2 .taken)), omega arith)
+returns c = search needs
 
 add-i : tie.Need-add-i Inv-loop μ-loop
 add-i c = search needs
 
 loop-less : tie.Need-loop-less Inv-loop μ-loop
-loop-less c = search needs
+loop-less c = omega arith
 
 loop-again : tie.Need-loop-again Inv-loop μ-loop
 loop-again c =
-    let p = c .before .before .before .before .before in
-    let a = p .before .args in
-    let g = going (a .a .now) (a .b .now) (p .loop .i) (search needs) (search needs) (c .if2 .left) in
-    (omega arith, omega arith, omega arith)
+    let y = c .before in
+    let x = y .before in
+    let l = x .before .before in
+    let k = l .before .before in
+    let a = k .before .before .args .a .now in
+    let b = k .before .before .args .b .now in
+    let e = sym (x .le64 .ensures) ∙ c .if1 .left ∙ y .le642 .ensures in
+    let of-a = bytes-of a (λ j. omega (arith, k .before .shared-slice-known .given j)) in
+    let of-b = bytes-of b (λ j. omega (arith, k .shared-slice-known2 .given j)) in
+    let w = same-word a b (l .loop .i) of-a of-b (omega arith) (omega arith) e in
+    (omega arith, search needs, search needs, omega arith)
 
-returns-3 : tie.Need-returns-3 Inv-loop μ-loop
-returns-3 c =
-    let a = c .before .before .args in
-    let l = c .before .loop in
-    (omega (arith, first-over (a .a .now) (a .b .now) (l .i) (search needs)), omega arith)
+shared-from-requires-2 : tie.Need-shared-from-requires-2 Inv-loop μ-loop
+shared-from-requires-2 c κs = search needs
+
+returns-2 : tie.Need-returns-2 Inv-loop μ-loop
+returns-2 c = search needs
 
 pub shared-spec : {M : Type 1} → statement M
 shared-spec =
@@ -62,12 +70,15 @@ shared-spec =
     (tie.spec
     Inv-loop
     μ-loop
+    least-requires
     loop-holds
+    sub-loop
+    le64-requires
+    le64-requires-2
+    shared-from-requires
     returns
-    shared-slice-read-x
-    shared-slice-read-y
-    returns-2
     add-i
     loop-less
     loop-again
-    returns-3)
+    shared-from-requires-2
+    returns-2)

@@ -11,22 +11,17 @@ sub-n c = search needs
 add-n : tie.Need-add-n
 add-n c = search needs
 
-add-t22 : tie.Need-add-t22
-add-t22 c = search needs
+entry-memory-usage-requires : tie.Need-entry-memory-usage-requires
+entry-memory-usage-requires c κs = search needs
 
-add-t24 : tie.Need-add-t24
-add-t24 c = search needs
-
-add-t25 : tie.Need-add-t25
-add-t25 c = search needs
-
-add-t26 : tie.Need-add-t26
-add-t26 c = search needs
+add-t23 : tie.Need-add-t23
+add-t23 c = search needs
 
 returns : tie.Need-returns
 returns c =
     let a = c .before .before .before .before .before .before .before .before .args in
-    counted-far (a .table .now) (a .destination .now) (a .key .now) (a .from) (a .m) (a .tally) (search needs)
+    let u = c .before .entry-memory-usage in
+    counted-far (a .table .now) (a .destination .now) (a .key .now) (a .from) (a .m) (a .tally) (u .result) (u .ensures .0) (search needs)
 
 moved-key-requires : tie.Need-moved-key-requires
 moved-key-requires c κs = search needs
@@ -64,10 +59,8 @@ counted-spec =
     (tie.spec
     sub-n
     add-n
-    add-t22
-    add-t24
-    add-t25
-    add-t26
+    entry-memory-usage-requires
+    add-t23
     returns
     moved-key-requires
     array-share-prefix-bytes

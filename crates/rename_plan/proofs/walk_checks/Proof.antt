@@ -28,7 +28,7 @@ returns c =
     let l = treeIn (a .listing .now) in
     let x = a .source .now in
     let d = c .before .before .before .is-listed-directory in
-    let w = walkFrom (tableIn (a .table .now) (a .rec)) l (some (a .budget)) x in
+    let w = walkFrom (tableIn (a .table .now) (a .rec)) l (some (a .budget .available)) x in
     c .check-walked .ensures
     ∙ ap (walked (length x)) {y = w} (c .before .collect-real-descendants .ensures)
     ∙ when (isDirectory (kind (lookup l) x)) (d .result) (walked (length x) w) pass (d .ensures) (c .before .before .if1 .taken)
@@ -39,7 +39,7 @@ returns-2 c =
     let l = treeIn (a .listing .now) in
     let x = a .source .now in
     let d = c .before .is-listed-directory in
-    let w = walkFrom (tableIn (a .table .now) (a .rec)) l (some (a .budget)) x in
+    let w = walkFrom (tableIn (a .table .now) (a .rec)) l (some (a .budget .available)) x in
     otherwise (isDirectory (kind (lookup l) x)) (d .result) (walked (length x) w) pass (d .ensures) (c .if1 .left)
 
 pub walk-checks-spec : {M : Type 1} → statement M

@@ -90,7 +90,7 @@ enter-record-returns : (t : ℕ) → enter-record-lts.Need-returns (record-claim
 enter-record-returns t c =
     let i = c .before .before .before .before in
     let a = i .args in
-    enter-no-level (entriesAt (a .table .now) (a .place .left) (a .place .at)) (treeAt (a .records .now) (a .here .left) (a .here .at)) (some (a .budget)) (a .dir .now)
+    enter-no-level (entriesAt (a .table .now) (a .place .left) (a .place .at)) (treeAt (a .records .now) (a .here .left) (a .here .at)) (some (a .budget .available)) (a .dir .now)
     (treeAt (a .records .now) 1 (a .here .at)) (a .depth) (walkOf (a .walked)) (c .if1 .taken)
 
 enter-record-bare-child-requires : (t : ℕ) → enter-record-lts.Need-bare-child-requires (record-claims t) (enter-record-at t) enter-record.Post
@@ -140,7 +140,7 @@ enter-record-returns-2 t c =
     let o = c .before .before .stretch-below in
     let v = c .before .visit-children in
     let q = c .enter-stretch in
-    enter-dir (a .records .now) (a .table .now) (some (a .budget)) (a .dir .now) (a .here .left) (a .here .at) (a .place .left) (a .place .at)
+    enter-dir (a .records .now) (a .table .now) (some (a .budget .available)) (a .dir .now) (a .here .left) (a .here .at) (a .place .left) (a .place .at)
     (a .depth) (walkOf (a .walked)) (x .result .bare) (x .ensures .0) (y .result) (y .ensures (nodeOf (recordAt (a .records .now) (a .here .at))) (c .before .before .before .before .before .before .before .before .node-at .ensures))
     (c .before .before .before .before .before .if2 .taken) (not-none (a .depth) (c .before .before .before .before .before .before .before .before .before .before .if1 .left)) (i .pre .1 .0) (p .result .now) (p .ensures)
     (x .result .place .left) (x .result .place .at) (x .ensures .1) (o .result .left) (o .result .at) (o .result .count) (o .ensures)
@@ -152,7 +152,7 @@ enter-record-returns-3 t c =
     let a = i .args in
     let x = c .before .before .before .before .bare-child in
     let y = c .before .before .is-directory in
-    enter-pass (a .records .now) (entriesAt (a .table .now) (a .place .left) (a .place .at)) (some (a .budget)) (a .dir .now) (a .here .left) (a .here .at)
+    enter-pass (a .records .now) (entriesAt (a .table .now) (a .place .left) (a .place .at)) (some (a .budget .available)) (a .dir .now) (a .here .left) (a .here .at)
     (a .depth) (walkOf (a .walked)) (x .result .bare) (x .ensures .0) (y .result) (y .ensures (nodeOf (recordAt (a .records .now) (a .here .at))) (c .before .before .before .node-at .ensures))
     (c .if2 .left)
 
@@ -161,7 +161,7 @@ enter-stretch-returns t c =
     let i = c .before .before .before .before in
     let a = i .args in
     enter-no-record (a .records .now) (entriesAt (a .table .now) (a .place .left) (a .place .at)) (treeAt (a .records .now) (a .stretch .left) (a .stretch .at))
-    (some (a .budget)) (a .dir .now) (a .depth) (a .stretch .count) (a .stretch .at) (walkOf (a .walked)) (c .if1 .taken)
+    (some (a .budget .available)) (a .dir .now) (a .depth) (a .stretch .count) (a .stretch .at) (walkOf (a .walked)) (c .if1 .taken)
 
 enter-stretch-is-ended-requires : (t : ℕ) → enter-stretch-lts.Need-is-ended-requires (stretch-claims t) (enter-stretch-at t) enter-stretch.Post
 enter-stretch-is-ended-requires t c κs = search needs
@@ -170,7 +170,7 @@ enter-stretch-returns-2 : (t : ℕ) → enter-stretch-lts.Need-returns-2 (stretc
 enter-stretch-returns-2 t c =
     let i = c .before .before .before .before .before .before in
     let a = i .args in
-    entered-ended (some (a .budget)) (a .depth) (entriesAt (a .table .now) (a .place .left) (a .place .at)) (treeAt (a .records .now) (a .stretch .left) (a .stretch .at)) (a .dir .now)
+    entered-ended (some (a .budget .available)) (a .depth) (entriesAt (a .table .now) (a .place .left) (a .place .at)) (treeAt (a .records .now) (a .stretch .left) (a .stretch .at)) (a .dir .now)
     (treeAt (a .records .now) (a .stretch .count) (a .stretch .at)) (walkOf (a .walked)) (sym (c .before .is-ended .ensures) ∙ c .if2 .taken)
 
 enter-stretch-record-path-requires : (t : ℕ) → enter-stretch-lts.Need-record-path-requires (stretch-claims t) (enter-stretch-at t) enter-stretch.Post
@@ -197,11 +197,11 @@ enter-stretch-returns-3 t c =
     let p = c .before .before .before .record-path in
     let e = c .before .before .seek in
     let q = c .enter-record in
-    enter-sought (a .records .now) (a .table .now) (some (a .budget)) (a .dir .now) (p .result .now) (a .stretch .left) (a .stretch .count) (a .stretch .at)
+    enter-sought (a .records .now) (a .table .now) (some (a .budget .available)) (a .dir .now) (p .result .now) (a .stretch .left) (a .stretch .count) (a .stretch .at)
     (a .place .left) (a .place .at) (e .result .left) (e .result .at) (a .depth) (i .pre .1 .0) (i .pre .1 .1 .0) (not-none (a .stretch .count) (c .before .before .before .before .before .before .if1 .left))
     (p .ensures) (e .ensures) (walkOf (a .walked)) (walkOf (q .result))
     (enter-one (a .records .now) (entriesAt (a .table .now) (e .result .left) (e .result .at)) (treeAt (a .records .now) (a .stretch .left) (a .stretch .at))
-    (some (a .budget)) (a .dir .now) (a .depth) (a .stretch .count) (a .stretch .at) (walkOf (a .walked)) (walkOf (q .result))
+    (some (a .budget .available)) (a .dir .now) (a .depth) (a .stretch .count) (a .stretch .at) (walkOf (a .walked)) (walkOf (q .result))
     (c .before .if3 .taken) (q .ensures))
 
 enter-stretch-halved-requires : (t : ℕ) → enter-stretch-lts.Need-halved-requires (stretch-claims t) (enter-stretch-at t) enter-stretch.Post
@@ -239,10 +239,10 @@ enter-stretch-returns-4 t c =
     let e = c .before .before .before .before .before .before .seek in
     let u = c .before .enter-stretch in
     let q = c .enter-stretch2 in
-    enter-sought (a .records .now) (a .table .now) (some (a .budget)) (a .dir .now) (p .result .now) (a .stretch .left) (a .stretch .count) (a .stretch .at)
+    enter-sought (a .records .now) (a .table .now) (some (a .budget .available)) (a .dir .now) (p .result .now) (a .stretch .left) (a .stretch .count) (a .stretch .at)
     (a .place .left) (a .place .at) (e .result .left) (e .result .at) (a .depth) (i .pre .1 .0) (i .pre .1 .1 .0) (not-none (a .stretch .count) (c .before .before .before .before .before .before .before .before .before .before .if1 .left))
     (p .ensures) (e .ensures) (walkOf (a .walked)) (walkOf (q .result))
-    (enter-halves (a .records .now) (entriesAt (a .table .now) (e .result .left) (e .result .at)) (some (a .budget)) (a .dir .now)
+    (enter-halves (a .records .now) (entriesAt (a .table .now) (e .result .left) (e .result .at)) (some (a .budget .available)) (a .dir .now)
     (a .stretch .left) (a .stretch .count) (a .stretch .at)
     (h .result .low .left) (h .result .low .count) (h .result .low .at) (h .result .high .left) (h .result .high .count) (h .result .high .at)
     (i .pre .1 .0) (h .ensures) (a .depth) (walkOf (a .walked)) (walkOf (u .result)) (walkOf (q .result)) (u .ensures) (q .ensures))

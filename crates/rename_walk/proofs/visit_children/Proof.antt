@@ -12,8 +12,8 @@ use Rattle.rename_walk.proofs.visit_children.Tie as tie
 
 abbrev Inv-loop : tie.InvT-loop
 Inv-loop records table dir budget at₀ left₀ count₀ to₀ more₀ on₀ at left count to more on =
-    Visiting records table dir (some budget) (entriesAt table more₀ to₀)
-    (visits (some budget) (walkOf on₀) (children (entriesAt table more₀ to₀) (treeAt records count₀ at₀) dir))
+    Visiting records table dir (some (budget .available)) (entriesAt table more₀ to₀)
+    (visits (some (budget .available)) (walkOf on₀) (children (entriesAt table more₀ to₀) (treeAt records count₀ at₀) dir))
     left count at more to (walkOf on)
 
 abbrev μ-loop : tie.MeasureT-loop
@@ -23,7 +23,7 @@ loop-holds : tie.Need-loop-holds Inv-loop μ-loop
 loop-holds c =
     let i = c .before .before .before in
     let a = i .args in
-    visit-start (a .records .now) (a .table .now) (a .dir .now) (some (a .budget)) (a .stretch .left) (a .stretch .count) (a .stretch .at)
+    visit-start (a .records .now) (a .table .now) (a .dir .now) (some (a .budget .available)) (a .stretch .left) (a .stretch .count) (a .stretch .at)
     (a .place .left) (a .place .at) (walkOf (a .walked)) (i .pre .0) (i .pre .1 .0) (i .pre .1 .1)
 
 is-ended-requires : tie.Need-is-ended-requires Inv-loop μ-loop
@@ -34,8 +34,8 @@ returns c =
     let a = c .before .before .before .before .before .before .before .args in
     let l = c .before .before .before .loop in
     let e = c .before .is-ended in
-    visit-ended (a .records .now) (a .table .now) (a .dir .now) (some (a .budget)) (entriesAt (a .table .now) (a .place .left) (a .place .at))
-    (visits (some (a .budget)) (walkOf (a .walked)) (children (entriesAt (a .table .now) (a .place .left) (a .place .at)) (treeAt (a .records .now) (a .stretch .count) (a .stretch .at)) (a .dir .now)))
+    visit-ended (a .records .now) (a .table .now) (a .dir .now) (some (a .budget .available)) (entriesAt (a .table .now) (a .place .left) (a .place .at))
+    (visits (some (a .budget .available)) (walkOf (a .walked)) (children (entriesAt (a .table .now) (a .place .left) (a .place .at)) (treeAt (a .records .now) (a .stretch .count) (a .stretch .at)) (a .dir .now)))
     (l .left) (l .count) (l .at) (l .more) (l .to) (walkOf (l .on)) (l .inv) (sym (e .ensures) ∙ c .if1 .taken)
 
 visit-record-requires : tie.Need-visit-record-requires Inv-loop μ-loop
@@ -45,8 +45,8 @@ visit-record-requires c κs =
     let h = c .before .before .loop-test .taken in (
       l .inv .stand,
       (
-        visit-more (a .records .now) (a .table .now) (a .dir .now) (some (a .budget)) (entriesAt (a .table .now) (a .place .left) (a .place .at))
-            (visits (some (a .budget)) (walkOf (a .walked)) (children (entriesAt (a .table .now) (a .place .left) (a .place .at)) (treeAt (a .records .now) (a .stretch .count) (a .stretch .at)) (a .dir .now)))
+        visit-more (a .records .now) (a .table .now) (a .dir .now) (some (a .budget .available)) (entriesAt (a .table .now) (a .place .left) (a .place .at))
+            (visits (some (a .budget .available)) (walkOf (a .walked)) (children (entriesAt (a .table .now) (a .place .left) (a .place .at)) (treeAt (a .records .now) (a .stretch .count) (a .stretch .at)) (a .dir .now)))
             (l .left) (l .count) (l .at) (l .more) (l .to) (walkOf (l .on)) (l .inv) h,
         l .inv .entries,
       ),
@@ -58,8 +58,8 @@ next-record-requires c κs =
     let l = c .before .before .before .before .loop in
     let h = c .before .before .before .loop-test .taken in (
       l .inv .stand,
-      visit-more (a .records .now) (a .table .now) (a .dir .now) (some (a .budget)) (entriesAt (a .table .now) (a .place .left) (a .place .at))
-          (visits (some (a .budget)) (walkOf (a .walked)) (children (entriesAt (a .table .now) (a .place .left) (a .place .at)) (treeAt (a .records .now) (a .stretch .count) (a .stretch .at)) (a .dir .now)))
+      visit-more (a .records .now) (a .table .now) (a .dir .now) (some (a .budget .available)) (entriesAt (a .table .now) (a .place .left) (a .place .at))
+          (visits (some (a .budget .available)) (walkOf (a .walked)) (children (entriesAt (a .table .now) (a .place .left) (a .place .at)) (treeAt (a .records .now) (a .stretch .count) (a .stretch .at)) (a .dir .now)))
           (l .left) (l .count) (l .at) (l .more) (l .to) (walkOf (l .on)) (l .inv) h,
     )
 
@@ -76,8 +76,8 @@ loop-again c =
     let h = c .before .before .before .before .before .loop-test .taken in
     let n = c .before .next-record in
     let v = c .before .before .visit-record in
-    visit-on (a .records .now) (a .table .now) (a .dir .now) (some (a .budget)) (entriesAt (a .table .now) (a .place .left) (a .place .at))
-    (visits (some (a .budget)) (walkOf (a .walked)) (children (entriesAt (a .table .now) (a .place .left) (a .place .at)) (treeAt (a .records .now) (a .stretch .count) (a .stretch .at)) (a .dir .now)))
+    visit-on (a .records .now) (a .table .now) (a .dir .now) (some (a .budget .available)) (entriesAt (a .table .now) (a .place .left) (a .place .at))
+    (visits (some (a .budget .available)) (walkOf (a .walked)) (children (entriesAt (a .table .now) (a .place .left) (a .place .at)) (treeAt (a .records .now) (a .stretch .count) (a .stretch .at)) (a .dir .now)))
     (l .left) (l .count) (l .at) (l .more) (l .to) (walkOf (l .on)) (l .inv) h
     (n .result) (n .ensures .0) (n .ensures .1) (v .result .place .left) (v .result .place .at) (v .ensures .1) (walkOf (v .result .walked)) (v .ensures .0)
 
@@ -85,8 +85,8 @@ returns-2 : tie.Need-returns-2 Inv-loop μ-loop
 returns-2 c =
     let a = c .before .before .before .before .before .args in
     let l = c .before .loop in
-    visit-end (a .records .now) (a .table .now) (a .dir .now) (some (a .budget)) (entriesAt (a .table .now) (a .place .left) (a .place .at))
-    (visits (some (a .budget)) (walkOf (a .walked)) (children (entriesAt (a .table .now) (a .place .left) (a .place .at)) (treeAt (a .records .now) (a .stretch .count) (a .stretch .at)) (a .dir .now)))
+    visit-end (a .records .now) (a .table .now) (a .dir .now) (some (a .budget .available)) (entriesAt (a .table .now) (a .place .left) (a .place .at))
+    (visits (some (a .budget .available)) (walkOf (a .walked)) (children (entriesAt (a .table .now) (a .place .left) (a .place .at)) (treeAt (a .records .now) (a .stretch .count) (a .stretch .at)) (a .dir .now)))
     (l .left) (l .count) (l .at) (l .more) (l .to) (walkOf (l .on)) (l .inv) (search needs)
 
 pub visit-children-spec : {M : Type 1} → statement M

@@ -20,7 +20,7 @@ added-requires c κs = search needs
 returns : tie.Need-returns
 returns c = λ p n e f.
     let a = c .before .before .before .args in
-    at-dir (a .budget) (a .total) (a .len) p f n _ (sym (c .before .enum-told .given .1) ∙ e) _ (c .added .ensures)
+    at-dir (a .budget .available) (a .total) (a .len) p f n _ (sym (c .before .enum-told .given .1) ∙ e) _ (c .added .ensures)
 
 enum-told-2 : tie.Need-enum-told-2
 enum-told-2 c = search needs
@@ -37,13 +37,13 @@ added-requires-2 c κs = search needs
 returns-2 : tie.Need-returns-2
 returns-2 c = λ p n e f.
     let a = c .before .before .before .args in
-    at-file (a .budget) (a .total) (a .len) p f n _ _ (sym (c .before .enum-told2 .given .1) ∙ e) _ (c .added2 .ensures)
+    at-file (a .budget .available) (a .total) (a .len) p f n _ _ (sym (c .before .enum-told2 .given .1) ∙ e) _ (c .added2 .ensures)
 
 enum-told-3 : tie.Need-enum-told-3
 enum-told-3 c = search needs
 
 returns-3 : tie.Need-returns-3
-returns-3 c = λ p n e f. let a = c .before .before .args in at-link (a .budget) (a .total) p n (sym (c .enum-told3 .given .1) ∙ e)
+returns-3 c = λ p n e f. let a = c .before .before .args in at-link (a .budget .available) (a .total) p n (sym (c .enum-told3 .given .1) ∙ e)
 
 enum-told-4 : tie.Need-enum-told-4
 enum-told-4 c = search needs

@@ -33,9 +33,9 @@ returns c =
     let b = c .before .before .before .before .before .bare-child in
     let p = c .before .before .record-path in
     let t = entriesAt (a .table .now) (a .place .left) (a .place .at) in (
-      one-bare (a .records .now) (a .here .at) t (a .dir .now) (some (a .budget)) (walkOf (a .walked)) (b .result .bare) (b .ensures .0) (c .before .before .before .if1 .taken)
+      one-bare (a .records .now) (a .here .at) t (a .dir .now) (some (a .budget .available)) (walkOf (a .walked)) (b .result .bare) (b .ensures .0) (c .before .before .before .if1 .taken)
           (walkOf (c .visited .result))
-          (visit-here (some (a .budget)) (walkOf (a .walked)) (walkOf (c .visited .result)) (p .result .now) (recordAt (a .records .now) (a .here .at) .path)
+          (visit-here (some (a .budget .available)) (walkOf (a .walked)) (walkOf (c .visited .result)) (p .result .now) (recordAt (a .records .now) (a .here .at) .path)
           (nodeOf (recordAt (a .records .now) (a .here .at))) (p .ensures)
           (c .visited .ensures (p .result .now) (nodeOf (recordAt (a .records .now) (a .here .at))) (c .before .node-at .ensures) (search needs))),
       b .ensures .1,
@@ -46,7 +46,7 @@ returns-2 c =
     let a = c .before .before .before .before .before .before .args in
     let b = c .before .before .bare-child in
     let t = entriesAt (a .table .now) (a .place .left) (a .place .at) in (
-      one-passed (a .records .now) (a .here .at) t (a .dir .now) (some (a .budget)) (walkOf (a .walked)) (b .result .bare) (b .ensures .0) (c .if1 .left),
+      one-passed (a .records .now) (a .here .at) t (a .dir .now) (some (a .budget .available)) (walkOf (a .walked)) (b .result .bare) (b .ensures .0) (c .if1 .left),
       b .ensures .1,
     )
 

@@ -18,7 +18,7 @@ visit-from-requires c κs = search needs
 returns : tie.Need-returns
 returns c = λ p n e f.
     let a = c .before .before .before .before .args in
-    c .visit-from .ensures p n e f ∙ sym (ap (λ (w : Walked). visit (some (a .budget)) (walkOf w) p n) (c .before .before .walked .given .1))
+    c .visit-from .ensures p n e f ∙ sym (ap (λ (w : Walked). visit (some (a .budget .available)) (walkOf w) p n) (c .before .before .walked .given .1))
 
 enum-told : tie.Need-enum-told
 enum-told c = search needs
@@ -26,7 +26,7 @@ enum-told c = search needs
 returns-2 : tie.Need-returns-2
 returns-2 c = λ p n e f.
     let a = c .before .before .args in
-    ended-visit (some (a .budget)) p n (walkOf (a .walked)) _ (ap walkOf (c .enum-told .given .1)) refl
+    ended-visit (some (a .budget .available)) p n (walkOf (a .walked)) _ (ap walkOf (c .enum-told .given .1)) refl
 
 enum-told-2 : tie.Need-enum-told-2
 enum-told-2 c = search needs
@@ -34,7 +34,7 @@ enum-told-2 c = search needs
 returns-3 : tie.Need-returns-3
 returns-3 c = λ p n e f.
     let a = c .before .before .args in
-    ended-visit (some (a .budget)) p n (walkOf (a .walked)) _ (ap walkOf (c .enum-told2 .given .1)) refl
+    ended-visit (some (a .budget .available)) p n (walkOf (a .walked)) _ (ap walkOf (c .enum-told2 .given .1)) refl
 
 pub visited-spec : {M : Type 1} → statement M
 visited-spec =

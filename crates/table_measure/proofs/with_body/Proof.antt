@@ -4,11 +4,11 @@ use borrow.Author.Needs.{needs}
 use Rattle.table_measure.proofs.with_body.Statement.{statement}
 use Rattle.table_measure.proofs.with_body.Tie as tie
 
-add-t4 : tie.Need-add-t4
-add-t4 c = search needs
+body-charge-requires : tie.Need-body-charge-requires
+body-charge-requires c κs = search needs
 
-sub-t5 : tie.Need-sub-t5
-sub-t5 c = search needs
+body-charge-requires-2 : tie.Need-body-charge-requires-2
+body-charge-requires-2 c κs = search needs
 
 add-t6 : tie.Need-add-t6
 add-t6 c = search needs
@@ -16,8 +16,18 @@ add-t6 c = search needs
 sub-t7 : tie.Need-sub-t7
 sub-t7 c = search needs
 
+add-t8 : tie.Need-add-t8
+add-t8 c = search needs
+
+sub-t9 : tie.Need-sub-t9
+sub-t9 c = search needs
+
 returns : tie.Need-returns
-returns c = refl
+returns c =
+    let was = c .before .before in
+    rw (was .before .body-charge .ensures, was .body-charge2 .ensures) refl
 
 pub with-body-spec : {M : Type 1} → statement M
-with-body-spec = tie.close (tie.spec add-t4 sub-t5 add-t6 sub-t7 returns)
+with-body-spec =
+    tie.close
+    (tie.spec body-charge-requires body-charge-requires-2 add-t6 sub-t7 add-t8 sub-t9 returns)

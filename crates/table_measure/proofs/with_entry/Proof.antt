@@ -4,8 +4,8 @@ use borrow.Author.Needs.{needs}
 use Rattle.table_measure.proofs.with_entry.Statement.{statement}
 use Rattle.table_measure.proofs.with_entry.Tie as tie
 
-add-t5 : tie.Need-add-t5
-add-t5 c = search needs
+entry-memory-usage-requires : tie.Need-entry-memory-usage-requires
+entry-memory-usage-requires c κs = search needs
 
 add-t6 : tie.Need-add-t6
 add-t6 c = search needs
@@ -22,15 +22,9 @@ add-t9 c = search needs
 add-t10 : tie.Need-add-t10
 add-t10 c = search needs
 
-add-t11 : tie.Need-add-t11
-add-t11 c = search needs
-
-add-t12 : tie.Need-add-t12
-add-t12 c = search needs
-
 returns : tie.Need-returns
-returns c = refl
+returns c = rw (c .before .before .before .entry-memory-usage .ensures .0) refl
 
 pub with-entry-spec : {M : Type 1} → statement M
 with-entry-spec =
-    tie.close (tie.spec add-t5 add-t6 add-t7 add-t8 add-t9 add-t10 add-t11 add-t12 returns)
+    tie.close (tie.spec entry-memory-usage-requires add-t6 add-t7 add-t8 add-t9 add-t10 returns)

@@ -81,37 +81,21 @@ add-at c =
     let e = end (l .before .loop .inv) (l .loop-test .taken) (o .before .is-in-order .ensures) (o .if2 .left) (c .before .le16 .ensures .0) (c .le32 .ensures .0) in
     omega (arith, e)
 
+entry-memory-usage-requires : tie.Need-entry-memory-usage-requires Inv-loop μ-loop
+entry-memory-usage-requires c κs =
+    let o = c .before .before in
+    let l = o .before .before in
+    let i = l .before .loop .inv in
+    let e = end i (l .loop-test .taken) (o .before .is-in-order .ensures) (o .if2 .left) (c .before .le16 .ensures .0) (c .le32 .ensures .0) in
+    (omega (arith, i .size), omega (arith, i .small, e), omega (arith, i .small, e))
+
 add-charge : tie.Need-add-charge Inv-loop μ-loop
 add-charge c =
-    let o = c .before .before in
+    let o = c .before .before .before in
     let l = o .before .before in
     let i = l .before .loop .inv in
-    let e = end i (l .loop-test .taken) (o .before .is-in-order .ensures) (o .if2 .left) (c .before .le16 .ensures .0) (c .le32 .ensures .0) in
-    omega (arith, i .small, i .size, i .inside, i .bound, e)
-
-add-charge-2 : tie.Need-add-charge-2 Inv-loop μ-loop
-add-charge-2 c =
-    let o = c .before .before in
-    let l = o .before .before in
-    let i = l .before .loop .inv in
-    let e = end i (l .loop-test .taken) (o .before .is-in-order .ensures) (o .if2 .left) (c .before .le16 .ensures .0) (c .le32 .ensures .0) in
-    omega (arith, i .small, i .size, i .inside, i .bound, e)
-
-add-charge-3 : tie.Need-add-charge-3 Inv-loop μ-loop
-add-charge-3 c =
-    let o = c .before .before in
-    let l = o .before .before in
-    let i = l .before .loop .inv in
-    let e = end i (l .loop-test .taken) (o .before .is-in-order .ensures) (o .if2 .left) (c .before .le16 .ensures .0) (c .le32 .ensures .0) in
-    omega (arith, i .small, i .size, i .inside, i .bound, e)
-
-add-charge-4 : tie.Need-add-charge-4 Inv-loop μ-loop
-add-charge-4 c =
-    let o = c .before .before in
-    let l = o .before .before in
-    let i = l .before .loop .inv in
-    let e = end i (l .loop-test .taken) (o .before .is-in-order .ensures) (o .if2 .left) (c .before .le16 .ensures .0) (c .le32 .ensures .0) in
-    omega (arith, i .small, i .size, i .inside, i .bound, e)
+    let e = end i (l .loop-test .taken) (o .before .is-in-order .ensures) (o .if2 .left) (c .before .before .le16 .ensures .0) (c .before .le32 .ensures .0) in
+    omega (arith, i .small, i .size, i .inside, i .bound, e, c .entry-memory-usage .ensures .0)
 
 sub-left : tie.Need-sub-left Inv-loop μ-loop
 sub-left c = search needs
@@ -121,9 +105,10 @@ loop-less c = search needs
 
 loop-again : tie.Need-loop-again Inv-loop μ-loop
 loop-again c =
-    let o = c .before .before in
+    let o = c .before .before .before in
     let l = o .before .before in
-    kept-on (l .before .loop .inv) (l .loop-test .taken) (o .before .is-in-order .ensures) (o .if2 .left) (c .before .le16 .ensures .0) (c .le32 .ensures .0)
+    kept-on (l .before .loop .inv) (l .loop-test .taken) (o .before .is-in-order .ensures) (o .if2 .left) (c .before .before .le16 .ensures .0) (c .before .le32 .ensures .0)
+    (c .entry-memory-usage .ensures .0)
 
 all-zero-requires : tie.Need-all-zero-requires Inv-loop μ-loop
 all-zero-requires c κs = search needs
@@ -153,10 +138,8 @@ check-spec =
     add-from
     add-to
     add-at
+    entry-memory-usage-requires
     add-charge
-    add-charge-2
-    add-charge-3
-    add-charge-4
     sub-left
     loop-less
     loop-again

@@ -3,7 +3,7 @@ use native.Mathlib.Omega.{arith}
 use Rattle.model.specs.Map.{del}
 use Rattle.model.specs.Table.{tableIn}
 use Rattle.table_insert.proofs.Inserts.{zeros-as-long}
-use Rattle.table_remove.proofs.Removes.{gone-up, in-record, record-is, used-is, merged, fits-back}
+use Rattle.table_remove.proofs.Removes.{sought-all, used-is, merged, fits-back}
 use borrow.Author.Needs.{needs}
 use Rattle.table_remove.proofs.remove.Statement.{statement}
 use Rattle.table_remove.proofs.remove.Tie as tie
@@ -13,6 +13,16 @@ first-entry-requires c κs = search needs
 
 seek-requires : tie.Need-seek-requires
 seek-requires c κs = search needs
+
+record-without-requires : tie.Need-record-without-requires
+record-without-requires c κs =
+    let sought = c .before in
+    let first = sought .before .before in
+    let i = first .before .before .before .before .before in
+    let a = i .args in
+    let x = first .first-entry in
+    let f = sought .seek in
+    (i .pre .0, sought-all (a .table .now) (a .rec) (a .key .now) (x .result) (f .result) (x .ensures .0) (f .ensures))
 
 behind-key-requires : tie.Need-behind-key-requires
 behind-key-requires c κs = search needs
@@ -29,37 +39,11 @@ part-copy-in-end c = search needs
 copy-in-requires : tie.Need-copy-in-requires
 copy-in-requires c κs = search needs
 
-sub-without : tie.Need-sub-without
-sub-without c =
-    let on = c .before .before .before .before .before .before in
-    let sought = on .before .before in
-    let first = sought .before .before in
-    let i = first .before .before .before .before .before in
-    let a = i .args in
-    let x = first .first-entry in
-    let f = sought .seek in
-    let n = on .behind-key in
-    gone-up (a .table .now) (a .rec) (a .key .now) (x .result) (f .result) (n .result) (i .pre .0)
-    (x .ensures .0) (f .ensures) (n .ensures .0) (n .ensures .1 .0) (n .ensures .1 .1)
-
-without-requires : tie.Need-without-requires
-without-requires c κs =
-    let on = c .before .before .before .before .before .before in
-    let sought = on .before .before in
-    let first = sought .before .before in
-    let i = first .before .before .before .before .before in
-    let a = i .args in
-    let x = first .first-entry in
-    let f = sought .seek in
-    let n = on .behind-key in
-    in-record (a .table .now) (a .rec) (a .key .now) (x .result) (f .result) (n .result) (i .pre .0)
-    (x .ensures .0) (f .ensures) (n .ensures .0) (n .ensures .1 .0) (n .ensures .1 .1)
-
 finish-requires : tie.Need-finish-requires
 finish-requires c κs =
-    let copied = c .before .before .before .before .before in
+    let copied = c .before .before .before .before in
     let on = copied .before .before .before .before in
-    let sought = on .before .before in
+    let sought = on .before .before .before .before in
     let first = sought .before .before in
     let i = first .before .before .before .before .before in
     let a = i .args in
@@ -86,10 +70,10 @@ same-length-2 c = search needs
 returns : tie.Need-returns
 returns c =
     let done = c .before .before .before .before in
-    let less = done .before .before .before in
-    let copied = less .before .before .before in
+    let copied = done .before .before .before .before .before in
     let on = copied .before .before .before .before in
-    let sought = on .before .before in
+    let less = on .before .before in
+    let sought = less .before .before in
     let first = sought .before .before in
     let i = first .before .before .before .before .before in
     let a = i .args in
@@ -97,14 +81,13 @@ returns c =
     let f = sought .seek in
     let n = on .behind-key in
     let w = copied .copy-in in
-    let o = less .without in
+    let o = less .record-without in
     let e = done .finish in
     let m = merged (a .table .now) (a .rec) (a .key .now) (x .result) (f .result) (n .result) (i .pre .0)
     (x .ensures .0) (f .ensures) (n .ensures .0) (n .ensures .1 .0) (n .ensures .1 .1) (a .work .now) (w .last .0) (i .pre .1) (w .ensures) in
     let u = used-is (a .table .now) (a .rec) (a .key .now) (x .result) (f .result) (n .result) (i .pre .0)
     (x .ensures .0) (f .ensures) (n .ensures .0) (n .ensures .1 .0) (n .ensures .1 .1) in (
-      record-is (a .table .now) (a .rec) (a .key .now) (x .result) (f .result) (n .result) (i .pre .0)
-          (x .ensures .0) (f .ensures) (n .ensures .0) (n .ensures .1 .0) (n .ensures .1 .1) (o .result) (o .ensures),
+      o .ensures,
       (
         e .ensures .0 (del (a .key .now) (tableIn (a .table .now) (a .rec))) (a .key .now) m u,
         zeros-as-long (a .work .now) (w .last .0) _ (e .ensures .1) (w .kept .0),
@@ -117,13 +100,12 @@ remove-spec =
     (tie.spec
     first-entry-requires
     seek-requires
+    record-without-requires
     behind-key-requires
     sub-copy-in
     part-copy-in-start
     part-copy-in-end
     copy-in-requires
-    sub-without
-    without-requires
     finish-requires
     same-length
     same-length-2

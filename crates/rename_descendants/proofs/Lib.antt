@@ -1,4 +1,0 @@
-pub mod Parts
-pub mod Totals
-pub mod Summing
-pub mod Answers

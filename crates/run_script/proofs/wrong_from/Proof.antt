@@ -1,0 +1,72 @@
+-- `wrong_from` meets its contract: its turns are those of `check`, and each exit has its law.
+use borrow.Author.Needs.{needs}
+use Rattle.run_script.proofs.Turns.{long, step-inside}
+use Rattle.run_script.proofs.Wrongs.{Told, at-head, told, at-step, told-on, behind}
+use Rattle.run_script.proofs.wrong_from.Statement.{statement}
+use Rattle.run_script.proofs.wrong_from.Tie as tie
+
+abbrev Inv-loop : tie.InvT-loop
+Inv-loop script left₀ at₀ left at = Told script left at
+
+abbrev μ-loop : tie.MeasureT-loop
+μ-loop script left₀ at₀ left at = left
+
+is-marked-requires : tie.Need-is-marked-requires Inv-loop μ-loop
+is-marked-requires c κs = search needs
+
+returns : tie.Need-returns Inv-loop μ-loop
+returns c = at-head (c .before .before .before .args .script .now) (c .before .is-marked .ensures) (c .if1 .taken)
+
+le32-requires : tie.Need-le32-requires Inv-loop μ-loop
+le32-requires c κs = long (c .before .before .before .args .script .now) (c .before .is-marked .ensures) (c .if1 .left)
+
+loop-holds : tie.Need-loop-holds Inv-loop μ-loop
+loop-holds c =
+    let p = c .before .before in
+    told (p .before .before .args .script .now) (p .is-marked .ensures) (c .before .if1 .left) (c .le32 .result) (c .le32 .ensures .0)
+
+is-step-requires : tie.Need-is-step-requires Inv-loop μ-loop
+is-step-requires c κs = c .before .loop .inv .kept .inside
+
+returns-2 : tie.Need-returns-2 Inv-loop μ-loop
+returns-2 c =
+    let l = c .before .before in
+    at-step (l .before .loop .inv) (l .loop-test .taken) (c .before .is-step .ensures) (c .if2 .taken)
+
+end-of-requires : tie.Need-end-of-requires Inv-loop μ-loop
+end-of-requires c κs =
+    let l = c .before .before in
+    step-inside (l .before .loop .inv .kept) (l .loop-test .taken) (c .before .is-step .ensures) (c .if2 .left) .0
+
+sub-left : tie.Need-sub-left Inv-loop μ-loop
+sub-left c = search needs
+
+loop-less : tie.Need-loop-less Inv-loop μ-loop
+loop-less c = search needs
+
+loop-again : tie.Need-loop-again Inv-loop μ-loop
+loop-again c =
+    let o = c .before in
+    let l = o .before .before in
+    told-on (l .before .loop .inv) (l .loop-test .taken) (o .before .is-step .ensures) (o .if2 .left) (c .end-of .result) (c .end-of .ensures)
+
+returns-3 : tie.Need-returns-3 Inv-loop μ-loop
+returns-3 c = behind (c .before .loop .inv) (search needs)
+
+pub wrong-from-spec : {M : Type 1} → statement M
+wrong-from-spec =
+    tie.close
+    (tie.spec
+    Inv-loop
+    μ-loop
+    is-marked-requires
+    returns
+    le32-requires
+    loop-holds
+    is-step-requires
+    returns-2
+    end-of-requires
+    sub-left
+    loop-less
+    loop-again
+    returns-3)
