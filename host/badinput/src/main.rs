@@ -2,11 +2,15 @@
 //!
 //! Every buffer has its exact length and touches a page that may not be touched; listing, path and data may not be written
 //! either. After each call: the number is 0 to 13; refused, table, record and work buffer are as they were; accepted, the work
-//! buffer is all 0 and the table agrees with its record. It prints how many calls gave each number.
+//! buffer is all 0 and the table agrees with its record. It prints how many calls gave each number. Scripts of calls are run
+//! so too, with each byte changed and at random (scripts.rs).
 //!
 //! `badinput` makes over 100,000 calls, `badinput --long` over two million; `--seed N` moves them.
 mod guarded;
+mod scripts;
 mod states;
+
+use std::collections::BTreeMap;
 
 use differential::{random::Random, words::Words};
 use guarded::{Guarded, Side};
@@ -67,6 +71,7 @@ fn main() {
     let (seed, calls) = (words.seed(), if words.long() { LONG } else { SHORT });
     let (mut memory, mut random) = (Memory::new(), Random::new(seed));
     let (mut counts, mut by_byte, mut at_random) = ([0u64; 14], 0u64, 0u64);
+    let (mut run_memory, mut runs) = (scripts::Memory::new(), BTreeMap::new());
     while by_byte + at_random < calls {
         let base = states::built(&mut random);
         for input in states::byte_by_byte(&base, &mut random) {
@@ -76,10 +81,21 @@ fn main() {
             counts[memory.call(&input, &mut random) as usize] += 1;
             at_random += 1;
         }
+        let script = scripts::built(&base, &mut random);
+        for script in scripts::changed(&script, &mut random) {
+            let mut input = if random.one_in(2) { base.clone() } else { states::at_random(&base, &mut random) };
+            input.numbers[0] %= 4200;
+            let answer = run_memory.run(&input, &script, random.one_in(2), &mut random);
+            *runs.entry(answer).or_insert(0u64) += 1;
+        }
     }
     println!("bad input: seed {seed}, {} calls, {by_byte} with one change, {at_random} at random", by_byte + at_random);
     for (number, count) in counts.iter().enumerate() {
         println!("  {number:2}: {count}");
     }
-    println!("no crash; no number above 13; nothing changed where a call was refused");
+    println!("scripts: {} runs", runs.values().sum::<u64>());
+    for (answer, count) in &runs {
+        println!("  {answer:3}: {count}");
+    }
+    println!("no crash; no number above 13; nothing changed where a call was refused or a script was not run");
 }

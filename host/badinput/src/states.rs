@@ -115,7 +115,7 @@ fn limit(random: &mut Random) -> u64 {
 }
 
 /// A call with a good path on the given state.
-fn asked(input: &mut Input, random: &mut Random) {
+pub fn asked(input: &mut Input, random: &mut Random) {
     input.op = Op::any(random);
     input.paths = [path(random).into(), path(random).into()];
     if random.one_in(30) {
@@ -239,7 +239,7 @@ pub fn at_random(base: &Input, random: &mut Random) -> Input {
 }
 
 /// A few bytes changed, put in or left out.
-fn scramble(bytes: &mut Vec<u8>, random: &mut Random) {
+pub fn scramble(bytes: &mut Vec<u8>, random: &mut Random) {
     for _ in 0..1 + random.below(3) {
         let at = random.below(bytes.len() + 1);
         match random.below(3) {

@@ -1,0 +1,120 @@
+//! Scripts of calls, whole and changed, run on what the calls are given.
+//!
+//! After each run: the answer is 0, 1, 254 or 255. Not run, the report and the work buffer are as they were, and so are
+//! table and record, or the table was opened for `run_new`. Run, each row has a number from 0 to 13, what stands behind
+//! the rows is as it was, and where the table was one it is one again, with its record.
+use differential::random::Random;
+use overlay::{Mkdir, Mtime, ROW_LENGTH, Script, raw};
+
+use crate::{
+    guarded::{Guarded, Side},
+    states::{self, Input, Op},
+};
+
+const NOT_A_SCRIPT: u64 = 254;
+const SHORT_REPORT: u64 = 255;
+
+/// A script of up to five calls, made of inputs over the same state.
+pub fn built(base: &Input, random: &mut Random) -> Vec<u8> {
+    let mut script = Script::new();
+    for _ in 0..random.below(6) {
+        let mut input = base.clone();
+        states::asked(&mut input, random);
+        let ([path, to], [mtime, limit]) = (&input.paths, input.numbers);
+        let mtime = Mtime::from_bits(mtime);
+        match input.op {
+            Op::Write => script.write_bytes(path, &input.data, mtime, limit),
+            Op::Mkdir => {
+                script.mkdir(path, Mkdir { parents: input.flags[0], exist_ok: input.flags[1] }, mtime, limit);
+            }
+            Op::Unlink => script.unlink(path, limit),
+            Op::Rmdir => script.rmdir(path, limit),
+            _ => script.rename(path, to, limit),
+        }
+    }
+    script.as_ref().to_vec()
+}
+
+/// The script itself, with each byte changed, with each length up to one more, and changed at random.
+pub fn changed(script: &[u8], random: &mut Random) -> Vec<Vec<u8>> {
+    let mut scripts = vec![script.to_vec()];
+    for at in 0..script.len() {
+        let mut other = script.to_vec();
+        other[at] ^= 1 << random.below(8);
+        scripts.push(other);
+    }
+    for length in 0..script.len() + 2 {
+        let mut other = script.to_vec();
+        other.resize(length, 0);
+        scripts.push(other);
+    }
+    for _ in 0..20 {
+        let mut other = script.to_vec();
+        states::scramble(&mut other, random);
+        scripts.push(other);
+    }
+    scripts
+}
+
+/// Memory for what a run is lent.
+pub struct Memory {
+    listing: Guarded,
+    table: Guarded,
+    record: Guarded,
+    work: Guarded,
+    script: Guarded,
+    report: Guarded,
+}
+
+impl Memory {
+    pub fn new() -> Memory {
+        let new = || Guarded::new(8192);
+        Memory { listing: new(), table: new(), record: new(), work: new(), script: new(), report: new() }
+    }
+
+    /// Runs the script on the input's state, or on its table opened first. The answer.
+    pub fn run(&mut self, input: &Input, script: &[u8], opened: bool, random: &mut Random) -> u64 {
+        let mut side = || if random.below(4) == 0 { Side::Start } else { Side::End };
+        let sides = [side(), side(), side(), side(), side(), side()];
+        let length = random.below(8) * ROW_LENGTH + random.below(3);
+        let before = random.bytes(length);
+        let listing = self.listing.seal(&input.listing, sides[0]);
+        let lent_script = self.script.seal(script, sides[1]);
+        let report = self.report.hold(&before, sides[2]);
+        let table = self.table.hold(&input.table, sides[3]);
+        let record = self.record.hold(&input.record, sides[4]);
+        let work = self.work.hold(&input.work, sides[5]);
+        let was_table = raw::check_table(table, record);
+        let entry_size = input.numbers[0];
+        let mut lent = raw::Lent { table, record, work };
+        let answer = if opened {
+            raw::run_new(listing, &mut lent, lent_script, report, entry_size)
+        } else {
+            raw::run(listing, &mut lent, lent_script, report)
+        };
+        let told = || format!("{answer} for {script:02x?} opened {opened}: {input:?}");
+        match answer {
+            0 => {
+                let steps = u32::from_le_bytes(script[4..8].try_into().expect("four bytes")) as usize;
+                for row in report[..steps * ROW_LENGTH].chunks(ROW_LENGTH) {
+                    assert!(row[0] <= 13 && row[1..8].iter().all(|byte| *byte == 0), "a row's number: {}", told());
+                }
+                let behind = steps * ROW_LENGTH..;
+                assert!(report[behind.clone()] == before[behind], "behind the rows: {}", told());
+                let sound = opened || was_table;
+                assert!(!sound || raw::check_table(lent.table, lent.record), "no table: {}", told());
+            }
+            1 | NOT_A_SCRIPT | SHORT_REPORT => {
+                assert!(report == before && lent.work == input.work, "report or work changed: {}", told());
+                if opened && answer != 1 {
+                    assert!(lent.table.iter().all(|byte| *byte == 0), "not opened: {}", told());
+                    assert!(lent.record == [0, 0, 0, entry_size], "not the empty record: {}", told());
+                } else {
+                    assert!(lent.table == input.table && lent.record == input.record, "table changed: {}", told());
+                }
+            }
+            _ => panic!("an answer that no run has: {}", told()),
+        }
+        answer
+    }
+}
