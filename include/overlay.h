@@ -1,8 +1,8 @@
 /* overlay.h: an overlay file table over a published listing, for programs in C.
  *
  * Link with liboverlay.a (`rt staticlib overlay` writes it to target/staticlib; x86-64 Linux).
- * The library has no state and calls nothing but memcpy, memmove and memset of the C library. Threads may call it at once, each
- * with buffers of its own.
+ * The library has no state and calls nothing but memcpy, memmove and memset of the C library. Threads may call it at
+ * once, each with buffers of its own.
  *
  * WHAT IS LENT. Every buffer is a pointer and a length, counted in elements (bytes, or 64-bit numbers for a record).
  * Any bytes and any numbers may be given: each call checks what it is lent. What C itself asks is left to the caller:
@@ -14,15 +14,16 @@
  *
  * A REFUSED CALL CHANGES NOTHING: table, record and work buffer are byte for byte as they were. Only overlay_run_new
  * may leave the table opened where it does not run the script.
- * An accepted changing call leaves the table with its new record, and the work buffer all 0.
+ * An accepted changing call leaves the table with its new record, and the work buffer all 0; a script, as its last call
+ * leaves them.
  *
  * THE LISTING holds the published tree, at most 16 MiB of it: the mark "RDL", a 16-bit version 1, a 32-bit count,
  * then the records: path length (16 bits), kind (8 bits: 1 directory, 2 file, 3 link), mtime (the bits of a double),
  * size (64 bits), path. The paths ascend by their bytes. All numbers are little-endian.
  *
- * THE TABLE is a buffer of at most 16 MiB that overlay_open_table makes empty. Its entries ascend by key from the
- * start, and all bytes behind them are 0. An entry: key length (16 bits), kind (16 bits: 1 own file, 2 reference to a
- * listed file, 3 directory, 4 deleted), body length (32 bits), mtime bits (64), size (64), key, body.
+ * THE TABLE is a buffer of at most 16 MiB that overlay_open_table or overlay_run_new makes empty. Its entries ascend by
+ * key from the start, and all bytes behind them are 0. An entry: key length (16 bits), kind (16 bits: 1 own file, 2
+ * reference to a listed file, 3 directory, 4 deleted), body length (32 bits), mtime bits (64), size (64), key, body.
  *
  * A PATH is not ended by a 0 byte. It is empty (the root), or components joined by single '/': UTF-8, at most 512
  * bytes and 32 components, a component of 1 to 255 bytes, not "." or "..", without byte 0, backslash or colon.
@@ -44,7 +45,7 @@ extern "C" {
 #define OVERLAY_RECORD_USED 0       /* the bytes of the entries */
 #define OVERLAY_RECORD_COUNT 1      /* the number of entries */
 #define OVERLAY_RECORD_CHARGE 2     /* the sum over the entries of 256 + key length + entry size + body length */
-#define OVERLAY_RECORD_ENTRY_SIZE 3 /* what was given to overlay_open_table */
+#define OVERLAY_RECORD_ENTRY_SIZE 3 /* what was given when the table was opened */
 
 #define OVERLAY_MAX_BUFFER 16777216 /* the bytes of the longest table, and of the longest listing */
 #define OVERLAY_MAX_ENTRY_SIZE 4096
@@ -140,13 +141,15 @@ uint64_t overlay_rename(const uint8_t *listing, size_t listing_length, uint8_t *
 /* Runs a script on the table. The answer is 0 if its calls were made, whatever each of them answered; table, record and
  * work buffer are then those after the last. With any other answer nothing is changed: OVERLAY_MALFORMED_SCRIPT,
  * OVERLAY_SHORT_REPORT, or OVERLAY_MALFORMED_TABLE if the record is not four numbers. If the table does not agree with
- * its record, each call is refused with 1, in its row. */
+ * its record, or the work buffer is shorter than the table, each call is refused with 1, in its row; if the listing is
+ * malformed, with 2. */
 uint64_t overlay_run(const uint8_t *listing, size_t listing_length, uint8_t *table, size_t table_length,
                      uint64_t *record, size_t record_length, uint8_t *work, size_t work_length,
                      const uint8_t *script, size_t script_length, uint8_t *report, size_t report_length);
 
-/* Makes the buffer an empty table as overlay_open_table does, and runs a script on it. With OVERLAY_MALFORMED_TABLE
- * nothing is changed; with OVERLAY_MALFORMED_SCRIPT or OVERLAY_SHORT_REPORT the table is empty, with its record. */
+/* Makes the buffer an empty table as overlay_open_table does, and runs a script on it as overlay_run does. With
+ * OVERLAY_MALFORMED_TABLE, where the opening is refused or the record is not four numbers, nothing is changed; with
+ * OVERLAY_MALFORMED_SCRIPT or OVERLAY_SHORT_REPORT the table is empty, with its record, and the rest is as it was. */
 uint64_t overlay_run_new(const uint8_t *listing, size_t listing_length, uint8_t *table, size_t table_length,
                          uint64_t *record, size_t record_length, uint8_t *work, size_t work_length,
                          const uint8_t *script, size_t script_length, uint8_t *report, size_t report_length,

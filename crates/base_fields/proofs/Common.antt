@@ -13,7 +13,7 @@ use lib.Seq.{drop-cons}
 use borrow.Author.Tests.{lt-ltb, le-ltb, ltb-true, ltb-false, eq-eqb, ne-eqb}
 use Rattle.model.specs.Bytes.{Bytes, byOrder, order, before}
 use Rattle.model.proofs.Orders.{bot, yea, nay, test, NatOrder, nat-lt, nat-eq, nat-gt, nat-order}
-use Rattle.model.proofs.Orders.{Lt, Lt-irrefl, Lt-trans, Lt-≢, Cmp, cmp}
+use Rattle.model.proofs.Orders.{Lt, Lt-irrefl, Lt-trans, Lt-≢, Cmp, cmp, none-before}
 use Rattle.base_fields.specs.Read.{common}
 
 -- by the first bytes: the same, and the rest decides, or not, and they decide
@@ -87,10 +87,6 @@ less-ltb x y = elim (nat-order x y) as (λ o z. byOrder o true false false ≡ l
   | nat-gt l ↦ sym (le-ltb x y (omega arith))
 ]
 
-before-none : (s : Bytes) → before s [] ≡ false
-before-none [] = refl
-before-none (a ∷ s) = refl
-
 -- the order, where one has no bytes but those n in common
 module _ (a b : Bytes) (n : ℕ) (e : n ≡ common a b) where
   behind : order a b ≡ order (drop n a) (drop n b)
@@ -106,7 +102,7 @@ module _ (a b : Bytes) (n : ℕ) (e : n ≡ common a b) where
   order-both-end h k = behind ∙ rw (drop-of-length-le a h, drop-of-length-le b k)
 
   pub before-ended : length b ≤ n → before a b ≡ false
-  before-ended k = rw (behind, drop-of-length-le b k) (before-none (drop n a))
+  before-ended k = rw (behind, drop-of-length-le b k) (none-before (drop n a))
 
 -- the first bytes that are not in common differ, and decide
 pub getD-apart : (a b : Bytes) (n : ℕ) → n ≡ common a b → n < length a → n < length b
@@ -147,6 +143,12 @@ Lt-before a b l = elim (cmp a b) [
   | Cmp.lt k w ↦ cc
   | Cmp.eq e w ↦ absurd (Lt-≢ a b l e)
   | Cmp.gt k w ↦ absurd (Lt-irrefl a (Lt-trans a b a l k))
+]
+
+pub not-before : (a b : Bytes) → Lt a b → before b a ≡ false
+not-before a b l = elim (test (before b a)) [
+  | yea z ↦ absurd (Lt-irrefl b (Lt-trans b a b (before-Lt b a z) l))
+  | nay z ↦ z
 ]
 
 -- what is before another does not have all of it in common

@@ -177,7 +177,7 @@ pub fn zero_from(t: &mut [u8], from: usize)
     }
 }
 
-// Whether every byte from `from` on is 0. It reads up to the first that is not.
+// Whether every byte from `from` on is 0. It reads them all.
 pub fn all_zero(s: &[u8], from: usize) -> bool
     ensures { λ r. ⌜ r ≡ zeros (drop from (now (s .entry))) ⌝ }
 {

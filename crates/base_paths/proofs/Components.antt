@@ -1,7 +1,7 @@
 -- How many components a path has: a slash adds one, any other byte none.
-use mathlib.Core.Path.{_≡_, refl, ap, _∙_}
+use mathlib.Core.Path.{_≡_, ap, _∙_}
 use mathlib.Core.Bool.{cond, _&&_}
-use mathlib.Core.List.{List, [], _∷_}
+use mathlib.Core.List.{List, _∷_}
 use Prim.Native.Nat.{ℕ, suc, _+_, _<_, _≤_}
 use native.Mathlib.Omega.{arith}
 use native.Mathlib.Numerals.{add-one}
@@ -10,8 +10,9 @@ use lib.ListN.{length, getD, drop, drop-of-length-le}
 use lib.Seq.{drop-cons}
 use borrow.Author.Tests.{eq-eqb, ne-eqb}
 use Rattle.model.specs.Bytes.{Bytes}
-use Rattle.model.specs.Path.{Path, components, onFirst, short}
+use Rattle.model.specs.Path.{Path, components, short}
 use Rattle.model.proofs.Orders.{yea, nay, test}
+use Rattle.model.proofs.Texts.{onFirst-length}
 
 pub is-slash : (b : ℕ) → b ≡ 47 → _≡_ {A = ℕ} 1 (cond (eqb b 47) 1 0)
 is-slash b e = rw (eq-eqb b 47 e)
@@ -26,15 +27,10 @@ at-most-one b r e = elim (test (eqb b 47)) [
   | nay z ↦ (let u : r ≡ 0 = e ∙ rw z in omega arith)
 ]
 
--- a byte put to the first component leaves their number
-same-number : (b : ℕ) (cs : List Bytes) → length (onFirst b cs) ≡ length cs
-same-number b [] = refl
-same-number b (c ∷ cs) = refl
-
 one-more : (b : ℕ) (s : Path) → length (components (b ∷ s)) ≡ cond (eqb b 47) 1 0 + length (components s)
 one-more b s = elim (test (eqb b 47)) [
   | yea z ↦ (rw z (omega arith))
-  | nay z ↦ (rw z (same-number b (components s) ∙ (omega arith)))
+  | nay z ↦ (rw z (onFirst-length b (components s) ∙ (omega arith)))
 ]
 
 -- the loop of `component_count`: n were counted up to i, one of them for the component that i lies in

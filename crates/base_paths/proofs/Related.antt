@@ -12,6 +12,7 @@ use borrow.Author.Tests.{eq-eqb, ne-eqb, le-ltb}
 use Rattle.model.specs.Bytes.{Bytes, before}
 use Rattle.model.specs.Path.{Path, below, slashless, child}
 use Rattle.base_fields.specs.Read.{common}
+use Rattle.model.proofs.Orders.{none-before}
 use Rattle.base_fields.proofs.Common.{alike, apart, heads, before-apart}
 
 -- `below` by the bytes in common
@@ -93,11 +94,6 @@ module _ (q : Path) (i : ℕ) (b : Bool) (e : slashless (drop i q) ≡ b) where
 
   pub slash-none : length q ≤ i → true ≡ b
   slash-none h = let f : slashless (drop i q) ≡ true = rw (drop-of-length-le q h) in sym f ∙ e
-
--- `before` a path with one byte behind it
-none-before : (s : Bytes) → before s [] ≡ false
-none-before [] = refl
-none-before (x ∷ s) = refl
 
 -- a key of no bytes but those in common
 pub with-over : (k d : Bytes) (b n : ℕ) → n ≡ common k d → length k ≤ n → true ≡ before k (d ++ (b ∷ []))

@@ -9,11 +9,12 @@ use lib.ListN.{length, length-map, take}
 use lib.Seq.{length-take-le}
 use borrow.Author.Tests.{ltb-true, ltb-false, lt-ltb, le-leb}
 use Rattle.model.specs.Bytes.{Bytes, consIf}
-use Rattle.model.specs.Path.{Path, onFirst, components, isPath, ancestors}
+use Rattle.model.specs.Path.{Path, components, isPath, ancestors}
 use Rattle.model.specs.Tree.{Kind, isNothing, isDirectory}
 use Rattle.model.specs.Checks.{Check, pass, _then_, ancestorAt, ancestorsIn, missing}
 use Rattle.model.proofs.Orders.{yea, nay, test}
 use Rattle.model.proofs.Codec.{path-shallow}
+use Rattle.model.proofs.Texts.{onFirst-length}
 use Rattle.base_paths.specs.Ancestors.{nextSlash, ancestorsFrom}
 use Rattle.base_paths.proofs.Ancestors.{begin, turn, done}
 use Rattle.check_judged.specs.Judged.{refuses}
@@ -25,16 +26,12 @@ use Rattle.base_paths.proofs.Ends.{climbs-front, climbs-step}
 use Rattle.check_parents.proofs.Parents.{proper}
 
 -- a path has one ancestor less than components
-first-length : (b : ℕ) (cs : List Bytes) → length (onFirst b cs) ≡ length cs
-first-length b [] = refl
-first-length b (c ∷ cs) = refl
-
 ancestor-count : (p : Path) → suc (length (ancestors p)) ≡ length (components p)
 ancestor-count [] = refl
 ancestor-count (b ∷ p) =
     let ih = ancestor-count p in
     let e = length-map (ancestors p) (λ (q : Path). b ∷ q) in
-    let f = first-length b (components p) in
+    let f = onFirst-length b (components p) in
     elim (test (eqb b 47)) [ yea w ↦ rw w (ap suc (ap suc e ∙ ih)) | nay w ↦ rw w (ap suc e ∙ ih ∙ sym f) ]
 
 -- one that is missing is counted to those found, or is the first to come

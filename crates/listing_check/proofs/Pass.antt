@@ -13,9 +13,9 @@ use Rattle.model.specs.Tree.{Node, Tree, kind, isDirectory}
 use Rattle.model.specs.Listing.{ListingRecord, recordAt, recordEnd, recordCount, filled, recordsFrom, headed, ruled, nodeOf}
 use Rattle.model.specs.Listing.{treeFrom, treeIn, placed, formedRecord, isListing}
 use Rattle.model.proofs.Orders.{Lt, Lt-trans, Lt-≢, same-no, same-refl, Split, split, is-none, is-some, opt}
-use Rattle.model.proofs.Orders.{mem, mem-ancestors, below-rest, rest-is}
+use Rattle.model.proofs.Orders.{mem, mem-ancestors, below-Lt}
 use Rattle.model.proofs.Maps.{above-trans, lookup-low, orElse, ascends-is}
-use Rattle.base_fields.proofs.Common.{Lt-append, before-Lt}
+use Rattle.base_fields.proofs.Common.{before-Lt}
 use Rattle.listing_check.specs.Turn.{fits, formedAlone}
 
 -- whether a tree has a directory at q; what a record adds to the tree
@@ -70,9 +70,6 @@ every-same f g [] h = refl
 every-same f g (k ∷ qs) h =
     ap₂ _&&_ (h k (cc (same-refl k))) (every-same f g qs (λ q m. h q (elim (split k q) [ Split.eq e w ↦ cc | Split.ne e w ↦ cc ])))
 
-pub above-is-before : (q p : Path) → below q p ≡ true → Lt q p
-above-is-before q p h = let b = below-rest q p h in rw (rest-is q p _ (b .1) .0) (Lt-append q 47 (b .0))
-
 pub directory-same : (l m : Tree) (q : Path) → lookup l q ≡ lookup m q → directoryAt l q ≡ directoryAt m q
 directory-same l m [] h = refl
 directory-same l m (c ∷ q) h = rw h
@@ -90,7 +87,7 @@ module _ (p : Path) (seen : Tree) (w : Behind p seen) (r : ListingRecord) (o : L
     early a =
         let u = ascends-is (r .path) (treeFrom rs) a in
         every-same (directoryAt (noted r ∷ seen)) (directoryAt all) (ancestors (r .path)) (λ q m.
-        let l : Lt q (r .path) = above-is-before q (r .path) (sym (mem-ancestors (r .path) q) ∙ m) in
+        let l : Lt q (r .path) = below-Lt q (r .path) (sym (mem-ancestors (r .path) q) ∙ m) in
         let z : lookup (treeFrom rs) q ≡ none = lookup-low q (treeFrom rs) (above-trans q (r .path) (treeFrom rs) l (u .0)) (u .1) in
         directory-same (noted r ∷ seen) all q (sym (parts-more q ∙ ap (orElse (lookup (noted r ∷ seen) q)) z ∙ or-none (lookup (noted r ∷ seen) q))))
 

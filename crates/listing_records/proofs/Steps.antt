@@ -1,7 +1,6 @@
 -- The steps of a walk: the prefixes of a path ascend, and nothing is listed below what is no directory.
 use mathlib.Core.Path.{_≡_, refl, sym, ap, _∙_}
 use mathlib.Core.Bool.{Bool, true, false, not, _&&_}
-use mathlib.Core.Logic.{inr}
 use mathlib.Core.List.{List, [], _∷_}
 use mathlib.Core.Option.{Option, none, some}
 use Prim.Native.Nat.{ℕ, zero, suc, _+_, _<_, _≤_}
@@ -14,7 +13,7 @@ use Rattle.model.specs.Path.{Path, isPath, ancestors, below, endsHere}
 use Rattle.model.specs.Map.{lookup}
 use Rattle.model.specs.Tree.{Node, dir, file, link, Tree, View, Kind, kind, kindOf, isDirectory}
 use Rattle.model.specs.Listing.{ListingRecord, recordAt, recordEnd, recordCount, records, ruled, treeFrom, treeIn, placed, formedRecord, isListing}
-use Rattle.model.proofs.Orders.{Lt, Lt-trans, Lt-≢, same-no, Split, split, mem, mem-ancestors, yea, nay, test, bot, and-true}
+use Rattle.model.proofs.Orders.{Lt, Lt-trans, Lt-≢, fronts-ascend, same-no, Split, split, mem, mem-ancestors, yea, nay, test, bot, and-true}
 use Rattle.model.proofs.Maps.{ascends-is}
 use Rattle.model.proofs.Formed.{every-mem}
 use Rattle.base_fields.proofs.Common.{before-Lt}
@@ -35,13 +34,7 @@ found-kind (some (dir m)) = refl
 found-kind (some (file m z b)) = refl
 found-kind (some link) = refl
 
--- a front of a path is before a longer one; where a component ends with it, the longer one is below it
-fronts-ascend : (p : Path) (k j : ℕ) → k < j → j ≤ length p → Lt (take k p) (take j p)
-fronts-ascend [] k j h l = absurd (omega arith)
-fronts-ascend (b ∷ p) k zero h l = absurd (omega arith)
-fronts-ascend (b ∷ p) zero (suc j) h l = tt
-fronts-ascend (b ∷ p) (suc k) (suc j) h l = inr (refl, fronts-ascend p k j (omega arith) (omega arith))
-
+-- where a component ends with a front of a path, a longer front is below it
 fronts-below : (p : Path) (k j : ℕ) → endsHere (drop k p) ≡ true → k < j → j ≤ length p → below (take k p) (take j p) ≡ true
 fronts-below [] k j e h l = absurd (omega arith)
 fronts-below (b ∷ p) k zero e h l = absurd (omega arith)

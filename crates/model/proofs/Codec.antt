@@ -118,7 +118,8 @@ fit (reference m z p) h w l =
 fit (directory m) h w l = record { type = omega arith; body = l; mtime = w; size = omega arith }
 fit deleted h w l = record { type = omega arith; body = l; mtime = omega arith; size = omega arith }
 
-same-entry : (e : Entry) → entryOf (typeOf e) (mtimeOf e) (sizeOf e) (bodyOf e) ≡ e
+-- the fields and the body of an entry make it again
+pub same-entry : (e : Entry) → entryOf (typeOf e) (mtimeOf e) (sizeOf e) (bodyOf e) ≡ e
 same-entry (own m c) = refl
 same-entry (reference m z p) = refl
 same-entry (directory m) = refl

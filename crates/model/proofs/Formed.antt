@@ -33,6 +33,7 @@ use Rattle.model.proofs.Moves.{Held}
 use Rattle.model.proofs.Agree.{pass-at, later}
 use Rattle.model.proofs.Words.{Word, Worded, Words, WordedCall, IsBytes}
 use Rattle.model.proofs.Texts.{path-ancestor, path-moved}
+use Rattle.model.proofs.Small.{root-refused}
 
 -- an entry e at the key k
 pub record Fine (k : Path) (e : Entry) : Type 0 where
@@ -332,10 +333,6 @@ unlink-proper : (t : Table) (l : Tree) → FineTable t → (p : Path) → unlink
 unlink-proper t l f [] h z = bot (cc (root-bare t f))
 unlink-proper t l f (c ∷ p) h z = bot (cc)
 
-proper-path : (w : ℕ) (p : Path) → notRoot w p ≡ pass → p ≡ [] → ⊥
-proper-path w [] h z = bot (cc)
-proper-path w (c ∷ p) h z = bot (cc)
-
 mkdir-fine : (t : Table) (f : View) (p : Path) (m : ℕ) → FineTable t → Word m → isPath p ≡ true → FineTable (puts (each (directory m) (makes f p)) t)
 mkdir-fine t f p m i w h = fine-puts (each (directory m) (makes f p)) t i (λ k e g.
     let u = each-found (directory m) (makes f p) k e g in
@@ -408,8 +405,8 @@ module _ (E limit : ℕ) (t : Table) (l : Tree) (a b : Path) where
   rename-says : renameChecks (limited E limit) t l a b ≡ pass
       → (a ≡ [] → ⊥) × (b ≡ [] → ⊥) × (every short (keys (rekey a b (carried t l a))) ≡ true)
   rename-says h = let m = limited E limit in (
-    proper-path 0 a (pass-at 0 (notRoot 0 a) (later m t l a b) h),
-    proper-path 1 b (pass-at 1 (notRoot 0 a) (later m t l a b) h),
+    root-refused 0 a (pass-at 0 (notRoot 0 a) (later m t l a b) h),
+    root-refused 1 b (pass-at 1 (notRoot 0 a) (later m t l a b) h),
     unless-true 12 (every short (keys (rekey a b (carried t l a)))) (pass-at 14 (notRoot 0 a) (later m t l a b) h),
   )
     where
@@ -429,7 +426,7 @@ changed-fine t l (unlink p) E limit f g w h r =
     delete-fine t p f (form-is 0 p h) (unlink-proper t l f p (u .0))
 changed-fine t l (rmdir p) E limit f g w h r =
     let u = then-pass (rmdirChecks t l p) (charged (limited E limit) (put p deleted t)) r in
-    delete-fine t p f (form-is 0 p h) (proper-path 0 p (then-pass (notRoot 0 p) _ (u .0) .0))
+    delete-fine t p f (form-is 0 p h) (root-refused 0 p (then-pass (notRoot 0 p) _ (u .0) .0))
 changed-fine t l (rename a b) E limit f g w h r =
     let u = then-pass (form 0 a) (form 1 b) h in
     let v = rename-says E limit t l a b r in

@@ -4,10 +4,11 @@ use mathlib.Core.List.{List, [], _∷_, _++_, map, append-nil}
 use mathlib.Core.Bool.{Bool, true, false, _&&_, _||_, not}
 use mathlib.Core.Logic.{_⊎_, inl, inr}
 use mathlib.Core.Option.{Option, none, some}
-use Prim.Native.Nat.{ℕ, zero, suc, _<_, compare, Ordering, Ordering·lt, Ordering·eq, Ordering·gt}
+use Prim.Native.Nat.{ℕ, zero, suc, _<_, _≤_, compare, Ordering, Ordering·lt, Ordering·eq, Ordering·gt}
 use Prim.Native.Nat.{compare·zero-zero, compare·zero-suc, compare·suc-zero, compare·suc-suc}
 use native.Mathlib.Omega.{arith}
 use lib.Dec.{isEq, eqb, eqb→eq}
+use lib.ListN.{length, take}
 use Rattle.model.specs.Bytes.{byOrder, order, same, before}
 use Rattle.model.specs.Path.{Path, below, ancestors, endsHere, rest}
 
@@ -234,6 +235,20 @@ below-rest (x ∷ a) (c ∷ cs) h = let e = and-true (eqb x c) (below a cs) h in
     go : eqb x c ≡ true → (r : Path) × (rest a cs ≡ some (47 ∷ r)) → (r : Path) × (rest (x ∷ a) (c ∷ cs) ≡ some (47 ∷ r))
     go e p = (p .0, cc (p .1))
 
+-- what is below a stands behind a
+pub below-Lt : (a k : Path) → below a k ≡ true → Lt a k
+below-Lt [] [] h = absurd (bot (cc))
+below-Lt [] (c ∷ k) h = tt
+below-Lt (x ∷ a) [] h = absurd (bot (cc))
+below-Lt (x ∷ a) (c ∷ k) h = let e = and-true (eqb x c) (below a k) h in inr (eqb-eq x c (e .0), below-Lt a k (e .1))
+
+-- a front of a path is before a longer one
+pub fronts-ascend : (p : Path) (k j : ℕ) → k < j → j ≤ length p → Lt (take k p) (take j p)
+fronts-ascend [] k j h l = absurd (omega arith)
+fronts-ascend (b ∷ p) k zero h l = absurd (omega arith)
+fronts-ascend (b ∷ p) zero (suc j) h l = tt
+fronts-ascend (b ∷ p) (suc k) (suc j) h l = inr (refl, fronts-ascend p k j (omega arith) (omega arith))
+
 pub rest-below : (a k : Path) (c : ℕ) (r : Path) → rest a k ≡ some (c ∷ r) → below a k ≡ true
 rest-below [] [] c r h = cc
 rest-below [] (x ∷ k) c r h = elim (test (eqb x 47)) [ yea e ↦ e | nay e ↦ cc ]
@@ -285,11 +300,11 @@ below-split b q k r h g e = let f = below-rest q k g in go (inside-both q b k (4
 pub below-moved : (a b q k s r : Path) → rest b q ≡ some s → rest b k ≡ some r → below q k ≡ true → below (a ++ s) (a ++ r) ≡ true
 below-moved a b q k s r h g e = cc (below-app a s r, below-app b s r, rest-is b q s h .0, rest-is b k r g .0)
 
--- "below means from `a/` up to, not including, `a0`": 47 is the slash, 48 the 0
-none-before : (k : Path) → before k [] ≡ false
+pub none-before : (k : Path) → before k [] ≡ false
 none-before [] = refl
 none-before (d ∷ k) = refl
 
+-- "below means from `a/` up to, not including, `a0`": 47 is the slash, 48 the 0
 slash-only : (c : ℕ) (k : Path) → eqb c 47 ≡ (not (before (c ∷ k) (47 ∷ [])) && before (c ∷ k) (48 ∷ []))
 slash-only c k = go (nat-order c 47) refl (nat-order c 48) refl
   where

@@ -56,7 +56,7 @@ module _ (t : Table) (l : Tree) (i : Inv t l) (p : Path) where
       inv-put t l i p deleted (λ q n b s. nd (i .closed p q n b s)) (λ n q v b. absurd (bot (cc))) (r .1) (λ m′ s q z. cc) (r .0)
 
 -- mkdir
-or-cases : (a b : Bool) → (a || b) ≡ true → (a ≡ true) ⊎ (b ≡ true)
+pub or-cases : (a b : Bool) → (a || b) ≡ true → (a ≡ true) ⊎ (b ≡ true)
 or-cases true b h = inl refl
 or-cases false b h = inr h
 
@@ -238,7 +238,7 @@ rmdir-dir n aDirectory h = refl
 rmdir-dir n aFile h = cc
 rmdir-dir n aLink h = cc
 
-root-refused : (w : ℕ) (p : Path) → notRoot w p ≡ pass → p ≡ [] → ⊥
+pub root-refused : (w : ℕ) (p : Path) → notRoot w p ≡ pass → p ≡ [] → ⊥
 root-refused w [] h e = bot (cc)
 root-refused w (c ∷ p) h e = bot (cc)
 

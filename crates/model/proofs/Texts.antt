@@ -55,6 +55,11 @@ first : (a : Path) → (c : Bytes) × (cs : List Bytes) × (components a ≡ c �
 first [] = ([], [], refl)
 first (b ∷ a) = let e = first a in elim (test (eqb b 47)) [ yea w ↦ ([], components a, cc) | nay w ↦ (b ∷ e .0, e .1, cc (e .2)) ]
 
+-- a byte put to the first component leaves their number
+pub onFirst-length : (b : ℕ) (cs : List Bytes) → length (onFirst b cs) ≡ length cs
+onFirst-length b [] = refl
+onFirst-length b (c ∷ cs) = refl
+
 onFirst-app : (b : ℕ) (c : Bytes) (xs cs ds : List Bytes) → xs ≡ c ∷ cs → onFirst b (xs ++ ds) ≡ onFirst b xs ++ ds
 onFirst-app b c xs cs ds h = cc
 

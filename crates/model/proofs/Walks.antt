@@ -10,12 +10,13 @@ use native.Mathlib.Omega.{arith}
 use lib.ListN.{length}
 use lib.Dec.{eqb, leb, leb→le, nleb→lt}
 use Rattle.model.specs.Bytes.{Bytes, consIf}
-use Rattle.model.specs.Path.{Path, components, onFirst, below, child, slashless}
+use Rattle.model.specs.Path.{Path, components, below, child, slashless}
 use Rattle.model.specs.Map.{isNone, lookup, only}
 use Rattle.model.specs.Tree.{Node, dir, file, link, Entry, Table, Tree, kindOf, isDirectory}
 use Rattle.model.specs.Rename.{Walk, sum, overBudget, atLink, inBudget, visit, visits, children, lastFirst, enter, walk, depth, walkFrom}
 use Rattle.model.proofs.Orders.{bot, yea, nay, test, and-true, eqb-eq, split, Split, mem, same-refl, below-trans}
 use Rattle.model.proofs.Maps.{Ascending, lookup-low, lookup-only, ascending-only}
+use Rattle.model.proofs.Texts.{onFirst-length}
 use Rattle.model.proofs.Invariant.{Closed, kind-at, node-at, no-node, a-dir, a-file, a-link}
 use Rattle.model.proofs.Rules.{child-below, child-root, way}
 
@@ -23,14 +24,10 @@ use Rattle.model.proofs.Rules.{child-below, child-root, way}
 abbrev pub level : Path → ℕ
 level p = length (components p)
 
-level-same : (b : ℕ) (cs : List Bytes) → length (onFirst b cs) ≡ length cs
-level-same b [] = refl
-level-same b (c ∷ cs) = refl
-
 level-cons : (b : ℕ) (s : Path) → level (b ∷ s) ≡ cond (eqb b 47) 1 0 + level s
 level-cons b s = elim (test (eqb b 47)) [
   | yea e ↦ rw e (omega arith)
-  | nay e ↦ let f = level-same b (components s) in rw e (omega arith)
+  | nay e ↦ let f = onFirst-length b (components s) in rw e (omega arith)
 ]
 
 level-some : (p : Path) → 1 ≤ level p

@@ -9,7 +9,7 @@ ghost use lib.ListN.{length};
 use libc::STDOUT_FILENO;
 use run_calls::RanNew;
 
-// What each entry is charged beside its bytes, as the Rust has it.
+// The entry size E, as the Rust has it.
 const ENTRY_SIZE: u64 = 40;
 
 const FILE_HEAD: usize = 8;

@@ -13,7 +13,7 @@ ghost use Prim.Native.Nat.{_≤_};
 ghost use lib.ListN.{length};
 use run_calls::RanNew;
 
-// What each entry is charged beside its bytes, as the Rust has it.
+// The entry size E, as the Rust has it.
 const ENTRY_SIZE: u64 = 40;
 
 // The arguments.

@@ -14,7 +14,8 @@ use Rattle.model.specs.Tree.{Entry, Table, Tree}
 use Rattle.model.specs.Listing.{recordAt, recordEnd, nodeOf}
 use Rattle.model.specs.Table.{keyAt, entryAt, entryEnd, entriesAt}
 use Rattle.model.specs.Rename.{asEntry, uncovered}
-use Rattle.model.proofs.Orders.{bot, and-true, is-none, is-some, opt, yea, nay, test}
+use Rattle.model.proofs.Orders.{bot, and-true, yea, nay, test}
+use Rattle.model.proofs.Walks.{free-is}
 use Rattle.model.proofs.Maps.{Above, Ascending, above-puts, above-only, above-mapped, ascends-is, is-ascends, ascending-puts, ascending-only, ascending-mapped, lookup-only, every-only}
 use Rattle.base_fields.proofs.Common.{before-Lt}
 use Rattle.listing_records.specs.Place.{treeAt}
@@ -31,13 +32,10 @@ use Rattle.rename_carried.specs.declared.Head.{Head}
 use Rattle.rename_carried.specs.declared.Head.the-variants as next
 use Rattle.rename_carried.proofs.Merges.{puts-first, puts-second, before-first, behind-first, carried-parts}
 
-none-is : (o : Option Entry) → isNone o ≡ true → o ≡ none
-none-is o h = elim (opt o) [ is-none e ↦ e | is-some x e ↦ absurd (bot (cc)) ]
-
 -- an uncovered path has no entry
 no-entry : (t : Table) (a q : Path) → uncovered t a q ≡ true → lookup t q ≡ none
 no-entry t a q h =
-    none-is (lookup t q) (and-true (isNone (lookup t q)) (every (λ p. not (below a p) || isNone (lookup t p)) (ancestors q)) h .0)
+    free-is (lookup t q) (and-true (isNone (lookup t q)) (every (λ p. not (below a p) || isNone (lookup t p)) (ancestors q)) h .0)
 
 -- n entries from `at` on in `own`, and the uncovered ones of m records from `to` on in `part`
 module _ (own part : Bytes) (t : Table) (a : Path) where

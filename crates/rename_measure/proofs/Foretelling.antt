@@ -30,7 +30,8 @@ use Rattle.rename_laws.proofs.Moves.{carried-file, loose-top, moved-same, apart
 use Rattle.rename_measure.specs.Tallies.{near, far, Moved, Small, Source, combined, Foretold}
 use Rattle.rename_measure.specs.declared.Moves.{Moves}
 use Rattle.rename_measure.specs.declared.Projected.{Projected}
-use Rattle.rename_measure.proofs.Putting.{size-small, put-bytes, some-entry, as-long}
+use Rattle.table_measure.proofs.Passes.{put-bytes}
+use Rattle.rename_measure.proofs.Putting.{size-small, some-entry, as-long}
 use Rattle.rename_measure.proofs.Moving.{rekey-top}
 
 -- no key of a table, and no listed path, is far

@@ -14,10 +14,10 @@ use Rattle.model.specs.Tree.{Entry, Table}
 use Rattle.model.specs.Listing.{ListingRecord, recordAt, recordEnd, nodeOf, treeFrom}
 use Rattle.model.specs.Table.{bodyOf, entriesAt, keyAt, entryAt}
 use Rattle.model.specs.Rename.{asEntry, uncovered}
-use Rattle.model.proofs.Orders.{Lt, and-true, yea, nay, test, below-rest, rest-is}
+use Rattle.model.proofs.Orders.{and-true, yea, nay, test, below-Lt}
 use Rattle.model.proofs.Maps.{Above, above-puts, above-mapped, ascends-is, is-ascends}
 use Rattle.model.proofs.Codec.{entry-length}
-use Rattle.base_fields.proofs.Common.{Lt-append}
+use Rattle.model.proofs.Rules.{below-length}
 use Rattle.listing_records.specs.Place.{treeAt}
 use Rattle.listing_records.proofs.Places.{first-record}
 use Rattle.table_entries.specs.Place.{Standing}
@@ -28,7 +28,6 @@ use Rattle.rename_carried.specs.Streams.{ahead, remaining, Streaming, Next, ite
 use Rattle.rename_carried.specs.declared.Stream.{Stream}
 use Rattle.rename_carried.specs.declared.Head.{Head}
 use Rattle.rename_carried.specs.declared.Head.the-variants as next
-use Rattle.rename_uncovered.proofs.Parents.{below-longer}
 use Rattle.rename_carried.proofs.Items.{entry-below, listed-below}
 use Rattle.rename_carried.proofs.Steps.{both-ascend, nothing-next}
 
@@ -41,14 +40,10 @@ few-entries s n w =
     let m = w .small in
     omega arith
 
--- what is below a stands behind a
-pub below-behind : (a k : Path) → below a k ≡ true → Lt a k
-below-behind a k h = let b = below-rest a k h in rw (rest-is a k (47 ∷ b .0) (b .1) .0) (Lt-append a 47 (b .0))
-
 module _ {A : Type 0} where
   above-under : (a : Path) (xs : Map A) → every (below a) (keys xs) ≡ true → Above a xs
   above-under a [] h = tt
-  above-under a (x ∷ xs) h = below-behind a (x .0) (and-true (below a (x .0)) (every (below a) (keys xs)) h .0)
+  above-under a (x ∷ xs) h = below-Lt a (x .0) (and-true (below a (x .0)) (every (below a) (keys xs)) h .0)
 
   under-only : (a : Path) (f : Path → Bool) (xs : Map A) → every (fitting a) (keys xs) ≡ true → every (below a) (keys (only f xs)) ≡ true
   under-only a f [] h = refl
@@ -125,7 +120,7 @@ module _ (own part table : Bytes) (a : Path) (f : List Bool) (s : Stream) (w : S
 
   -- so it is longer than a
   pub item-longer : (h : Head) → Next own part s h → 0 < remaining s → length a ≤ length (itemAt own part s h .0)
-  item-longer h n r = let l = below-longer a (itemAt own part s h .0) (item-below h n r) in omega arith
+  item-longer h n r = let l = below-length a (itemAt own part s h .0) (item-below h n r) in omega arith
 
   -- its key as the code has it
   pub key-short : (h : Head) → Next own part s h → (key : Path) → key ≡ itemAt own part s h .0 → length key ≤ 512

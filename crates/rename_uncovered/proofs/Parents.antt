@@ -44,13 +44,7 @@ every-all f [] h = refl
 every-all f (p ∷ ps) h =
     rw (h p (rw (same-refl p))) (every-all f ps (λ q m. h q (elim (split p q) [ Split.eq e w ↦ rw w | Split.ne e w ↦ rw w m ])))
 
--- below a is longer than a, begins with it, and goes on with a slash
-pub below-longer : (a q : Path) → below a q ≡ true → length a < length q
-below-longer [] [] h = absurd (bot (cc))
-below-longer [] (c ∷ q) h = omega arith
-below-longer (b ∷ a) [] h = absurd (bot (cc))
-below-longer (b ∷ a) (c ∷ q) h = omega (arith, below-longer a q (and-true (eqb b c) (below a q) h .1))
-
+-- below a begins with it, and goes on with a slash
 below-front : (a q : Path) → below a q ≡ true → take (length a) q ≡ a
 below-front [] q h = refl
 below-front (b ∷ a) [] h = absurd (bot (cc))

@@ -16,9 +16,10 @@ use Rattle.model.specs.Listing.{ListingRecord, recordAt, recordEnd, recordsFrom
 use Rattle.model.specs.Table.{entriesAt, tableIn}
 use Rattle.model.specs.Rename.{uncovered}
 use Rattle.model.specs.declared.Record.{Record}
-use Rattle.model.proofs.Orders.{Lt, Lt-irrefl, Lt-trans, Lt-≢, same-no, same-refl, bot, and-true, yea, nay, test}
+use Rattle.model.proofs.Orders.{Lt, Lt-trans, Lt-≢, same-no, same-refl, bot, and-true}
 use Rattle.model.proofs.Maps.{Above, Ascending, ascends-is, is-ascends, lookup-low}
-use Rattle.base_fields.proofs.Common.{before-Lt, Lt-before}
+use Rattle.model.proofs.Rules.{below-length}
+use Rattle.base_fields.proofs.Common.{before-Lt, Lt-before, not-before}
 use Rattle.listing_records.specs.Place.{treeAt, Standing}
 use Rattle.listing_records.specs.declared.Place as listing
 use Rattle.listing_records.proofs.Places.{stands, first-record, climbs}
@@ -30,13 +31,6 @@ use Rattle.table_entries.specs.Said.{said, saidOf}
 use Rattle.table_entries.proofs.Cuts.{lookup-since}
 use Rattle.rename_uncovered.specs.Cover.{Covering, Following}
 use Rattle.rename_uncovered.specs.Ahead.{fitting, PartBelow, toCome, Ready, Reading, Ahead}
-use Rattle.rename_uncovered.proofs.Parents.{below-longer}
-
-not-before : (k q : Path) → Lt k q → before q k ≡ false
-not-before k q l = elim (test (before q k)) [
-  | yea z ↦ absurd (Lt-irrefl q (Lt-trans q k q (before-Lt q k z) l))
-  | nay z ↦ z
-]
 
 -- the record at a place of those left, and what is behind it
 module _ (p s : Bytes) (a : Path) (f : List Bool) (m at i to : ℕ) (w : Ready p s a f m at i to) (h : 0 < m) where
@@ -59,7 +53,7 @@ module _ (p s : Bytes) (a : Path) (f : List Bool) (m at i to : ℕ) (w : Ready p
 
   -- what `cover` asks
   pub bounds : (k : Path) → k ≡ path → (length a < length k) × (length k ≤ 512) × (length f ≡ 513)
-  bounds k e = rw e (below-longer a path under, leb-true (length path) 512 (and-true (below a path) (leb (length path) 512) (fits .0) .1), w .size)
+  bounds k e = rw e (below-length a path under, leb-true (length path) 512 (and-true (below a path) (leb (length path) 512) (fits .0) .1), w .size)
 
   climb : Above path behind × Ascending behind
   climb = climbs p m at h (w .stand)

@@ -3,11 +3,10 @@ use mathlib.Core.Path.{_≡_, refl, sym, _∙_}
 use mathlib.Core.Logic.{_⊎_, inl, inr}
 use mathlib.Core.List.{[], _∷_, _++_}
 use mathlib.Core.Bool.{Bool, true, false, not}
-use lib.Dec.{eqb}
 use Rattle.model.specs.Bytes.{before, consIf}
 use Rattle.model.specs.Path.{Path, below}
 use Rattle.model.specs.Map.{Map, lookup, only}
-use Rattle.model.proofs.Orders.{bot, Lt, Lt-irrefl, Lt-trans, Lt-≢, same-no, Cmp, cmp, yea, nay, test, and-true, eqb-eq, below-range}
+use Rattle.model.proofs.Orders.{bot, Lt, Lt-irrefl, Lt-trans, Lt-≢, same-no, Cmp, cmp, yea, nay, test, and-true, below-range}
 use Rattle.model.proofs.Maps.{Above, Ascending}
 use Rattle.table_entries.specs.Cut.{since}
 use Rattle.rename_walk.specs.Stretch.{slashed}
@@ -50,12 +49,6 @@ le-le j k q l h = go (le-is j k l)
     go : (j ≡ k) ⊎ Lt j k → Le j q
     go (inl e) = rw e h
     go (inr m) = le-lt j q (lt-le j k q m h)
-
-pub below-lt : (d q : Path) → below d q ≡ true → Lt d q
-below-lt [] [] h = absurd (bot (cc))
-below-lt [] (c ∷ q) h = tt
-below-lt (a ∷ d) [] h = absurd (bot (cc))
-below-lt (a ∷ d) (c ∷ q) h = let e = and-true (eqb a c) (below d q) h in inr (eqb-eq a c (e .0), below-lt d q (e .1))
 
 -- what is below d is not before d with a slash, and before d with a '0'
 not-is : (b : Bool) → not b ≡ true → b ≡ false

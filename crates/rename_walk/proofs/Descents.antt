@@ -14,7 +14,7 @@ use Rattle.model.specs.Listing.{recordAt, recordEnd, recordCount, records, node
 use Rattle.model.specs.Table.{entriesAt, tableIn}
 use Rattle.model.specs.declared.Record.{Record}
 use Rattle.model.specs.Rename.{Walk, sum, visits, children, lastFirst, enter, walk, depth, walkFrom}
-use Rattle.model.proofs.Orders.{Lt}
+use Rattle.model.proofs.Orders.{Lt, below-Lt}
 use Rattle.model.proofs.Maps.{Ascending}
 use Rattle.listing_records.specs.Place.{treeAt, Standing}
 use Rattle.listing_records.specs.declared.Place.{Place}
@@ -23,7 +23,7 @@ use Rattle.table_entries.specs.declared.Place as entry
 use Rattle.table_entries.specs.Place.{Sought}
 use Rattle.table_entries.proofs.Cuts.{lookup-since}
 use Rattle.rename_walk.specs.Stretch.{endAfter, slashed, Under, Halved, entered}
-use Rattle.rename_walk.proofs.Cuts.{Le, le-lt, le-self, below-lt, below-since, Each, each-on, each-above, second-has}
+use Rattle.rename_walk.proofs.Cuts.{Le, le-lt, le-self, below-since, Each, each-on, each-above, second-has}
 use Rattle.rename_walk.proofs.Enters.{entered-zero, entered-append, entered-one, entered-none, children-below, walk-same, entered-same}
 use Rattle.rename_walk.proofs.Depths.{walk-deep, listing-depth}
 use Rattle.rename_walk.proofs.Stretches.{rising, cut}
@@ -43,7 +43,7 @@ walk-below b t₁ t₀ s p n at m to c g h a k w u r e f =
 -- the table from a path on has all that is below it
 sought-below : (s : Bytes) (p : Path) (i to j o : ℕ) → Sought s p i to j o → (q : Path) → below p q ≡ true
     → lookup (entriesAt s j o) q ≡ lookup (entriesAt s i to) q
-sought-below s p i to j o h q z = ap (λ (x : Table). lookup x q) (h .are) ∙ lookup-since p q (entriesAt s i to) (le-lt p q (below-lt p q z))
+sought-below s p i to j o h q z = ap (λ (x : Table). lookup x q) (h .are) ∙ lookup-since p q (entriesAt s i to) (le-lt p q (below-Lt p q z))
 
 -- no level is left, or no record
 pub enter-no-level : (t : Table) (l : Tree) (b : Option ℕ) (d : Path) (xs : Tree) (k : ℕ) (w : Walk) → k ≡ 0 → w ≡ entered k t l b d xs w

@@ -10,12 +10,12 @@ use Rattle.model.specs.Path.{Path, below, child}
 use Rattle.model.specs.Map.{lookup, isNone, only}
 use Rattle.model.specs.Tree.{Node, Entry, Table, Tree, kindOf, isDirectory}
 use Rattle.model.specs.Rename.{Walk, sum, overBudget, atLink, visits, children, lastFirst, enter, walk}
-use Rattle.model.proofs.Orders.{bot, Tested, yea, nay, test, and-true, below-trans}
+use Rattle.model.proofs.Orders.{bot, Tested, yea, nay, test, and-true, below-trans, below-Lt}
 use Rattle.model.proofs.Maps.{Ascending, map-ext, lookup-only, ascending-only}
 use Rattle.model.proofs.Rules.{child-below}
 use Rattle.rename_walk.specs.Walked.{ended}
 use Rattle.rename_walk.specs.Stretch.{entered}
-use Rattle.rename_walk.proofs.Cuts.{Le, le-le, le-lt, below-lt, Each, each-on, each-of, each-only, only-same, only-append}
+use Rattle.rename_walk.proofs.Cuts.{Le, le-le, le-lt, Each, each-on, each-of, each-only, only-same, only-append}
 
 -- every path of a list is so
 abbrev pub All : (Path → Type 0) → List Path → Type 0
@@ -147,5 +147,5 @@ module _ (b : Option ℕ) (t₁ t₀ : Table) (l₁ l₀ : Tree) (a₁ : Ascendi
       let s = only-same f g xs (each-on (Le k) (λ q. f q ≡ g q) (λ q z. ap (λ (o : Option Entry). child d q && isNone o) (h q z .0)) xs e) in
       ap (λ (ys : Tree). enter (walk n t₁ l₁ b) (lastFirst ys []) w) s
       ∙ enter-same (walk n t₁ l₁ b) (walk n t₀ l₀ b) (Le k)
-      (λ p z v. walk-same n p (λ q y. h q (le-le k p q z (le-lt p q (below-lt p q y)))) v)
+      (λ p z v. walk-same n p (λ q y. h q (le-le k p q z (le-lt p q (below-Lt p q y)))) v)
       (lastFirst (only g xs) []) (all-found (Le k) (only g xs) [] (each-only g (Le k) (Le k) (λ q y z. z) xs e) tt) w

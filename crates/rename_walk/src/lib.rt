@@ -1,7 +1,8 @@
 // rename's walk: a directory's listed children without an entry are visited in ascending order, then the directories
 // among them entered, the last found first. A stretch of records is entered by halves, the second first, since a
 // listing can only be read forward. Assumes a listing and a table that were checked, and a path: only this repository's
-// crates call. A record or an entry is passed a few times at each of 32 levels, once for each of 20 halvings there.
+// crates call. A record or an entry is passed a few times at each of 32 levels, once for each of 20 halvings there, and
+// once more for each listed directory whose path its own begins with, as `a-b/c` does with `a`.
 ghost use mathlib.Core.Path.{_≡_};
 ghost use mathlib.Core.Bool.{true, _&&_};
 ghost use mathlib.Core.Option.{some};

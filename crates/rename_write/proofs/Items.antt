@@ -11,10 +11,11 @@ use borrow.Author.Tests.{leb-true}
 use Rattle.model.specs.Bytes.{Bytes, before}
 use Rattle.model.specs.Path.{Path}
 use Rattle.model.specs.Map.{put}
-use Rattle.model.specs.Tree.{Entry, own, reference, directory, deleted, Table}
+use Rattle.model.specs.Tree.{Entry, deleted, Table}
 use Rattle.model.specs.Table.{typeOf, mtimeOf, sizeOf, bodyOf, encode, entryOf, entriesAt}
 use Rattle.model.specs.Rename.{newKey}
 use Rattle.model.proofs.Orders.{and-true}
+use Rattle.model.proofs.Codec.{same-entry}
 use Rattle.table_entries.specs.Place.{endOf}
 use Rattle.table_entries.specs.Cut.{upTo}
 use Rattle.table_write.specs.Merge.{Written, Merged}
@@ -58,13 +59,6 @@ key-bytes a b q k i e f = f ∙ ap (λ (x : Path). b ++ drop (length a) x) e
 
 pub front-length : (n : ℕ) (bytes : Bytes) → (n ≤ 512) × (length bytes ≡ 512) → n ≡ length (take n bytes)
 front-length n bytes h = let x = h .0 in let y = h .1 in sym (length-take-le n bytes (omega arith))
-
--- the fields and the body of an entry make it again
-same-entry : (e : Entry) → entryOf (typeOf e) (mtimeOf e) (sizeOf e) (bodyOf e) ≡ e
-same-entry (own m c) = refl
-same-entry (reference m z p) = refl
-same-entry (directory m) = refl
-same-entry deleted = refl
 
 module _ (e : Entry) (kind m z : ℕ) (b : Bytes) (ek : kind ≡ typeOf e) (em : m ≡ mtimeOf e) (ez : z ≡ sizeOf e) (eb : b ≡ bodyOf e) where
   pub entry-of : entryOf kind m z b ≡ e

@@ -2,7 +2,6 @@
 use mathlib.Core.Path.{_≡_, refl, ap, sym, _∙_}
 use mathlib.Core.List.{List, [], _∷_}
 use mathlib.Core.Bool.{true, _&&_}
-use mathlib.Core.Logic.{inr}
 use Prim.Native.Nat.{ℕ, zero, suc, _+_, _<_, _≤_}
 use native.Mathlib.Omega.{arith}
 use native.Mathlib.Numerals.{add-one}
@@ -12,23 +11,16 @@ use lib.Seq.{drop-cons, getD-take, length-take-le}
 use borrow.Author.Tests.{leb-true, ltb-true}
 use Rattle.model.specs.Path.{Path}
 use Rattle.model.specs.Map.{ascends, each}
-use Rattle.model.proofs.Orders.{Lt, and-true}
+use Rattle.model.proofs.Orders.{and-true, fronts-ascend}
 use Rattle.base_fields.proofs.Common.{Lt-before}
 use Rattle.base_paths.specs.Dirs.{climbs, prefixes}
-
-prefix-before : (p : Path) (a b : ℕ) → a < b → b ≤ length p → Lt (take a p) (take b p)
-prefix-before [] a b h g = absurd (omega arith)
-prefix-before (x ∷ p) zero zero h g = absurd (omega arith)
-prefix-before (x ∷ p) zero (suc b) h g = tt
-prefix-before (x ∷ p) (suc a) zero h g = absurd (omega arith)
-prefix-before (x ∷ p) (suc a) (suc b) h g = inr (refl, prefix-before p a b (omega arith) (omega arith))
 
 pub climb-ascends : {A : Type 0} (v : A) (p : Path) (a : ℕ) (es : List ℕ) → climbs a (length p) es ≡ true → ascends (take a p) (each v (prefixes p es)) ≡ true
 climb-ascends v p a [] h = refl
 climb-ascends v p a (e ∷ es) h =
     let x = and-true (ltb a e) (leb e (length p) && climbs e (length p) es) h in
     let y = and-true (leb e (length p)) (climbs e (length p) es) (x .1) in
-    let b = Lt-before (take a p) (take e p) (prefix-before p a e (ltb-true a e (x .0)) (leb-true e (length p) (y .0))) in
+    let b = Lt-before (take a p) (take e p) (fronts-ascend p a e (ltb-true a e (x .0)) (leb-true e (length p) (y .0))) in
     rw b (climb-ascends v p e es (y .1))
 
 climb-end : (a n : ℕ) (es : List ℕ) (i : ℕ) → climbs a n es ≡ true → i < length es → getD es i 0 ≤ n

@@ -193,3 +193,15 @@ module _ (E : ℕ) where
 
     pub in-charge : charge E (since q b) ≤ charge E t
     in-charge = let h = charge-cut in omega arith
+
+-- an entry put makes a table longer by no more than its own bytes
+pub put-bytes : (q : Path) (v : Entry) (t : Table) → length (encode (put q v t)) ≤ length (encode t) + (24 + length q + length (bodyOf v))
+put-bytes q v [] = let l = bytes-cons 0 q v [] in omega arith
+put-bytes q v (x ∷ xs) =
+    let i = put-bytes q v xs in
+    let a = bytes-cons 0 (x .0) (x .1) xs in
+    elim (cmp q (x .0)) [
+      | Cmp.lt m w ↦ let l = bytes-cons 0 q v (x ∷ xs) in rw w (omega arith)
+      | Cmp.eq f w ↦ let l = bytes-cons 0 q v xs in rw w (omega arith)
+      | Cmp.gt m w ↦ let l = bytes-cons 0 (x .0) (x .1) (put q v xs) in rw w (omega arith)
+    ]

@@ -13,6 +13,7 @@ use Rattle.model.specs.Path.{isPath}
 use Rattle.model.specs.Tree.{Entry, own, reference, directory, deleted}
 use Rattle.model.specs.Table.{typeOf, mtimeOf, sizeOf, bodyOf, entryOf, formedBody}
 use Rattle.model.proofs.Orders.{yea, nay, test, eqb-eq, and-true}
+use Rattle.model.proofs.Small.{or-cases}
 use Rattle.table_open.specs.Pass.{typeRule}
 
 -- what the rule of the types says of the four numbers
@@ -21,10 +22,6 @@ pub data Types (k b m z : ℕ) : Type 0 where
   two : k ≡ 2 → z < 0x8000_0000_0000_0000 → Types k b m z
   three : k ≡ 3 → b ≡ 0 → z ≡ 0 → Types k b m z
   four : k ≡ 4 → b ≡ 0 → z ≡ 0 → m ≡ 0 → Types k b m z
-
-either : (a b : Bool) → (a || b) ≡ true → (a ≡ true) ⊎ (b ≡ true)
-either true b h = inl refl
-either false b h = inr h
 
 module _ (k b m z : ℕ) where
   abbrev rule-1 : Bool
@@ -65,16 +62,16 @@ module _ (k b m z : ℕ) where
   low (inr g) = second g
 
   middle : ((rule-1 || rule-2) ≡ true) ⊎ (rule-3 ≡ true) → Types k b m z
-  middle (inl g) = low (either rule-1 rule-2 g)
+  middle (inl g) = low (or-cases rule-1 rule-2 g)
   middle (inr g) = third g
 
   high : ((rule-1 || rule-2 || rule-3) ≡ true) ⊎ (rule-4 ≡ true) → Types k b m z
-  high (inl g) = middle (either (rule-1 || rule-2) rule-3 g)
+  high (inl g) = middle (or-cases (rule-1 || rule-2) rule-3 g)
   high (inr g) = fourth g
 
   pub types : typeRule k b m z ≡ true → Types k b m z
   unfolding typeRule
-  types h = high (either (rule-1 || rule-2 || rule-3) rule-4 h)
+  types h = high (or-cases (rule-1 || rule-2 || rule-3) rule-4 h)
 
 -- the entry of a type, mtime bits, a size and a body has them
 pub record Says (k m z : ℕ) (b : Bytes) (e : Entry) : Type 0 where

@@ -11,9 +11,9 @@ use Rattle.model.specs.Map.{lookup, isNone}
 use Rattle.model.specs.Tree.{Entry, Table, Tree}
 use Rattle.model.specs.Listing.{ListingRecord, recordAt, recordEnd, recordsFrom, treeFrom}
 use Rattle.model.specs.Table.{entriesAt}
-use Rattle.model.proofs.Orders.{Lt, Lt-irrefl, Lt-trans, yea, nay, test}
+use Rattle.model.proofs.Orders.{Lt, Lt-trans}
 use Rattle.model.proofs.Maps.{Above, ascends-is}
-use Rattle.base_fields.proofs.Common.{before-Lt}
+use Rattle.base_fields.proofs.Common.{not-before}
 use Rattle.listing_records.specs.Place.{treeAt, Standing}
 use Rattle.listing_records.specs.declared.Place.{Place}
 use Rattle.listing_records.proofs.Places.{first-record, climbs}
@@ -23,12 +23,6 @@ use Rattle.table_entries.specs.declared.OverlayEntry.{OverlayEntry}
 use Rattle.table_entries.specs.Said.{said, saidOf}
 use Rattle.table_entries.proofs.Cuts.{lookup-since}
 use Rattle.view_children.specs.Children.{listedIn}
-
-not-before : (k q : Path) → Lt k q → before q k ≡ false
-not-before k q l = elim (test (before q k)) [
-  | yea z ↦ absurd (Lt-irrefl q (Lt-trans q k q (before-Lt q k z) l))
-  | nay z ↦ z
-]
 
 -- of the n records of p from the start on, the m from `at` on are left, all behind the path `last`; none of those passed is such a child.
 -- Of the entries t of s, the i from `to` on are left, and have all that t has behind `last`.

@@ -4,17 +4,17 @@ use mathlib.Core.List.{[], _∷_}
 use mathlib.Core.Bool.{Bool, true, false, not, _&&_, _||_}
 use Prim.Native.Nat.{ℕ, _-_, _≤_}
 use native.Mathlib.Omega.{arith}
-use lib.Dec.{eqb}
 use lib.ListN.{length, drop, length-drop}
 use lib.Seq.{length-take-le}
 use Rattle.model.specs.Bytes.{Bytes}
-use Rattle.model.specs.Path.{Path, slashless, below, child}
+use Rattle.model.specs.Path.{Path, below, child}
 use Rattle.model.specs.Map.{lookup, isNone, ascends, only}
 use Rattle.model.specs.Tree.{Table, Tree}
 use Rattle.model.specs.Listing.{treeIn, isListing}
 use Rattle.model.specs.Table.{entriesAt, tableIn}
 use Rattle.model.specs.declared.Record.{Record}
-use Rattle.model.proofs.Orders.{bot, and-true, yea, nay, test}
+use Rattle.model.proofs.Orders.{bot, yea, nay, test}
+use Rattle.model.proofs.Rules.{child-below}
 use Rattle.model.proofs.Maps.{above-only, ascends-is, is-ascends, ascending-only}
 use Rattle.base_fields.specs.Read.{part}
 use Rattle.listing_records.specs.Place.{treeAt, Standing}
@@ -24,14 +24,6 @@ use Rattle.listing_records.proofs.Parts.{part-tree}
 use Rattle.table_entries.specs.declared.Place.{Place}
 use Rattle.table_below.specs.Parts.{isDeleted, visibleIn}
 use Rattle.view_children.specs.Children.{listedIn}
-
-child-below : (d k : Path) → child d k ≡ true → below d k ≡ true
-child-below [] [] h = h
-child-below [] (c ∷ k) h = and-true (eqb c 47) (slashless k) h .0
-child-below (a ∷ d) [] h = h
-child-below (a ∷ d) (c ∷ k) h =
-    let e = and-true (eqb a c) (child d k) h in
-    rw (e .0) (child-below d k (e .1))
 
 not-child : (d k : Path) → below d k ≡ false → child d k ≡ false
 not-child d k h = elim (test (child d k)) [

@@ -97,5 +97,7 @@ fn main() {
     for (answer, count) in &runs {
         println!("  {answer:3}: {count}");
     }
-    println!("no crash; no number above 13; nothing changed where a call was refused or a script was not run");
+    println!(
+        "no crash; no number above 13; nothing changed where a call was refused or a script was not run, but for the opening"
+    );
 }

@@ -1,8 +1,10 @@
 //! Scripts of calls, whole and changed, run on what the calls are given.
 //!
 //! After each run: the answer is 0, 1, 254 or 255. Not run, the report and the work buffer are as they were, and so are
-//! table and record, or the table was opened for `run_new`. Run, each row has a number from 0 to 13, what stands behind
-//! the rows is as it was, and where the table was one it is one again, with its record.
+//! table and record, or the table was opened for `run_new`. Run, each row has a number from 0 to 13, a refusal a path of
+//! 0 or 1 and a length of at most 512; the last row has the record's charge, and what stands behind the rows is as it
+//! was; the work buffer is all 0 if a call was accepted, else as it was; and where the table was one it is one again,
+//! with its record.
 use differential::random::Random;
 use overlay::{Mkdir, Mtime, ROW_LENGTH, Script, raw};
 
@@ -96,9 +98,17 @@ impl Memory {
         match answer {
             0 => {
                 let steps = u32::from_le_bytes(script[4..8].try_into().expect("four bytes")) as usize;
+                let (mut accepted, mut charge) = (false, lent.record[2]);
                 for row in report[..steps * ROW_LENGTH].chunks(ROW_LENGTH) {
-                    assert!(row[0] <= 13 && row[1..8].iter().all(|byte| *byte == 0), "a row's number: {}", told());
+                    let word = |at: usize| u64::from_le_bytes(row[at..at + 8].try_into().expect("eight bytes"));
+                    let refusal = word(0) <= 13 && word(8) <= 1 && word(16) <= 512;
+                    assert!(word(0) == 0 || refusal, "a row: {}", told());
+                    accepted |= word(0) == 0;
+                    charge = word(24);
                 }
+                assert!(charge == lent.record[2], "the last charge: {}", told());
+                let zeroed = accepted && lent.work.iter().all(|byte| *byte == 0);
+                assert!(zeroed || !accepted && lent.work == input.work, "the work buffer: {}", told());
                 let behind = steps * ROW_LENGTH..;
                 assert!(report[behind.clone()] == before[behind], "behind the rows: {}", told());
                 let sound = opened || was_table;

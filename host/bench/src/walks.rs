@@ -65,13 +65,26 @@ fn nests(tree: &mut Tree) {
     below(tree, "d", 3, &mut { NODES });
 }
 
+/// Directories whose names begin with each other's, `a`, `a!`, `a!!` and so on, and below the longest all the files:
+/// each shorter name's own place comes behind all of them.
+fn ladder(tree: &mut Tree) {
+    let names = 250;
+    for n in 0..names {
+        tree.insert(format!("d/a{}", "!".repeat(n)), node(Kind::Directory));
+    }
+    for n in names..NODES {
+        tree.insert(format!("d/a{}/f{n:05}", "!".repeat(names - 1)), node(Kind::File));
+    }
+}
+
 type Shape = (&'static str, fn(&mut Tree));
 
-const SHAPES: [Shape; 4] = [
+const SHAPES: [Shape; 5] = [
     ("files beside each other", files),
     ("directories beside each other", siblings),
     ("chains of 25", chains),
     ("nests of `a`, `a-`, `a--` …", nests),
+    ("`a`, `a!`, `a!!` …, all below the last", ladder),
 ];
 
 pub fn rows() {

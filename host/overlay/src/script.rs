@@ -113,7 +113,8 @@ pub enum NotRun {
     MalformedTable,
     /// 254: the bytes given as script are none.
     MalformedScript,
-    /// 255: the report has not a row for each call. Only in [`raw`](crate::raw).
+    /// 255: the report has not a row for each call. No run of this crate lends one so short; with [`raw`](crate::raw)
+    /// one can be.
     ShortReport,
 }
 

@@ -134,6 +134,9 @@ fn replay_file(file: &str) -> Result<(), String> {
     for (number, line) in read(file)?.lines().enumerate() {
         replay(line, &mut counts).map_err(|difference| format!("{file}:{}: {difference}", number + 1))?;
     }
+    if counts.is_empty() {
+        return Err(format!("{file}: no calls"));
+    }
     let each: Vec<String> = counts.iter().map(|(name, count)| format!("{name} {count}")).collect();
     println!("vectors: {} calls, all as they say: {}", counts.values().sum::<u64>(), each.join(", "));
     Ok(())
