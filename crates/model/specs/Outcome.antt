@@ -1,12 +1,13 @@
 -- Each call on bytes, for every input: the answer, and what it leaves as record, table and work buffer.
-use mathlib.Core.Bool.{Bool, cond, _&&_}
+use mathlib.Core.Path.{_≡_}
+use mathlib.Core.Bool.{Bool, true, cond, _&&_}
 use mathlib.Core.List.{[]}
 use Prim.Native.Nat.{ℕ}
 use lib.Dec.{leb}
 use lib.ListN.{length, replicate}
 use Rattle.model.specs.Bytes.{Bytes}
 use Rattle.model.specs.Path.{Path}
-use Rattle.model.specs.Tree.{Table, shown, kind}
+use Rattle.model.specs.Tree.{Table, View, shown, kind}
 use Rattle.model.specs.Listing.{isListing, treeIn}
 use Rattle.model.specs.Table.{encode, padded, recordOf, sized, isTable, tableIn}
 use Rattle.model.specs.Checks.{Check, pass, refuse, _then_, unless, form, limited}
@@ -18,6 +19,15 @@ use Rattle.model.specs.declared.Record.{Record}
 pub record Store : Type 0 where
   pub table : Bytes
   pub rec : Record
+
+-- a listing in form, and a table in form with its record: what 1 and 2 ask for, the work buffer aside
+pub record Given (listing table : Bytes) (rec : Record) : Type 0 where
+  pub is-listing : isListing listing ≡ true
+  pub is-table : isTable table rec ≡ true
+
+-- what a table with its record shows over a listing
+abbrev pub shownIn : Bytes → Bytes → Record → View
+shownIn listing table rec = shown (tableIn table rec) (treeIn listing)
 
 -- what a call brings of its own
 pub record Request : Type 0 where
@@ -74,7 +84,7 @@ answered (refuse n w k) yes? = refused n w k
 abbrev pub ask : Query → Bytes → Path → Store → Reply
 ask q listing p s =
     answered (unless 1 (isTable (s .table) (s .rec)) then unless 2 (isListing listing) then form 0 p)
-    (says q (kind (shown (tableIn (s .table) (s .rec)) (treeIn listing)) p))
+    (says q (kind (shownIn listing (s .table) (s .rec)) p))
 
 -- "Opening zeroes the buffer and gives the empty record; its one refusal is 1, for E or a buffer above 16 MiB."
 -- The record is the empty one after a refusal too; with that buffer no call takes it.
