@@ -1,14 +1,14 @@
 -- Demand 3 and POSIX for whoever makes calls one after the other and hands the table on: what was seen is what the list of calls has.
 -- Assumes what `demand-3` does: the listing's elements are bytes, and mtime arguments have 64 bits.
-use mathlib.Core.Path.{_≡_, refl, ap, _∙_, subst}
+use mathlib.Core.Path.{_≡_, refl, ap, sym, _∙_, subst}
 use mathlib.Core.List.{List, [], _∷_, _++_}
 use Prim.Native.Nat.{ℕ}
 use Rattle.model.specs.Bytes.{Bytes}
 use Rattle.model.specs.Answer.{accepted}
 use Rattle.model.specs.Outcome.{Store, Outcome, outcome, opened}
-use Rattle.model.specs.Runs.{State, step, after, begin, Exchange, Chained, requestsIn, lastSeen, HoldsOfChain}
+use Rattle.model.specs.Runs.{State, step, after, begin, WordedCalls, Built, by-opening, Exchange, Chained, requestsIn, lastSeen, HoldsOfChain}
 use Rattle.model.proofs.Words.{IsBytes}
-use Rattle.model.proofs.Reached.{WordedCalls}
+use Rattle.model.proofs.Built.{built-after}
 use Rattle.model.proofs.Demand3 as demand
 
 module _ (listing : Bytes) where
@@ -39,6 +39,14 @@ last-of-more s (y ∷ ys) x = last-of-more (y .seen .store) ys x
 
 module _ (listing : Bytes) (bytes : IsBytes listing) (E : ℕ) (buffer : Bytes) (v : ℕ) (opening : opened E buffer .reply ≡ accepted v)
     (chain : List Exchange) (made : Chained listing (opened E buffer .store) chain) (words : WordedCalls (requestsIn chain)) where
+  -- what the caller has in the end is a table that the calls built
+  pub chain-built : (x : State) × Built listing E x × (x .store ≡ lastSeen (opened E buffer .store) chain)
+  chain-built = (
+    after listing (requestsIn chain) (begin listing E buffer),
+    built-after listing E (requestsIn chain) (begin listing E buffer) words (by-opening buffer v opening),
+    sym (seen-last listing (begin listing E buffer) chain made),
+  )
+
   pub chain-holds : HoldsOfChain listing (begin listing E buffer) chain
   chain-holds = record {
     demand-3 = demand.demand-3 listing bytes E buffer v opening (requestsIn chain) words;

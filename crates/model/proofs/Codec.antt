@@ -18,7 +18,8 @@ use Rattle.model.specs.Tree.{Entry, own, reference, directory, deleted, 
 use Rattle.model.specs.Table.{typeOf, mtimeOf, sizeOf, bodyOf, entryBytes, encode, padded, charge, recordOf, keyAt, bodyAt, entryOf, entryAt, entryEnd}
 use Rattle.model.specs.Table.{entriesAt, tableIn, formedBody, formedEntry, sameRecord, sized, isTable}
 use Rattle.model.specs.declared.Record.{Record}
-use Rattle.model.proofs.Words.{Word, Worded, Words}
+use Rattle.model.specs.Runs.{Word}
+use Rattle.model.proofs.Words.{Worded, Words}
 use Rattle.model.proofs.Orders.{Split, split, same-refl, bot, eqb-eq, eqb-true, and-true}
 
 pub same-is : (s t : Bytes) → same s t ≡ true → s ≡ t

@@ -3,13 +3,17 @@
 -- Some begin with a table that no call builds: there too the checks are read to the letter.
 use mathlib.Core.Bool.{true, false}
 use mathlib.Core.List.{List, [], _∷_, _++_, map}
+use mathlib.Core.Option.{none, some}
 use mathlib.Core.Path.{_≡_, refl}
 use Prim.Native.Nat.{ℕ}
 use Prim.Native.String.{String}
 use lib.ListN.{replicate}
 use Rattle.model.specs.Path.{Path}
-use Rattle.model.specs.Tree.{Entry, own, reference, directory, deleted, Tree, Table}
-use Rattle.model.specs.Calls.{mkdir, exists, isFile, isDir}
+use Rattle.model.specs.Map.{lookup}
+use Rattle.model.specs.Tree.{listed, file, Entry, own, reference, directory, deleted, Tree, Table, shown}
+use Rattle.model.specs.Checks.{pass, unlimited}
+use Rattle.model.specs.Calls.{mkdir, rename, changed, rules, exists, isFile, isDir}
+use Rattle.model.specs.Plain.{plainEffect, visibleTree}
 use Rattle.model.specs.Answer.{Reply, accepted, refused}
 use Rattle.model.proofs.Case.{path, dirAt, fileAt, linkAt, Step, call, query, writing, making, makingAll}
 use Rattle.model.proofs.Case.{unlinking, removing, renaming, Case, begun, from, computed, stated}
@@ -415,3 +419,14 @@ corners = belows ++ deletions ++ walks ++ links ++ orders ++ parents ++ limits +
 pub corners-hold : map computed corners ≡ map stated corners
 unfolding corners belows deletions walks links orders parents limits smalls queries sizes
 corners-hold = refl {a = map stated corners}
+
+-- #112's fifth rule is needed. Over `deep`, a table whose one entry is a directory at `a/b` keeps the other four; the
+-- rename of `a` to `c` passes its checks, and `a/b/f`, which the walk does not come to, still shows.
+abbrev uncoveredChild : Table
+uncoveredChild = (path "a/b", directory 2) ∷ []
+
+pub left-behind : let a-to-c = rename (path "a") (path "c") in
+    (rules unlimited uncoveredChild deep a-to-c ≡ pass)
+    × (shown (changed uncoveredChild deep a-to-c) deep (path "a/b/f") ≡ some (file 3 4 (listed (path "a/b/f"))))
+    × (lookup (plainEffect (visibleTree uncoveredChild deep) a-to-c) (path "a/b/f") ≡ none)
+left-behind = (refl, refl, refl)

@@ -1,24 +1,21 @@
 -- The customer's terms 2 (POSIX) and 3 over every list of calls, on bytes.
 -- Assumes that the listing's elements are bytes and that mtime arguments have 64 bits: they are, in every program.
-use mathlib.Core.Path.{_≡_, ap, _∙_}
-use mathlib.Core.Bool.{Bool, true, cond}
-use mathlib.Core.List.{List}
+use mathlib.Core.Path.{_≡_, refl, ap, _∙_}
+use mathlib.Core.Bool.{false}
+use mathlib.Core.List.{List, [], _∷_}
 use mathlib.Core.Logic.{_⊎_, inl, inr}
 use Prim.Native.Nat.{ℕ, _<_}
 use native.Mathlib.Omega.{arith}
-use lib.ListN.{length}
 use Rattle.model.specs.Bytes.{Bytes}
-use Rattle.model.specs.Tree.{View}
-use Rattle.model.specs.Table.{sized, charge}
-use Rattle.model.specs.Answer.{accepted, refused}
-use Rattle.model.specs.Outcome.{Request, Store, opened}
+use Rattle.model.specs.Listing.{isListing}
+use Rattle.model.specs.Answer.{Reply, accepted, refused}
+use Rattle.model.specs.Outcome.{Request, Store, outcome, opened}
 use Rattle.model.specs.Cause.{Cause, malformed-table, short-work, malformed-listing, exceeds, no-room, charge-above, plan-above, walk-above, key-above}
-use Rattle.model.specs.Runs.{after, begin, entriesOf, Throughout, Demand3, AcceptedByRules, RefusedWithCause, LeavesOthers, WithinLimit, RefusedLeaves, RefusedAndEmpty, DoesAsPosix}
-use Rattle.model.specs.declared.Record.{Record}
+use Rattle.model.specs.Runs.{State, step, begin, entriesOf, WordedCalls, Throughout, Demand3, DoesAsSaid, RunFrom}
+use Rattle.model.specs.Runs.{AcceptedByRules, RefusedWithCause, LeavesOthers, WithinLimit, RefusedLeaves, RefusedAndEmpty, DoesAsPosix}
 use Rattle.model.proofs.Words.{IsBytes}
-use Rattle.model.proofs.Codec.{decoded}
-use Rattle.model.proofs.Reached.{WordedCalls, Reached, reached-begin, reached-after, throughout}
-use Rattle.model.proofs.Reached.{by-rules, with-cause, others, limit-kept, leaves, over-malformed, as-posix}
+use Rattle.model.proofs.Reached.{opening-sized, opened-empty, reached-begin}
+use Rattle.model.proofs.Resumed.{run-from}
 
 -- the numbers that have a cause: none is from 4 to 10
 pub cause-numbers : (listing : Bytes) (q : Request) (s : Store) (n : ℕ) → Cause listing q s n → (n < 3) ⊎ (10 < n)
@@ -31,36 +28,47 @@ cause-numbers listing q s n (exceeds m (walk-above a b k d w e i h)) = inr (omeg
 cause-numbers listing q s n (exceeds m (key-above a b e h)) = inr (omega arith)
 cause-numbers listing q s n (no-room h) = inr (omega arith)
 
--- an opening that is accepted found E and the buffer's length in order
-opening-sized : (E : ℕ) (buffer : Bytes) (v : ℕ) → opened E buffer .reply ≡ accepted v → sized E (length buffer) ≡ true
-opening-sized E buffer v h = go (sized E (length buffer)) h
-  where
-    go : (b : Bool) → cond b (accepted 0) (refused 1 0 0) ≡ accepted v → b ≡ true
-    go true h = cc
-    go Bool.false h = cc
+-- what holds of every call of a list, in another form
+throughout-as : (P Q : State → Request → Type 0) (listing : Bytes) → ((x : State) (q : Request) → P x q → Q x q)
+    → (qs : List Request) (x : State) → Throughout P listing x qs → Throughout Q listing x qs
+throughout-as P Q listing f [] x h = tt
+throughout-as P Q listing f (q ∷ qs) x h = (f x q (h .0), throughout-as P Q listing f qs (step listing q x) (h .1))
+
+-- over a malformed listing the table stays as empty as it began
+module _ (listing : Bytes) (bad : isListing listing ≡ false) where
+  kept-empty : (x : State) (q : Request) → DoesAsSaid listing x q → entriesOf (x .store) ≡ [] → RefusedAndEmpty listing x q
+  kept-empty x q d e = (d .malformed bad, go (outcome listing q (x .store) .reply) refl)
+    where
+      go : (r : Reply) → outcome listing q (x .store) .reply ≡ r → entriesOf (step listing q x .store) ≡ []
+      go (accepted v) h = absurd (d .malformed bad v h)
+      go (refused n w k) h = ap entriesOf (d .refused-leaves n w k h .0) ∙ e
+
+  all-kept-empty : (qs : List Request) (x : State) → Throughout (DoesAsSaid listing) listing x qs → entriesOf (x .store) ≡ []
+      → Throughout (RefusedAndEmpty listing) listing x qs
+  all-kept-empty [] x h e = tt
+  all-kept-empty (q ∷ qs) x h e = let k = kept-empty x q (h .0) e in (k, all-kept-empty qs (step listing q x) (h .1) (k .1))
 
 module _ (listing : Bytes) (bytes : IsBytes listing) (E : ℕ) (buffer : Bytes) (v : ℕ) (opening : opened E buffer .reply ≡ accepted v)
     (calls : List Request) (words : WordedCalls calls) where
-  start : Reached listing E (begin listing E buffer)
-  start = reached-begin listing E bytes buffer (opening-sized E buffer v opening)
+  -- the general statement, from what the opening gave
+  run : RunFrom listing (begin listing E buffer) calls
+  run = run-from listing bytes E (begin listing E buffer) (reached-begin listing E bytes buffer (opening-sized E buffer v opening)) calls words
+
+  each-call : (Q : State → Request → Type 0) → ((x : State) (q : Request) → DoesAsSaid listing x q → Q x q) → Throughout Q listing (begin listing E buffer) calls
+  each-call Q f = throughout-as (DoesAsSaid listing) Q listing f calls (begin listing E buffer) (run .each)
 
   pub demand-3 : Demand3 listing (begin listing E buffer) calls
-  demand-3 =
-      let x = begin listing E buffer in
-      let end = reached-after listing E bytes calls x words start in
-      let s = after listing calls x .store in
-      record {
-        well-formed = end .table;
-        charge-afresh = ap (λ (r : Record). r .charge) (decoded (s .table) (s .rec) (end .table) .rec)
-            ∙ ap (λ (e : ℕ). charge e (entriesOf s)) (end .size-kept);
-        same-tree = λ h p n. ap (λ (f : View). f p) (end .sound h .tree);
-        accepted-by-rules = throughout listing E bytes (AcceptedByRules listing) (by-rules listing E bytes) calls x words start;
-        refused-with-cause = throughout listing E bytes (RefusedWithCause listing) (with-cause listing E bytes) calls x words start;
-        leaves-others = throughout listing E bytes (LeavesOthers listing) (others listing E bytes) calls x words start;
-        within-limit = throughout listing E bytes (WithinLimit listing) (limit-kept listing E bytes) calls x words start;
-        refused-leaves = throughout listing E bytes (RefusedLeaves listing) (leaves listing E bytes) calls x words start;
-        malformed = λ h. throughout listing E bytes (RefusedAndEmpty listing) (over-malformed listing E bytes h) calls x words start;
-      }
+  demand-3 = record {
+    well-formed = run .in-the-end .well-formed;
+    charge-afresh = run .in-the-end .charge-afresh;
+    same-tree = run .in-the-end .same-tree;
+    accepted-by-rules = each-call (AcceptedByRules listing) (λ x q d. d .accepted-by-rules);
+    refused-with-cause = each-call (RefusedWithCause listing) (λ x q d. d .refused-with-cause);
+    leaves-others = each-call (LeavesOthers listing) (λ x q d. d .leaves-others);
+    within-limit = each-call (WithinLimit listing) (λ x q d. d .within-limit);
+    refused-leaves = each-call (RefusedLeaves listing) (λ x q d. d .refused-leaves);
+    malformed = λ h. all-kept-empty listing h calls (begin listing E buffer) (run .each) (opened-empty E buffer (opening-sized E buffer v opening));
+  }
 
   pub posix : Throughout (DoesAsPosix listing) listing (begin listing E buffer) calls
-  posix = throughout listing E bytes (DoesAsPosix listing) (as-posix listing E bytes) calls (begin listing E buffer) words start
+  posix = each-call (DoesAsPosix listing) (λ x q d. d .as-posix)

@@ -19,6 +19,7 @@ use Rattle.model.specs.Checks.{notRoot, Memory, limited, charged}
 use Rattle.model.specs.Rename.{asEntry, uncovered, along, carried, moved, renameChecks}
 use Rattle.model.specs.Calls.{Call, write, mkdir, unlink, rmdir, rename, changed, rules}
 use Rattle.model.specs.Posix.{Prefixed, Empty, makeDirectory, makeMissing, makeDirectories, renameFile, Posix}
+use Rattle.model.specs.Rules.{Rules}
 use Rattle.model.specs.Runs.{touches}
 use Rattle.model.proofs.Orders.{split, Split, bot, yea, nay, test, is-none, is-some, opt, mem, mem-ancestors}
 use Rattle.model.proofs.Orders.{rest-below, rest-nil}
@@ -26,7 +27,7 @@ use Rattle.model.proofs.Maps.{orElse, lookup-put, lookup-puts, lookup-e
 use Rattle.model.proofs.Invariant.{kind-is, is-nothing, is-directory, is-file, is-link′, Closed, Inv, shown-put, shown-over, kind-at, then-pass, parents-dirs, inv-empty}
 use Rattle.model.proofs.Small.{write-inv, unlink-inv, rmdir-inv, mkdir-inv, mkdir-up, mem-absent, met-nothing, met-directory, mkdir-met, makes-missing, makes-none, not-both, mkdir-lookup, madeAt, unlink-found, rmdir-ok, above-dirs}
 use Rattle.model.proofs.Moves.{Held, RenameOk, moveView, move-inv, move-tree, move-self}
-use Rattle.model.proofs.Rules.{Rules, rules-inv, inv-rules}
+use Rattle.model.proofs.Rules.{rules-inv, inv-rules}
 use Rattle.model.proofs.Agree.{rename-ok, pass-at, later}
 
 -- the entries elsewhere stay

@@ -31,7 +31,8 @@ use Rattle.model.proofs.Maps.{orElse, mapO, lookup-put, lookup-puts, lo
 use Rattle.model.proofs.Invariant.{Closed, then-pass}
 use Rattle.model.proofs.Moves.{Held}
 use Rattle.model.proofs.Agree.{pass-at, later}
-use Rattle.model.proofs.Words.{Word, Worded, Words, WordedCall, IsBytes}
+use Rattle.model.specs.Runs.{Word, WordedCall}
+use Rattle.model.proofs.Words.{Worded, Words, IsBytes}
 use Rattle.model.proofs.Texts.{path-ancestor, path-moved}
 use Rattle.model.proofs.Small.{root-refused}
 

@@ -40,7 +40,7 @@ kind-is aLink = is-link′ refl
 abbrev pub Closed : View → Type 0
 Closed f = (q k : Path) (n : Node) → below q k ≡ true → f k ≡ some n → kind f q ≡ aDirectory
 
--- #112's five rules in the form that the proofs use; Rules.antt has them as written
+-- #112's five rules in the form that the proofs use; specs/Rules.antt has them as written
 pub record Inv (t : Table) (l : Tree) : Type 0 where
   pub closed : Closed (shown t l)
   pub uncovered : (k : Path) → lookup l k ≡ some link → lookup t k ≡ none

@@ -17,5 +17,7 @@ pub mod Effects
 pub mod Formed
 pub mod Shapes
 pub mod Reached
+pub mod Resumed
+pub mod Built
 pub mod Demand3
 pub mod Chained

@@ -1,4 +1,4 @@
--- The states that a list of calls reaches from an accepted opening, on bytes: what holds of each of them, and that each call keeps it.
+-- The states that a list of calls reaches, on bytes, from an opening or from any table with the rules: what holds of each of them, and that each call keeps it.
 -- Assumes that the listing's elements are bytes and that mtime arguments have 64 bits.
 use mathlib.Core.Path.{_≡_, refl, ap, sym, _∙_, subst, subst⁻¹}
 use mathlib.Core.Logic.{inl, inr}
@@ -20,10 +20,10 @@ use Rattle.model.specs.Outcome.{Store, Request, tableAfter, lent, room, 
 use Rattle.model.specs.Plain.{plainEffect}
 use Rattle.model.specs.Cause.{Cause, short-work, malformed-listing, exceeds, no-room}
 use Rattle.model.specs.Posix.{Posix}
-use Rattle.model.specs.Runs.{State, fed, step, after, begin, Throughout, entriesOf, keptBytes}
-use Rattle.model.specs.Runs.{AcceptedByRules, RefusedWithCause, LeavesOthers, WithinLimit, RefusedLeaves, RefusedAndEmpty, DoesAsPosix}
+use Rattle.model.specs.Runs.{State, fed, step, after, begin, WordedCall, WordedCalls, Throughout, entriesOf, keptBytes}
+use Rattle.model.specs.Runs.{AcceptedByRules, RefusedWithCause, LeavesOthers, WithinLimit, DoesAsPosix, DoesAsSaid}
 use Rattle.model.proofs.Orders.{bot}
-use Rattle.model.proofs.Words.{WordedCall, IsBytes}
+use Rattle.model.proofs.Words.{IsBytes}
 use Rattle.model.proofs.Codec.{decoded, encoded, opened-table}
 use Rattle.model.proofs.Invariant.{then-pass}
 use Rattle.model.proofs.Agree.{Sound, sound-empty, accepts, allows, keeps, Caused, passed, because}
@@ -31,10 +31,21 @@ use Rattle.model.proofs.Effects.{stays, in-limit, posix}
 use Rattle.model.proofs.Shapes.{not-refused, untouched}
 use Rattle.model.proofs.Formed.{FineTable, fine-is, fine-empty, listing-fine, changed-fine}
 
--- every mtime argument of the list has 64 bits
-abbrev pub WordedCalls : List Request → Type 0
-WordedCalls [] = Unit {0}
-WordedCalls (q ∷ qs) = WordedCall (q .call) × WordedCalls qs
+-- an opening that is accepted found E and the buffer's length in order
+pub opening-sized : (E : ℕ) (buffer : Bytes) (v : ℕ) → opened E buffer .reply ≡ accepted v → sized E (length buffer) ≡ true
+opening-sized E buffer v h = go (sized E (length buffer)) h
+  where
+    go : (b : Bool) → cond b (accepted 0) (refused 1 0 0) ≡ accepted v → b ≡ true
+    go true h = cc
+    go false h = cc
+
+-- then the table is empty, and all 0
+opened-is : (E : ℕ) (buffer : Bytes) → sized E (length buffer) ≡ true
+    → opened E buffer .store ≡ record { table = replicate (length buffer) 0; rec = recordOf E [] }
+opened-is E buffer h = ap (λ (c : Bool). record { table = cond c (replicate (length buffer) 0) buffer; rec = recordOf E [] }) h
+
+pub opened-empty : (E : ℕ) (buffer : Bytes) → sized E (length buffer) ≡ true → entriesOf (opened E buffer .store) ≡ []
+opened-empty E buffer h = ap entriesOf (opened-is E buffer h) ∙ opened-table E (length buffer) h .0
 
 module _ (listing : Bytes) (E : ℕ) where
   pub record Reached (x : State) : Type 0 where
@@ -42,7 +53,6 @@ module _ (listing : Bytes) (E : ℕ) where
     pub size-kept : x .store .rec .«entry_size» ≡ E
     pub fine : FineTable (entriesOf (x .store))
     pub sound : isListing listing ≡ true → Sound (entriesOf (x .store)) (treeIn listing) (x .plain)
-    pub nothing-kept : isListing listing ≡ false → entriesOf (x .store) ≡ []
 
   -- what an accepted call has passed
   record Passed (q : Request) (s : Store) : Type 0 where
@@ -109,7 +119,6 @@ module _ (listing : Bytes) (E : ℕ) where
           fine = subst⁻¹ FineTable (m .read) (m .fine);
           sound = λ h. subst⁻¹ (λ (t : Table). Sound t (treeIn listing) (plainEffect (x .plain) (q .call))) (m .read)
               (keeps (entriesOf (x .store)) (treeIn listing) (x .plain) (r .sound h) (l .held) (l .closed) (limited (x .store .rec .«entry_size») (q .limit)) (q .call) (p .rule));
-          nothing-kept = λ h. absurd (both (isListing listing) (p .well) h);
         }
     reached-by (refuse n w k) q x v y r = r
 
@@ -119,12 +128,6 @@ module _ (listing : Bytes) (E : ℕ) where
     pub reached-after : (qs : List Request) (x : State) → WordedCalls qs → Reached x → Reached (after listing qs x)
     reached-after [] x w r = r
     reached-after (q ∷ qs) x w r = reached-after qs (step listing q x) (w .1) (reached-step q x (w .0) r)
-
-    -- what holds of each call in a reached state holds throughout the list
-    pub throughout : (P : State → Request → Type 0) → ((x : State) (q : Request) → WordedCall (q .call) → Reached x → P x q)
-        → (qs : List Request) (x : State) → WordedCalls qs → Reached x → Throughout P listing x qs
-    throughout P h [] x w r = tt
-    throughout P h (q ∷ qs) x w r = (h x q (w .0) r, throughout P h qs (step listing q x) (w .1) (reached-step q x (w .0) r))
 
     -- an answer tells the verdict
     accepted-pass : (c : Check) (q : Request) (s : Store) (v : ℕ) → settle c listing q s .reply ≡ accepted v → c ≡ pass
@@ -138,7 +141,7 @@ module _ (listing : Bytes) (E : ℕ) where
     accepted-passed : (q : Request) (s : Store) (v : ℕ) → outcome listing q s .reply ≡ accepted v → Passed q s
     accepted-passed q s v h = has-passed q s (accepted-pass (verdict listing q s) q s v h)
 
-    pub by-rules : (x : State) (q : Request) → WordedCall (q .call) → Reached x → AcceptedByRules listing x q
+    by-rules : (x : State) (q : Request) → WordedCall (q .call) → Reached x → AcceptedByRules listing x q
     by-rules x q w r v h =
         let p = accepted-passed q (x .store) v h in
         let l = listing-fine listing b (p .well) in
@@ -165,7 +168,7 @@ module _ (listing : Bytes) (E : ℕ) where
             last false o e = subst (Cause listing q (x .store)) (number-is 13 0 0 n w k e) (no-room (leb-false (length (encode (tableAfter listing q (x .store)))) (length (x .store .table)) o))
         go R (because m z) e = subst (Cause listing q (x .store)) (number-is m 0 0 n w k e) (exceeds m z)
 
-    pub with-cause : (x : State) (q : Request) → WordedCall (q .call) → Reached x → RefusedWithCause listing x q
+    with-cause : (x : State) (q : Request) → WordedCall (q .call) → Reached x → RefusedWithCause listing x q
     with-cause x q y r n w k h p =
         let u = then-pass (forms (q .call)) (rules unlimited [] (x .plain) (q .call)) p in
         let m = limited (x .store .rec .«entry_size») (q .limit) in
@@ -174,7 +177,7 @@ module _ (listing : Bytes) (E : ℕ) where
         allows (entriesOf (x .store)) (treeIn listing) (x .plain) (r .sound z) (l .closed) (l .sorted) m (q .call) (u .1))
         (room listing q (x .store)) refl (refused-is (verdict listing q (x .store)) q (x .store) n w k h)
 
-    pub others : (x : State) (q : Request) → WordedCall (q .call) → Reached x → LeavesOthers listing x q
+    others : (x : State) (q : Request) → WordedCall (q .call) → Reached x → LeavesOthers listing x q
     others x q y r k h = go (verdict listing q (x .store)) refl
       where
         go : (c : Check) → verdict listing q (x .store) ≡ c → keptBytes k (lookup (entriesOf (stepBy c q x .store)) k) ≡ keptBytes k (lookup (entriesOf (x .store)) k)
@@ -182,7 +185,7 @@ module _ (listing : Bytes) (E : ℕ) where
             ap (λ (t : Table). keptBytes k (lookup t k)) (m .read) ∙ ap (keptBytes k) (stays (entriesOf (x .store)) (treeIn listing) k (q .call) h)
         go (refuse n w j) v = refl
 
-    pub limit-kept : (x : State) (q : Request) → WordedCall (q .call) → Reached x → WithinLimit listing x q
+    limit-kept : (x : State) (q : Request) → WordedCall (q .call) → Reached x → WithinLimit listing x q
     limit-kept x q y r v h = go (verdict listing q (x .store)) refl h
       where
         go : (c : Check) → verdict listing q (x .store) ≡ c → settle c listing q (x .store) .reply ≡ accepted v
@@ -194,13 +197,7 @@ module _ (listing : Bytes) (E : ℕ) where
               | inr z ↦ absurd (d (ap (λ (t : Table). padded (length (x .store .table)) (encode t)) z ∙ sym (decoded (x .store .table) (x .store .rec) (r .table) .bytes)))
             ]
 
-    pub leaves : (x : State) (q : Request) → WordedCall (q .call) → Reached x → RefusedLeaves listing x q
-    leaves x q y r n w k h = untouched listing q (x .store) n w k h
-
-    pub over-malformed : isListing listing ≡ false → (x : State) (q : Request) → WordedCall (q .call) → Reached x → RefusedAndEmpty listing x q
-    over-malformed z x q y r = (λ v h. both (isListing listing) (accepted-passed q (x .store) v h .well) z, reached-step q x y r .nothing-kept z)
-
-    pub as-posix : (x : State) (q : Request) → WordedCall (q .call) → Reached x → DoesAsPosix listing x q
+    as-posix : (x : State) (q : Request) → WordedCall (q .call) → Reached x → DoesAsPosix listing x q
     as-posix x q y r v h = go (verdict listing q (x .store)) refl h
       where
         go : (c : Check) → verdict listing q (x .store) ≡ c → settle c listing q (x .store) .reply ≡ accepted v
@@ -213,9 +210,25 @@ module _ (listing : Bytes) (E : ℕ) where
             subst⁻¹ (λ (t : Table). Posix (shown (entriesOf (x .store)) (treeIn listing)) (shown t (treeIn listing)) (q .call)) (m .read)
             (posix (entriesOf (x .store)) (treeIn listing) (r .sound (p .well) .inv) (l .held) (l .closed) (limited (x .store .rec .«entry_size») (q .limit)) (q .call) (p .rule))
 
+    -- a call in a reached state
+    does-as-said : (x : State) (q : Request) → WordedCall (q .call) → Reached x → DoesAsSaid listing x q
+    does-as-said x q w r = record {
+      accepted-by-rules = by-rules x q w r;
+      refused-with-cause = with-cause x q w r;
+      leaves-others = others x q w r;
+      within-limit = limit-kept x q w r;
+      refused-leaves = untouched listing q (x .store);
+      as-posix = as-posix x q w r;
+      malformed = λ z v h. both (isListing listing) (accepted-passed q (x .store) v h .well) z;
+    }
+
+    pub all-do : (qs : List Request) (x : State) → WordedCalls qs → Reached x → Throughout (DoesAsSaid listing) listing x qs
+    all-do [] x w r = tt
+    all-do (q ∷ qs) x w r = (does-as-said x q (w .0) r, all-do qs (step listing q x) (w .1) (reached-step q x (w .0) r))
+
     -- what an accepted opening gave
     pub reached-begin : (buffer : Bytes) → sized E (length buffer) ≡ true → Reached (begin listing E buffer)
-    reached-begin buffer h = subst⁻¹ (λ (s : Store). Reached (record { store = s; plain = treeIn listing })) (zeroed h)
+    reached-begin buffer h = subst⁻¹ (λ (s : Store). Reached (record { store = s; plain = treeIn listing })) (opened-is E buffer h)
         (let o = opened-table E (length buffer) h in
         record {
           table = o .1;
@@ -223,8 +236,4 @@ module _ (listing : Bytes) (E : ℕ) where
           fine = subst⁻¹ FineTable (o .0) fine-empty;
           sound = λ z. let l = listing-fine listing b z in
               subst⁻¹ (λ (t : Table). Sound t (treeIn listing) (treeIn listing)) (o .0) (sound-empty (treeIn listing) (l .closed) (l .sorted));
-          nothing-kept = λ z. o .0;
         })
-      where
-        zeroed : sized E (length buffer) ≡ true → opened E buffer .store ≡ record { table = replicate (length buffer) 0; rec = recordOf E [] }
-        zeroed h = ap (λ (c : Bool). record { table = cond c (replicate (length buffer) 0) buffer; rec = recordOf E [] }) h

@@ -1,4 +1,4 @@
--- Change request #112's five rules as it writes them, and that they are the invariant `Inv`; laws of `child`.
+-- The five rules of change request #112 are the invariant `Inv`, both ways; laws of `child`.
 -- `rules-inv` assumes that the listing is closed and that no entry stands at the root; `inv-rules` assumes nothing.
 use mathlib.Core.Path.{_≡_, refl, sym, _∙_}
 use mathlib.Core.Logic.{_⊎_, inl, inr}
@@ -13,22 +13,10 @@ use Rattle.model.specs.Path.{Path, below, child, slashless}
 use Rattle.model.specs.Map.{lookup}
 use Rattle.model.specs.Tree.{listed, Node, dir, file, link, Entry, own, reference, directory, deleted, Table, Tree}
 use Rattle.model.specs.Tree.{view, shown, aDirectory, kindOf, kind}
+use Rattle.model.specs.Rules.{Rules}
 use Rattle.model.proofs.Orders.{bot, yea, nay, test, is-none, is-some, opt, and-true, eqb-true}
 use Rattle.model.proofs.Invariant.{Closed, Inv, kind-at, entry-at, at-none, at-own, at-reference, at-directory, at-deleted}
 use Rattle.model.proofs.Invariant.{kind-is, is-nothing, is-directory, is-file, is-link′, node-at, no-node, a-dir, a-file, a-link}
-
--- "every entry of kind 1 to 3 has visible directories as parents, every listed path below a path that shows no directory has an entry,
--- no entry covers a link, every reference names a listed file with that mtime and size, and a directory entry over a listed directory
--- leaves none of its listed children without an entry"
-pub record Rules (t : Table) (l : Tree) : Type 0 where
-  pub parents : (k : Path) (e : Entry) (n : Node) (q : Path) → lookup t k ≡ some e → view e ≡ some n → below q k ≡ true
-      → kind (shown t l) q ≡ aDirectory
-  pub hidden : (k : Path) (n : Node) (q : Path) → lookup l k ≡ some n → below q k ≡ true → (kind (shown t l) q ≡ aDirectory → ⊥)
-      → lookup t k ≡ none → ⊥
-  pub links : (k : Path) → lookup l k ≡ some link → lookup t k ≡ none
-  pub refs : (k : Path) (m s : ℕ) (p : Path) → lookup t k ≡ some (reference m s p) → lookup l p ≡ some (file m s (listed p))
-  pub children : (k : Path) (m j : ℕ) (q : Path) (n : Node) → lookup t k ≡ some (directory m) → lookup l k ≡ some (dir j)
-      → child k q ≡ true → lookup l q ≡ some n → lookup t q ≡ none → ⊥
 
 pub below-length : (k q : Path) → below k q ≡ true → length k < length q
 below-length [] [] h = absurd (bot (cc))

@@ -1,12 +1,13 @@
--- Document 01, "The list of calls and the plain tree". The plain tree reads neither entries nor record; it begins as
--- the listing's tree (`treeIn`).
+-- Document 01, "The list of calls and the plain tree". The plain tree reads neither entries nor record; from an opening
+-- on it begins as the listing's tree (`treeIn`), from any other table as the tree that the table shows.
 use mathlib.Core.Bool.{cond}
 use mathlib.Core.List.{[], _∷_}
+use mathlib.Core.Option.{Option, none, some}
 use lib.ListN.{length}
 use Rattle.model.specs.Bytes.{same}
 use Rattle.model.specs.Path.{Path, ancestors}
 use Rattle.model.specs.Map.{lookup, put, puts, del, each, rekey, outside}
-use Rattle.model.specs.Tree.{held, dir, file, Tree, kind, isDirectory}
+use Rattle.model.specs.Tree.{held, Node, dir, file, Table, Tree, view, kind, isDirectory}
 use Rattle.model.specs.Checks.{Check, _then_, missing, unlimited}
 use Rattle.model.specs.Calls.{Call, write, mkdir, unlink, rmdir, rename, forms, rules}
 
@@ -28,3 +29,13 @@ plainEffect s (mkdir p up ok m) = cond (isDirectory (kind (lookup s) p)) s
 plainEffect s (unlink p) = del p s
 plainEffect s (rmdir p) = del p s
 plainEffect s (rename a b) = cond (same a b) s (plainMove a b (del b s))
+
+-- #112: "the tree that the table shows", as a tree: over the listing, each entry's node at its key, and nothing at the
+-- key of a deleted one
+abbrev pub laid : Option Node → Path → Tree → Tree
+laid none k s = del k s
+laid (some n) k s = put k n s
+
+abbrev pub visibleTree : Table → Tree → Tree
+visibleTree [] l = l
+visibleTree (x ∷ xs) l = laid (view (x .1)) (x .0) (visibleTree xs l)

@@ -4,7 +4,7 @@ use mathlib.Core.Path.{_≡_}
 use mathlib.Core.Bool.{Bool, true, false, _&&_, _||_}
 use mathlib.Core.List.{List, [], _∷_, _++_}
 use mathlib.Core.Option.{Option, none, some}
-use Prim.Native.Nat.{ℕ, _≤_}
+use Prim.Native.Nat.{ℕ, _≤_, _<_}
 use Rattle.model.specs.Bytes.{Bytes, same}
 use Rattle.model.specs.Path.{Path, below}
 use Rattle.model.specs.Map.{lookup}
@@ -15,7 +15,7 @@ use Rattle.model.specs.Checks.{pass}
 use Rattle.model.specs.Calls.{Call, write, mkdir, unlink, rmdir, rename}
 use Rattle.model.specs.Answer.{Reply, accepted, refused}
 use Rattle.model.specs.Outcome.{Store, Request, Outcome, outcome, opened}
-use Rattle.model.specs.Plain.{plainRules, plainEffect}
+use Rattle.model.specs.Plain.{plainRules, plainEffect, visibleTree}
 use Rattle.model.specs.Cause.{Cause}
 use Rattle.model.specs.Posix.{Posix}
 
@@ -42,6 +42,31 @@ after listing (q ∷ qs) x = after listing qs (step listing q x)
 -- "The list starts from what an accepted opening gave"; the plain tree "begins as the listing"
 abbrev pub begin : Bytes → ℕ → Bytes → State
 begin listing E buffer = record { store = opened E buffer .store; plain = treeIn listing }
+
+-- #101, #112: the list goes on from a table that is there; the plain tree "begins as the tree that the table shows"
+abbrev pub resume : Bytes → Store → State
+resume listing s = record { store = s; plain = visibleTree (tableIn (s .table) (s .rec)) (treeIn listing) }
+
+-- a call's mtime argument, and those of a list of calls, are 64-bit numbers: they are, in every program
+abbrev pub Word : ℕ → Type 0
+Word n = n < 0x1_0000_0000_0000_0000
+
+abbrev pub WordedCall : Call → Type 0
+WordedCall (write p m c) = Word m
+WordedCall (mkdir p up ok m) = Word m
+WordedCall (unlink p) = Unit {0}
+WordedCall (rmdir p) = Unit {0}
+WordedCall (rename a b) = Unit {0}
+
+abbrev pub WordedCalls : List Request → Type 0
+WordedCalls [] = Unit {0}
+WordedCalls (q ∷ qs) = WordedCall (q .call) × WordedCalls qs
+
+-- #108, #111: "tables that our calls built": what an accepted opening gave, and what a call, accepted or refused, left
+-- of such a table
+pub data Built (listing : Bytes) (E : ℕ) : State → Type 0 where
+  by-opening : (buffer : Bytes) (v : ℕ) → opened E buffer .reply ≡ accepted v → Built listing E (begin listing E buffer)
+  by-call : (x : State) (q : Request) → WordedCall (q .call) → Built listing E x → Built listing E (step listing q x)
 
 -- of every call of the list, with the state that it meets
 abbrev pub Throughout : (State → Request → Type 0) → Bytes → State → List Request → Type 0
@@ -124,6 +149,29 @@ pub record Demand3 (listing : Bytes) (start : State) (calls : List Request) : Ty
   pub within-limit : Throughout (WithinLimit listing) listing start calls
   pub refused-leaves : Throughout (RefusedLeaves listing) listing start calls
   pub malformed : isListing listing ≡ false → Throughout (RefusedAndEmpty listing) listing start calls
+
+-- Demand 3 and POSIX from any state on: what a table, its record and its plain tree have in common,
+pub record Agrees (listing : Bytes) (E : ℕ) (x : State) : Type 0 where
+  pub well-formed : isTable (x .store .table) (x .store .rec) ≡ true
+  pub charge-afresh : x .store .rec .charge ≡ charge E (entriesOf (x .store))
+  pub same-tree : isListing listing ≡ true → (p : Path) → (p ≡ [] → ⊥)
+      → shown (entriesOf (x .store)) (treeIn listing) p ≡ lookup (x .plain) p
+
+-- what holds of each call in the state that it meets,
+pub record DoesAsSaid (listing : Bytes) (x : State) (q : Request) : Type 0 where
+  pub accepted-by-rules : AcceptedByRules listing x q
+  pub refused-with-cause : RefusedWithCause listing x q
+  pub leaves-others : LeavesOthers listing x q
+  pub within-limit : WithinLimit listing x q
+  pub refused-leaves : RefusedLeaves listing x q
+  pub as-posix : DoesAsPosix listing x q
+  -- "Over a malformed listing … every call is refused"
+  pub malformed : isListing listing ≡ false → (v : ℕ) → outcome listing q (x .store) .reply ≡ accepted v → ⊥
+
+-- and both over the list as a whole
+pub record RunFrom (listing : Bytes) (start : State) (calls : List Request) : Type 0 where
+  pub each : Throughout (DoesAsSaid listing) listing start calls
+  pub in-the-end : Agrees listing (start .store .rec .«entry_size») (after listing calls start)
 
 -- One call as its caller has it: what was asked, and the reply, the table with its record and the work buffer that were
 -- there after it.

@@ -11,12 +11,11 @@ use Rattle.model.specs.Bytes.{Bytes}
 use Rattle.model.specs.Calls.{Call}
 use Rattle.model.specs.Answer.{Reply, accepted, refused}
 use Rattle.model.specs.Outcome.{Store, Request, Outcome, outcome, opened}
-use Rattle.model.specs.Runs.{after, begin, Exchange, requestsIn, HoldsOfChain}
+use Rattle.model.specs.Runs.{State, after, begin, WordedCalls, Built, Exchange, requestsIn, HoldsOfChain}
 use Rattle.model.proofs.Orders.{bot}
 use Rattle.model.proofs.Words.{IsBytes}
 use Rattle.model.proofs.Shapes.{Shaped, table, listing, malformed, at-path, at-ancestor, below-source, limit, key-too-long, no-room, shaped}
-use Rattle.model.proofs.Reached.{WordedCalls}
-use Rattle.model.proofs.Chained.{one-more, last-of-more, chain-holds}
+use Rattle.model.proofs.Chained.{one-more, last-of-more, chain-built, chain-holds}
 use Rattle.call_answer.specs.Meets.{stored}
 use Rattle.call_answer.proofs.Chains.{Calling, call-none}
 use Rattle.overlay_packed.specs.Packed.{packed, Fits, ifAccepted, numbers, recordIn}
@@ -119,3 +118,10 @@ pub handing-holds : (l : Bytes) → IsBytes l → (E : ℕ) (buffer : Bytes) (v 
     → HoldsOfChain l (begin l E buffer) chain × (stored t (recordIn n) ≡ after l (requestsIn chain) (begin l E buffer) .store)
 handing-holds l b E buffer v e chain t n k w =
     let c = chain-holds l b E buffer v e chain (k .calling .made) w in (c, k .calling .store ∙ c .last)
+
+-- and the table with its record that it has is one that the calls built
+pub handing-built : (l : Bytes) → IsBytes l → (E : ℕ) (buffer : Bytes) (v : ℕ) → opened E buffer .reply ≡ accepted v → (chain : List Exchange) (t : Bytes) (n : List ℕ)
+    → Handing l (opened E buffer .store) chain t n → WordedCalls (requestsIn chain)
+    → (x : State) × Built l E x × (x .store ≡ stored t (recordIn n))
+handing-built l b E buffer v e chain t n k w =
+    let c = chain-built l b E buffer v e chain (k .calling .made) w in (c .0, c .1, c .2 ∙ sym (k .calling .store))

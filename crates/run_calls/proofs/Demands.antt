@@ -9,15 +9,14 @@ use Rattle.model.specs.Tree.{Tree}
 use Rattle.model.specs.Table.{sized}
 use Rattle.model.specs.Answer.{Reply, accepted, refused, told}
 use Rattle.model.specs.Outcome.{Store, Request, Outcome, outcome, opened}
-use Rattle.model.specs.Runs.{step, after, begin}
+use Rattle.model.specs.Runs.{step, after, begin, WordedCall, WordedCalls}
 use Rattle.model.specs.declared.Record.{Record}
 use Rattle.model.specs.declared.Refusal.{Refusal}
 use Rattle.model.specs.declared.Answer.{Answer}
 use Rattle.model.specs.declared.Answer.the-variants.{Accepted, Refused}
 use Rattle.model.proofs.Orders.{bot}
-use Rattle.model.proofs.Words.{WordedCall, IsBytes}
+use Rattle.model.proofs.Words.{IsBytes}
 use Rattle.model.proofs.Formed.{bytes-drop, number-below}
-use Rattle.model.proofs.Reached.{WordedCalls}
 use Rattle.model.proofs.Demand3 as demand
 use Rattle.check_judged.specs.Judged.{asCheck, refuses}
 use Rattle.check_judged.proofs.Checked.{refusal-refuses}

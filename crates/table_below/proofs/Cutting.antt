@@ -14,7 +14,8 @@ use Rattle.model.specs.Table.{mtimeOf, encode, keyAt, entryAt, entryEnd, entrie
 use Rattle.model.specs.declared.Record.{Record}
 use Rattle.model.proofs.Orders.{Lt, Lt-trans, yea, nay, test, bot, and-true, below-range}
 use Rattle.model.proofs.Maps.{Ascending, ascends-is}
-use Rattle.model.proofs.Words.{Word, Worded, Words}
+use Rattle.model.specs.Runs.{Word}
+use Rattle.model.proofs.Words.{Worded, Words}
 use Rattle.model.proofs.Codec.{read-table}
 use Rattle.base_fields.specs.Read.{part}
 use Rattle.base_fields.proofs.Common.{before-Lt, Lt-before}
