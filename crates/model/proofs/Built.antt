@@ -10,9 +10,8 @@ use Rattle.model.specs.Outcome.{Request}
 use Rattle.model.specs.Rules.{Rules}
 use Rattle.model.specs.Runs.{State, step, after, entriesOf, WordedCalls, Built, by-opening, by-call, RunFrom}
 use Rattle.model.proofs.Words.{IsBytes}
-use Rattle.model.proofs.Rules.{inv-rules}
 use Rattle.model.proofs.Reached.{Reached, opening-sized, reached-begin, reached-step}
-use Rattle.model.proofs.Resumed.{run-from}
+use Rattle.model.proofs.Resumed.{run-from, reached-rules}
 
 module _ (listing : Bytes) (E : ℕ) where
   -- what a list of calls leaves of a built table
@@ -27,7 +26,7 @@ module _ (listing : Bytes) (E : ℕ) where
 
     -- #112: "A table that our calls made over that listing passes."
     pub built-rules : (x : State) → Built listing E x → isListing listing ≡ true → Rules (entriesOf (x .store)) (treeIn listing)
-    built-rules x b h = inv-rules (entriesOf (x .store)) (treeIn listing) (built-reached x b .sound h .inv)
+    built-rules x b = reached-rules listing bytes E x (built-reached x b)
 
     -- demand 3 and POSIX from a built table on
     pub built-runs : (x : State) → Built listing E x → (calls : List Request) → WordedCalls calls → RunFrom listing x calls

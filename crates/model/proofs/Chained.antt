@@ -39,14 +39,6 @@ last-of-more s (y ∷ ys) x = last-of-more (y .seen .store) ys x
 
 module _ (listing : Bytes) (bytes : IsBytes listing) (E : ℕ) (buffer : Bytes) (v : ℕ) (opening : opened E buffer .reply ≡ accepted v)
     (chain : List Exchange) (made : Chained listing (opened E buffer .store) chain) (words : WordedCalls (requestsIn chain)) where
-  -- what the caller has in the end is a table that the calls built
-  pub chain-built : (x : State) × Built listing E x × (x .store ≡ lastSeen (opened E buffer .store) chain)
-  chain-built = (
-    after listing (requestsIn chain) (begin listing E buffer),
-    built-after listing E (requestsIn chain) (begin listing E buffer) words (by-opening buffer v opening),
-    sym (seen-last listing (begin listing E buffer) chain made),
-  )
-
   pub chain-holds : HoldsOfChain listing (begin listing E buffer) chain
   chain-holds = record {
     demand-3 = demand.demand-3 listing bytes E buffer v opening (requestsIn chain) words;
@@ -54,3 +46,11 @@ module _ (listing : Bytes) (bytes : IsBytes listing) (E : ℕ) (buffer : Bytes) 
     each = λ before x behind e. seen-at listing (begin listing E buffer) before x behind (subst (Chained listing (opened E buffer .store)) e made);
     last = seen-last listing (begin listing E buffer) chain made;
   }
+
+  -- what the caller has in the end is a table that the calls built
+  pub chain-built : (x : State) × Built listing E x × (x .store ≡ lastSeen (opened E buffer .store) chain)
+  chain-built = (
+    after listing (requestsIn chain) (begin listing E buffer),
+    built-after listing E (requestsIn chain) (begin listing E buffer) words (by-opening buffer v opening),
+    sym (seen-last listing (begin listing E buffer) chain made),
+  )

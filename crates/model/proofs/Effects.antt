@@ -1,5 +1,5 @@
 -- What an accepted call leaves alone, that it ends within its limit, and that it does to the visible tree what POSIX says.
-use mathlib.Core.Path.{_≡_, refl, ap, sym, _∙_, fun-ext, subst, subst⁻¹}
+use mathlib.Core.Path.{_≡_, refl, ap, sym, _∙_, fun-ext, subst}
 use mathlib.Core.Logic.{_⊎_, inl, inr}
 use mathlib.Core.List.{List, [], _∷_, _++_}
 use mathlib.Core.Bool.{Bool, true, false, cond, _&&_, _||_}
@@ -19,15 +19,13 @@ use Rattle.model.specs.Checks.{notRoot, Memory, limited, charged}
 use Rattle.model.specs.Rename.{asEntry, uncovered, along, carried, moved, renameChecks}
 use Rattle.model.specs.Calls.{Call, write, mkdir, unlink, rmdir, rename, changed, rules}
 use Rattle.model.specs.Posix.{Prefixed, Empty, makeDirectory, makeMissing, makeDirectories, renameFile, Posix}
-use Rattle.model.specs.Rules.{Rules}
 use Rattle.model.specs.Runs.{touches}
 use Rattle.model.proofs.Orders.{split, Split, bot, yea, nay, test, is-none, is-some, opt, mem, mem-ancestors}
 use Rattle.model.proofs.Orders.{rest-below, rest-nil}
 use Rattle.model.proofs.Maps.{orElse, lookup-put, lookup-puts, lookup-each, lookup-rekey, lookup-keys, lookup-only}
-use Rattle.model.proofs.Invariant.{kind-is, is-nothing, is-directory, is-file, is-link′, Closed, Inv, shown-put, shown-over, kind-at, then-pass, parents-dirs, inv-empty}
-use Rattle.model.proofs.Small.{write-inv, unlink-inv, rmdir-inv, mkdir-inv, mkdir-up, mem-absent, met-nothing, met-directory, mkdir-met, makes-missing, makes-none, not-both, mkdir-lookup, madeAt, unlink-found, rmdir-ok, above-dirs}
-use Rattle.model.proofs.Moves.{Held, RenameOk, moveView, move-inv, move-tree, move-self}
-use Rattle.model.proofs.Rules.{rules-inv, inv-rules}
+use Rattle.model.proofs.Invariant.{kind-is, is-nothing, is-directory, is-file, is-link′, Closed, Inv, shown-put, shown-over, kind-at, then-pass, parents-dirs}
+use Rattle.model.proofs.Small.{mkdir-up, mem-absent, met-nothing, met-directory, mkdir-met, makes-missing, makes-none, not-both, mkdir-lookup, madeAt, unlink-found, rmdir-ok, above-dirs}
+use Rattle.model.proofs.Moves.{Held, RenameOk, moveView, move-tree, move-self}
 use Rattle.model.proofs.Agree.{rename-ok, pass-at, later}
 
 -- the entries elsewhere stay
@@ -299,21 +297,3 @@ module _ (t : Table) (l : Tree) (i : Inv t l) where
   posix hl cl m (unlink p) h = posix-unlink p (then-pass (unlinkChecks t l p) (charged m (changed t l (unlink p))) h .0)
   posix hl cl m (rmdir p) h = posix-rmdir p (then-pass (rmdirChecks t l p) (charged m (changed t l (rmdir p))) h .0)
   posix hl cl m (rename a b) h = posix-rename hl cl m a b h
-
--- the invariant, as change request #112 has it, is kept by every accepted call, and the empty table over a well-formed listing has it
-module _ (t : Table) (l : Tree) (hl : Held l) (cl : Closed (lookup l)) where
-  inv-kept : Inv t l → (m : Memory) (c : Call) → rules m t l c ≡ pass → Inv (changed t l c) l
-  inv-kept i m (write p d x) h = write-inv t l i p d x (then-pass (writeChecks (shown t l) p) (charged m (changed t l (write p d x))) h .0)
-  inv-kept i m (mkdir p up ok d) h = elim (mkdir-met (length p) ok (kind (shown t l) p) (mkdirParents (shown t l) p up then charged m (changed t l (mkdir p up ok d))) h) [
-    | met-nothing e u ↦ mkdir-inv t l i p d e (mkdir-up t l i p d (shown t l) up (then-pass (mkdirParents (shown t l) p up) (charged m (changed t l (mkdir p up ok d))) u .0))
-    | met-directory e u ↦ subst⁻¹ (λ (x : Table). Inv x l) (unchanged t l p d e) i
-  ]
-  inv-kept i m (unlink p) h = unlink-inv t l i p (then-pass (unlinkChecks t l p) (charged m (changed t l (unlink p))) h .0)
-  inv-kept i m (rmdir p) h = rmdir-inv t l i p (then-pass (rmdirChecks t l p) (charged m (changed t l (rmdir p))) h .0)
-  inv-kept i m (rename a b) h = move-inv t l hl cl i a b (rename-ok t l cl i a b m h)
-
-  pub rules-kept : Rules t l → lookup t [] ≡ none → (m : Memory) (c : Call) → rules m t l c ≡ pass → Rules (changed t l c) l
-  rules-kept r root m c h = inv-rules (changed t l c) l (inv-kept (rules-inv t l cl r root) m c h)
-
-pub rules-empty : (l : Tree) → Closed (lookup l) → Rules [] l
-rules-empty l cl = inv-rules [] l (inv-empty l cl)

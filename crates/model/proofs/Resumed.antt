@@ -9,7 +9,7 @@ use lib.Dec.{eqb}
 use lib.ListN.{drop}
 use Rattle.model.specs.Bytes.{Bytes, numberAt}
 use Rattle.model.specs.Path.{Path}
-use Rattle.model.specs.Map.{lookup, put, del}
+use Rattle.model.specs.Map.{lookup}
 use Rattle.model.specs.Tree.{Node, Table, Tree, View, view, shown}
 use Rattle.model.specs.Listing.{isListing, treeIn}
 use Rattle.model.specs.Table.{charge, bodyAt, entryOf, entryEnd, entriesAt, isTable}
@@ -22,7 +22,7 @@ use Rattle.model.proofs.Orders.{yea, nay, test, Split, split}
 use Rattle.model.proofs.Maps.{upd, lookup-put, lookup-del, Ascending, ascending-put, ascending-del, ascends-is, lookup-low}
 use Rattle.model.proofs.Words.{Worded, Words, IsBytes}
 use Rattle.model.proofs.Codec.{decoded}
-use Rattle.model.proofs.Rules.{rules-inv}
+use Rattle.model.proofs.Rules.{rules-inv, inv-rules}
 use Rattle.model.proofs.Formed.{is-fine, listing-fine, bytes-drop, number-below}
 use Rattle.model.proofs.Reached.{Reached, reached-after, all-do}
 
@@ -79,6 +79,10 @@ module _ (listing : Bytes) (bytes : IsBytes listing) where
         };
       }
 
+  -- there the table has the rules
+  pub reached-rules : (E : ℕ) (x : State) → Reached listing E x → isListing listing ≡ true → Rules (entriesOf (x .store)) (treeIn listing)
+  reached-rules E x r h = inv-rules (entriesOf (x .store)) (treeIn listing) (r .sound h .inv)
+
   -- a table in form that keeps the rules over its listing is such a state, with the tree that it shows
   pub reached-resume : (s : Store) → IsBytes (s .table) → isTable (s .table) (s .rec) ≡ true
       → (isListing listing ≡ true → Rules (entriesOf s) (treeIn listing)) → Reached listing (s .rec .«entry_size») (resume listing s)
@@ -97,8 +101,13 @@ module _ (listing : Bytes) (bytes : IsBytes listing) where
         };
       }
 
-  -- #112: "Runs from a table that passes, over that listing"
-  pub runs-from-rules : (s : Store) → IsBytes (s .table) → isTable (s .table) (s .rec) ≡ true
-      → (isListing listing ≡ true → Rules (entriesOf s) (treeIn listing))
-      → (calls : List Request) → WordedCalls calls → RunFrom listing (resume listing s) calls
-  runs-from-rules s b h r calls w = run-from (s .rec .«entry_size») (resume listing s) (reached-resume s b h r) calls w
+  module _ (s : Store) (b : IsBytes (s .table)) (h : isTable (s .table) (s .rec) ≡ true)
+      (r : isListing listing ≡ true → Rules (entriesOf s) (treeIn listing)) (calls : List Request) (words : WordedCalls calls) where
+    -- #112: "Runs from a table that passes, over that listing"
+    pub runs-from-rules : RunFrom listing (resume listing s) calls
+    runs-from-rules = run-from (s .rec .«entry_size») (resume listing s) (reached-resume s b h r) calls words
+
+    -- and the table that they leave passes again
+    pub rules-after : isListing listing ≡ true → Rules (entriesOf (after listing calls (resume listing s) .store)) (treeIn listing)
+    rules-after = reached-rules (s .rec .«entry_size») (after listing calls (resume listing s))
+        (reached-after listing (s .rec .«entry_size») bytes calls (resume listing s) words (reached-resume s b h r))

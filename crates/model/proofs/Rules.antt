@@ -11,7 +11,7 @@ use lib.ListN.{length}
 use lib.Dec.{eqb}
 use Rattle.model.specs.Path.{Path, below, child, slashless}
 use Rattle.model.specs.Map.{lookup}
-use Rattle.model.specs.Tree.{listed, Node, dir, file, link, Entry, own, reference, directory, deleted, Table, Tree}
+use Rattle.model.specs.Tree.{Node, dir, file, link, Entry, own, reference, directory, deleted, Table, Tree}
 use Rattle.model.specs.Tree.{view, shown, aDirectory, kindOf, kind}
 use Rattle.model.specs.Rules.{Rules}
 use Rattle.model.proofs.Orders.{bot, yea, nay, test, is-none, is-some, opt, and-true, eqb-true}

@@ -1,6 +1,6 @@
 -- The mtimes in a table are 64-bit numbers, and what stands in a lent buffer are bytes.
 use mathlib.Core.List.{[], _∷_}
-use Prim.Native.Nat.{ℕ, _<_}
+use Prim.Native.Nat.{_<_}
 use Rattle.model.specs.Bytes.{Bytes}
 use Rattle.model.specs.Tree.{Entry, own, reference, directory, deleted, Table}
 use Rattle.model.specs.Runs.{Word}

@@ -13,5 +13,5 @@ pub mod Outcome
 pub mod Plain
 pub mod Cause
 pub mod Posix
-pub mod Rules
 pub mod Runs
+pub mod Rules

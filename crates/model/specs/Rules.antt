@@ -23,5 +23,5 @@ pub record Rules (t : Table) (l : Tree) : Type 0 where
   pub refs : (k : Path) (m s : ℕ) (p : Path) → lookup t k ≡ some (reference m s p)
       → lookup l p ≡ some (file m s (listed p))
   -- "a directory entry over a listed directory leaves none of its listed children without an entry"
-  pub children : (k : Path) (m j : ℕ) (q : Path) (n : Node) → lookup t k ≡ some (directory m) → lookup l k ≡ some (dir j)
-      → child k q ≡ true → lookup l q ≡ some n → lookup t q ≡ none → ⊥
+  pub children : (k : Path) (m j : ℕ) (q : Path) (n : Node) → lookup t k ≡ some (directory m)
+      → lookup l k ≡ some (dir j) → child k q ≡ true → lookup l q ≡ some n → lookup t q ≡ none → ⊥
