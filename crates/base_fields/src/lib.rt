@@ -9,7 +9,8 @@ ghost use Rattle.model.specs.Bytes.{numberAt, bytes, order, byOrder, same, befo
 ghost use Rattle.base_fields.specs.Read.{common, zeros};
 ghost use Rattle.base_fields.specs.Write.{overwritten};
 
-fn wide(b: u8) -> u64
+// A byte as a number of 64 bits.
+pub fn wide(b: u8) -> u64
     ensures { λ r. ⌜ (r ≡ b) × (r < 256) ⌝ }
 {
     b as u64

@@ -68,8 +68,10 @@ pub const LISTED_FILE: u8 = 2;
 
 pub const LISTED_LINK: u8 = 3;
 
-// The bytes of an entry before its key.
+// The bytes of an entry before its key; the same as a number of 64 bits.
 pub const ENTRY_HEAD: usize = 24;
+
+pub const ENTRY_HEAD_64: u64 = ENTRY_HEAD as u64;
 
 // An entry's "kind (16 bits: 1 own file, 2 reference to a listed file, 3 directory, 4 deleted)".
 pub const OWN_FILE: u64 = 1;

@@ -21,9 +21,6 @@ use model::Record;
 // The numbers of a record: used, count, charge and entry size.
 const NUMBERS: usize = 4;
 
-// The answer where the record is not four numbers: that of a malformed table.
-const MALFORMED: u64 = 1;
-
 // Makes the buffer an empty table for entries of this size.
 #[no_mangle]
 pub extern "C" fn overlay_open_table(table: &mut [u8], rec: &mut [u64], entry_size: u64) -> u64
@@ -34,7 +31,7 @@ pub extern "C" fn overlay_open_table(table: &mut [u8], rec: &mut [u64], entry_si
         (opened «entry_size» (now (table .entry)) .store .table) (now (table .entry)) ⌝ }
 {
     if rec.len() != NUMBERS {
-        return MALFORMED;
+        return overlay_packed::MALFORMED_TABLE;
     }
     let answered = table_open::open(table, entry_size);
     overlay_packed::store_and_pack(rec, answered)
@@ -65,7 +62,7 @@ pub extern "C" fn overlay_exists(listing: &[u8], table: &[u8], rec: &[u64], path
         (now (rec .entry))) ⌝ }
 {
     if rec.len() != NUMBERS {
-        return MALFORMED;
+        return overlay_packed::MALFORMED_TABLE;
     }
     let finding = call_queries::exists(listing, table, overlay_packed::record_in(rec), path);
     overlay_packed::pack_finding(finding)
@@ -77,7 +74,7 @@ pub extern "C" fn overlay_is_file(listing: &[u8], table: &[u8], rec: &[u64], pat
         (now (rec .entry))) ⌝ }
 {
     if rec.len() != NUMBERS {
-        return MALFORMED;
+        return overlay_packed::MALFORMED_TABLE;
     }
     let finding = call_queries::is_file(listing, table, overlay_packed::record_in(rec), path);
     overlay_packed::pack_finding(finding)
@@ -89,7 +86,7 @@ pub extern "C" fn overlay_is_dir(listing: &[u8], table: &[u8], rec: &[u64], path
         (now (rec .entry))) ⌝ }
 {
     if rec.len() != NUMBERS {
-        return MALFORMED;
+        return overlay_packed::MALFORMED_TABLE;
     }
     let finding = call_queries::is_dir(listing, table, overlay_packed::record_in(rec), path);
     overlay_packed::pack_finding(finding)
@@ -112,7 +109,7 @@ pub extern "C" fn overlay_write_bytes(
         (now (table .entry)) (now (rec .entry)) ⌝ }
 {
     if rec.len() != NUMBERS {
-        return MALFORMED;
+        return overlay_packed::MALFORMED_TABLE;
     }
     let before = overlay_packed::record_in(&*rec);
     let answered = call_one_path::write_bytes(
@@ -146,7 +143,7 @@ pub extern "C" fn overlay_mkdir(
         (now (table .entry)) (now (rec .entry)) ⌝ }
 {
     if rec.len() != NUMBERS {
-        return MALFORMED;
+        return overlay_packed::MALFORMED_TABLE;
     }
     let before = overlay_packed::record_in(&*rec);
     let answered = call_mkdir::mkdir(
@@ -178,7 +175,7 @@ pub extern "C" fn overlay_unlink(
         (now (rec .entry)) ⌝ }
 {
     if rec.len() != NUMBERS {
-        return MALFORMED;
+        return overlay_packed::MALFORMED_TABLE;
     }
     let before = overlay_packed::record_in(&*rec);
     let answered = call_one_path::unlink(listing, table, before, work, path, limit);
@@ -200,7 +197,7 @@ pub extern "C" fn overlay_rmdir(
         (now (rec .entry)) ⌝ }
 {
     if rec.len() != NUMBERS {
-        return MALFORMED;
+        return overlay_packed::MALFORMED_TABLE;
     }
     let before = overlay_packed::record_in(&*rec);
     let answered = call_one_path::rmdir(listing, table, before, work, path, limit);
@@ -223,7 +220,7 @@ pub extern "C" fn overlay_rename(
         (now (table .entry)) (now (rec .entry)) ⌝ }
 {
     if rec.len() != NUMBERS {
-        return MALFORMED;
+        return overlay_packed::MALFORMED_TABLE;
     }
     let before = overlay_packed::record_in(&*rec);
     let answered = call_rename::rename(listing, table, before, work, source, destination, limit);
@@ -246,7 +243,7 @@ pub extern "C" fn overlay_run(
         (now (script .entry)) (now (report .entry)) ⌝ }
 {
     if rec.len() != NUMBERS {
-        return MALFORMED;
+        return overlay_packed::MALFORMED_TABLE;
     }
     let first = overlay_packed::record_in(&*rec);
     let ran = run_calls::run(listing, table, first, work, script, report);
@@ -274,7 +271,7 @@ pub extern "C" fn overlay_run_new(
         (stored (now (table .exit)) (recordIn (now (rec .exit))))) ⌝ }
 {
     if rec.len() != NUMBERS {
-        return MALFORMED;
+        return overlay_packed::MALFORMED_TABLE;
     }
     let ran = run_calls::run_new(listing, entry_size, table, work, script, report);
     let first = Record {

@@ -19,10 +19,11 @@ const PATH_UNIT: u64 = 256;
 
 const VALUE_UNIT: u64 = 65_536;
 
-// What a run answers where it is not done. No call answers one of the last two, and later numbers of calls come from
-// below.
-const MALFORMED_TABLE: u64 = 1;
+// Document 01's 1, packed: also the answer where a record is not four numbers.
+pub const MALFORMED_TABLE: u64 = 1;
 
+// What a run answers besides where it is not done. No call answers one of these, and later numbers of calls come from
+// below.
 const MALFORMED_SCRIPT: u64 = 254;
 
 const SHORT_REPORT: u64 = 255;

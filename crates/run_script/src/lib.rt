@@ -35,12 +35,6 @@ const RENAME: u64 = 5;
 
 const KIND_END: u64 = 6;
 
-fn wide(b: u8) -> u64
-    ensures { λ r. ⌜ (r ≡ b) × (r < 256) ⌝ }
-{
-    b as u64
-}
-
 // Whether a step's kind, flags, length of its second part and mtime bits go together.
 fn is_ruled(kind: u64, flags: u64, second: u64, mtime: u64) -> bool
     ensures { λ r. ⌜ r ≡ ruled kind flags second mtime ⌝ }
@@ -88,8 +82,8 @@ fn is_headed(script: &[u8], at: usize) -> bool
     requires { ⌜ at + 24 ≤ length (now script) ⌝ }
     ensures { λ r. ⌜ r ≡ headed (now (script .entry)) at ⌝ }
 {
-    let kind = wide(script[at]);
-    let flags = wide(script[at + 1]);
+    let kind = base_fields::wide(script[at]);
+    let flags = base_fields::wide(script[at + 1]);
     let second = base_fields::le32(script, at + 4);
     let mtime = base_fields::le64(script, at + 8);
     is_ruled(kind, flags, second, mtime)
@@ -171,8 +165,8 @@ pub fn order_at(script: &[u8], at: usize) -> Order
     requires { ⌜ at + 24 ≤ length (now script) ⌝ }
     ensures { λ r. ⌜ r ≡ orderAt (now (script .entry)) at ⌝ }
 {
-    let kind = wide(script[at]);
-    let flags = wide(script[at + 1]);
+    let kind = base_fields::wide(script[at]);
+    let flags = base_fields::wide(script[at + 1]);
     let mtime = base_fields::le64(script, at + 8);
     let limit = base_fields::le64(script, at + 16);
     Order {

@@ -16,9 +16,6 @@ ghost use Rattle.table_entries.specs.Place.{Standing, Sought};
 ghost use Rattle.table_entries.specs.Cut.{firstIf};
 ghost use Rattle.table_entries.specs.Said.{said, saidOf};
 
-// `model::ENTRY_HEAD` as a number of 64 bits.
-const ENTRY_HEAD_64: u64 = model::ENTRY_HEAD as u64;
-
 // What the table has at a path. A file's content and a reference's listed path stay in the table: `len` bytes from `at`
 // on. The mtime is the float of the stored bits, for whoever computes with it; what is stored again is copied as bits.
 pub enum OverlayEntry {
@@ -158,7 +155,7 @@ pub fn entry_at(table: &[u8], place: Place) -> OverlayEntry
     let n = base_fields::le16(table, at);
     let kind = base_fields::le16(table, at + 2);
     let len = base_fields::le32(table, at + 4);
-    let body = at as u64 + ENTRY_HEAD_64 + n;
+    let body = at as u64 + model::ENTRY_HEAD_64 + n;
     if kind == model::OWN_FILE {
         let mtime = mtime_at(table, at);
         return OverlayEntry::File {

@@ -14,9 +14,6 @@ ghost use Rattle.table_entries.specs.Place.{Standing, endOf};
 ghost use Rattle.table_entries.specs.Cut.{unlessFirst};
 ghost use Rattle.table_measure.specs.Measure.{startsAt, added, replaced, Measured, Counts};
 
-// `model::ENTRY_HEAD` as a number of 64 bits.
-const ENTRY_HEAD_64: u64 = model::ENTRY_HEAD as u64;
-
 // The record with an entry put, and the place behind that entry's key.
 pub struct Projection {
     pub place: table_entries::Place,
@@ -61,7 +58,7 @@ fn with_entry(rec: model::Record, n: u64, m: u64) -> model::Record
     let e = rec.entry_size;
     let usage = table_charge::entry_memory_usage(e, n, m);
     model::Record {
-        used: rec.used + ENTRY_HEAD_64 + n + m,
+        used: rec.used + model::ENTRY_HEAD_64 + n + m,
         count: rec.count + 1,
         charge: rec.charge + usage,
         entry_size: e,

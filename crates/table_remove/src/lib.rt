@@ -11,9 +11,6 @@ ghost use Rattle.table_charge.specs.Charge.{chargeBy};
 ghost use Rattle.table_entries.specs.Place.{Sought};
 ghost use Rattle.table_remove.specs.Remove.{lessened};
 
-// `model::ENTRY_HEAD` as a number of 64 bits.
-const ENTRY_HEAD_64: u64 = model::ENTRY_HEAD as u64;
-
 // The record without an entry whose key and body have these lengths.
 fn without(rec: model::Record, key_len: u64, body_len: u64) -> model::Record
     requires { ⌜ (rec .«entry_size» ≤ 4096) × («key_len» ≤ 16777216) × («body_len» ≤ 16777216) ⌝ }
@@ -24,7 +21,7 @@ fn without(rec: model::Record, key_len: u64, body_len: u64) -> model::Record
     let e = rec.entry_size;
     let usage = table_charge::entry_memory_usage(e, key_len, body_len);
     model::Record {
-        used: rec.used - (ENTRY_HEAD_64 + key_len + body_len),
+        used: rec.used - (model::ENTRY_HEAD_64 + key_len + body_len),
         count: rec.count - 1,
         charge: rec.charge - usage,
         entry_size: e,
