@@ -18,7 +18,7 @@ use Rattle.model.specs.Tree.{Kind, nothing, aDirectory, aFile, aLink, ki
 use Rattle.model.specs.Table.{charge}
 use Rattle.model.specs.Checks.{Check, pass, refuse, _then_, unless, parentChecks, writeChecks, mkdirAt, mkdirParents, missing, makes, unlinkAt, unlinkChecks}
 use Rattle.model.specs.Checks.{notRoot, noVisibleChild, rmdirChecks, Memory, limited, unlimited, charged}
-use Rattle.model.specs.Rename.{notLink, notDeleted, noClash, present, ifDirectory, planned, plan, budget, Walk, sum, overBudget, atLink, walkFrom, walked}
+use Rattle.model.specs.Rename.{notLink, notDeleted, noClash, present, ifDirectory, planned, plan, budget, atLink, stops, Walk, sum, overBudget, stopped, walkFrom, walked}
 use Rattle.model.specs.Rename.{carried, moved, keysFit, renameChecks}
 use Rattle.model.specs.Calls.{Call, write, mkdir, unlink, rmdir, rename, changed, rules}
 use Rattle.model.specs.Plain.{plainEffect}
@@ -29,8 +29,8 @@ use Rattle.model.proofs.Maps.{upd, orElse, lookup-put, lookup-del, look
 use Rattle.model.proofs.Invariant.{kind-is, is-nothing, is-directory, is-file, is-link′, entry-at, at-none, at-own, at-reference, at-directory, at-deleted}
 use Rattle.model.proofs.Invariant.{Closed, Inv, shown-put, shown-over, kind-at, kind-entry, then-pass, parents-dirs, parents-pass, inv-empty}
 use Rattle.model.proofs.Small.{write-inv, unlink-inv, unlink-regular, rmdir-inv, RmdirOk, rmdir-ok, ok-rmdir, met-nothing, met-directory, mkdir-met, makes-missing, makes-none, mkdir-inv, mkdir-up, mkdir-lookup, madeAt, childless-empty, empty-childless}
-use Rattle.model.proofs.Moves.{Held, RenameOk, moveView, move-inv, move-tree, plain-move, entry-free, listed-link, link-at, kind-link, kind-absent, proper-pass}
-use Rattle.model.proofs.Walks.{Met, walk-links, walk-met, walk-budget, walk-over}
+use Rattle.model.proofs.Moves.{Held, RenameOk, moveView, move-inv, move-tree, plain-move, entry-free, listed-stop, kind-link, kind-absent, proper-pass}
+use Rattle.model.proofs.Walks.{Met, walk-stops, walk-met, walk-budget, walk-over}
 
 -- the table t over the listing l and the plain tree s: the invariant, and the same tree
 pub record Sound (t : Table) (l s : Tree) : Type 0 where
@@ -94,26 +94,26 @@ module _ (t : Table) (l : Tree) (c : Call) where
   allowed-keys (limited E limit) a b e = caused-unless E limit 12 (every short (keys (rekey a b (carried t l a)))) (λ h. key-above a b e h)
   allowed-keys unlimited a b e = refl
 
-  -- the walk, where no link is to be met
+  -- the walk, where no node that stops it is to be met
   allowed-walk : Ascending l → (m : Memory) (a b : Path) → MovesDirectory t l c a b → kind (lookup l) a ≡ aDirectory → (Met t l a → ⊥)
       → Allowed m t l c (walked (length a) (walkFrom t l (budget m t a b) a))
-  allowed-walk asc (limited E limit) a b d k no-link = go (walkFrom t l (some B) a) refl
+  allowed-walk asc (limited E limit) a b d k no-stop = go (walkFrom t l (some B) a) refl
     where
       B : ℕ
       B = limit - charge E t - planned a b t
 
       go : (w : Walk) → walkFrom t l (some B) a ≡ w → Caused E limit t l c (walked (length a) w)
       go (sum s) e = passed
-      go atLink e = absurd (no-link (walk-met t l (some B) a asc e))
+      go (stopped y n) e = absurd (no-stop (walk-met t l (some B) a y n asc e))
       go overBudget e = elim (walk-over t l a B e) [
-        | inl x ↦ absurd (no-link (walk-met t l none a asc x))
+        | inl x ↦ absurd (no-stop (walk-met t l none a (x .0) (x .1) asc (x .2)))
         | inr x ↦ let h = x .2 in because 11 (walk-above a b (x .0) d k (x .1) (x .3) (omega arith))
       ]
-  allowed-walk asc unlimited a b d k no-link = go (walkFrom t l none a) refl
+  allowed-walk asc unlimited a b d k no-stop = go (walkFrom t l none a) refl
     where
       go : (w : Walk) → walkFrom t l none a ≡ w → walked (length a) w ≡ pass
       go (sum s) e = refl
-      go atLink e = absurd (no-link (walk-met t l none a asc e))
+      go (stopped y n) e = absurd (no-stop (walk-met t l none a y n asc e))
       go overBudget e = absurd (walk-budget t l a e)
 
 -- rename's checks as a list
@@ -157,21 +157,23 @@ pub as-list : (m : Memory) (t : Table) (l : Tree) (a b : Path) → renameChecks 
 as-list m t l a b = refl
 
 module _ (t : Table) (l : Tree) (cl : Closed (lookup l)) (i : Inv t l) (a b : Path) where
-  -- a walk that goes through has met no visible link
-  no-link-inside : (a ≡ [] → ⊥) → kind (shown t l) a ≡ aDirectory → (B : Option ℕ) (n : ℕ) → ifDirectory (kind (lookup l) a) (walked n (walkFrom t l B a)) ≡ pass
-      → (q s : Path) → rest a q ≡ some s → shown t l q ≡ some link → ⊥
-  no-link-inside r k B n h q [] e g = bot (cc (kind-at (shown t l) a (some link) (cc (rest-nil a q e)) r))
-  no-link-inside r k B n h q (c ∷ s) e g =
-      let y = rest-below a q c s e in
-      let z = listed-link t l i a b q g in
-      let free = i .uncovered q z in
-      let d = cl a q link y z in
-      go y z free d (walkFrom t l B a) refl
+  -- a walk that goes through has met no visible node that stops it
+  no-stop-below : (B : Option ℕ) (n : ℕ) → ifDirectory (kind (lookup l) a) (walked n (walkFrom t l B a)) ≡ pass
+      → (q : Path) (x : Node) → below a q ≡ true → shown t l q ≡ some x → stops x ≡ true → ⊥
+  no-stop-below B n h q x y g e =
+      let z = listed-stop t l i a b q x g e in
+      go (z .0) (z .1) (cl a q x y (z .0)) (walkFrom t l B a) refl
     where
-      go : below a q ≡ true → lookup l q ≡ some link → lookup t q ≡ none → kind (lookup l) a ≡ aDirectory → (w : Walk) → walkFrom t l B a ≡ w → ⊥
-      go y z free d (sum x) u = walk-links t l B a cl x u q y z free (λ p v w. entry-free t l cl i p q link w z free)
-      go y z free d overBudget u = bot (cc)
-      go y z free d atLink u = bot (cc)
+      go : lookup l q ≡ some x → lookup t q ≡ none → kind (lookup l) a ≡ aDirectory → (w : Walk) → walkFrom t l B a ≡ w → ⊥
+      go z free d (sum s) u = walk-stops t l B a cl s u q x y z e free (λ p v w. entry-free t l cl i p q x w z free)
+      go z free d overBudget u = bot (cc)
+      go z free d (stopped atLink s) u = bot (cc)
+
+  -- a source that is no link does not stop the walk
+  no-stop-at : (n : ℕ) → notLink 0 n (kind (shown t l) a) ≡ pass → (a ≡ [] → ⊥) → (x : Node) → shown t l a ≡ some x → stops x ≡ true → ⊥
+  no-stop-at n h r (dir m) g e = bot (cc)
+  no-stop-at n h r (file m z c) g e = bot (cc)
+  no-stop-at n h r link g e = bot (cc (kind-at (shown t l) a (some link) g r))
 
   pub rename-ok : (m : Memory) → renameChecks m t l a b ≡ pass → RenameOk (shown t l) a b
   rename-ok m h = build (at 0) (at 1) (at 2) (at 3) (at 6) (at 7) (at 8) (at 9) (at 10) (at 12)
@@ -198,14 +200,13 @@ module _ (t : Table) (l : Tree) (cl : Closed (lookup l)) (i : Inv t l) (a b : Pa
           → ifDirectory (kind (shown t l) a) (ifDirectory (kind (shown t l) b) (noVisibleChild 1 t l b)) ≡ pass → (q : Path) (n : Node) → below b q ≡ true → shown t l q ≡ some n → ⊥
       free′ h g q n z e = let c = i .closed b q n z e in let d = dir′ h c in childless-empty t l b 1 (i .closed) (cc) q n z e
 
-      unlinked′ : ifDirectory (kind (shown t l) a) (ifDirectory (kind (lookup l) a) (walked (length a) (walkFrom t l (budget m t a b) a))) ≡ pass
-          → notLink 0 (length a) (kind (shown t l) a) ≡ pass → (a ≡ [] → ⊥) → (q s : Path) → rest a q ≡ some s → shown t l q ≡ some link → ⊥
-      unlinked′ h g r q s e z = elim (kind-is (kind (shown t l) a)) [
-        | is-directory k ↦ no-link-inside r k (budget m t a b) (length a) (cc) q s e z
-        | is-nothing k ↦ bot (link-at t l i a b r q s e z (λ u. cc) (λ u. cc))
-        | is-file k ↦ bot (link-at t l i a b r q s e z (λ u. cc) (λ u. cc))
-        | is-link′ k ↦ bot (cc)
-      ]
+      unstopped′ : ifDirectory (kind (shown t l) a) (ifDirectory (kind (lookup l) a) (walked (length a) (walkFrom t l (budget m t a b) a))) ≡ pass
+          → notLink 0 (length a) (kind (shown t l) a) ≡ pass → (a ≡ [] → ⊥) → (q s : Path) (n : Node) → rest a q ≡ some s → shown t l q ≡ some n → stops n ≡ true → ⊥
+      unstopped′ h g r q [] n e z y = no-stop-at (length a) g r n (cc (rest-nil a q e)) y
+      unstopped′ h g r q (c ∷ s) n e z y =
+          let u = rest-below a q c s e in
+          let k = i .closed a q n u z in
+          no-stop-below (budget m t a b) (length a) (cc) q n u z y
 
       link′ : notLink 1 (length b) (kind (shown t l) b) ≡ pass → (b ≡ [] → ⊥) → shown t l b ≡ some link → ⊥
       link′ h r e = bot (cc (kind-at (shown t l) b (some link) e r))
@@ -226,7 +227,7 @@ module _ (t : Table) (l : Tree) (cl : Closed (lookup l)) (i : Inv t l) (a b : Pa
         found = found′ an (sa ra);
         apart = apart′ un;
         free = free′ ty em;
-        unlinked = unlinked′ wa na (sa ra);
+        unstopped = unstopped′ wa na (sa ra);
         target-link = link′ nb (sb rb);
         over-dir = dir′ ty;
         over-file = file′ ty an na;
@@ -262,7 +263,7 @@ module _ (t : Table) (l : Tree) (cl : Closed (lookup l)) (i : Inv t l) (a b : Pa
       fine = allowed-pass t l (rename a b) m
 
       no-a : ka ≡ aLink → ⊥
-      no-a z = o .unlinked a [] (rest-self a) (kind-link t l i a b a (o .source) z)
+      no-a z = o .unstopped a [] link (rest-self a) (kind-link t l i a b a (o .source) z) refl
 
       no-b : kb ≡ aLink → ⊥
       no-b z = o .target-link (kind-link t l i a b b (o .target) z)
@@ -309,7 +310,7 @@ module _ (t : Table) (l : Tree) (cl : Closed (lookup l)) (i : Inv t l) (a b : Pa
       planned′ = if-dir ka (plan m t a b) (λ k. allowed-plan t l (rename a b) m a b (record { renames = refl; moves = k }))
 
       met : Met t l a → ⊥
-      met x = let r = below-rest a (x .path) (x .under) in o .unlinked (x .path) (47 ∷ r .0) (r .1) (cc (x .is-link, x .free))
+      met x = let r = below-rest a (x .path) (x .under) in o .unstopped (x .path) (47 ∷ r .0) (x .node) (r .1) (cc (x .is-there, x .free)) (x .ends)
 
       walked′ : Allowed m t l (rename a b) (ifDirectory ka (ifDirectory (kind (lookup l) a) (walked (length a) (walkFrom t l (budget m t a b) a))))
       walked′ = if-dir ka (ifDirectory (kind (lookup l) a) (walked (length a) (walkFrom t l (budget m t a b) a))) (λ k.

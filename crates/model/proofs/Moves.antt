@@ -8,10 +8,10 @@ use Prim.Native.Nat.{ℕ}
 use Rattle.model.specs.Bytes.{every, same}
 use Rattle.model.specs.Path.{Path, below, ancestors, rest}
 use Rattle.model.specs.Map.{isNone, byRest, lookup, del, puts, only, each, keys, rekey, outside, mapped}
-use Rattle.model.specs.Tree.{Body, listed, Node, dir, file, link, Entry, reference, directory, deleted, Table, Tree, View, view, over, shown}
+use Rattle.model.specs.Tree.{Body, listed, Node, dir, file, link, Entry, own, reference, directory, deleted, Table, Tree, View, view, over, shown}
 use Rattle.model.specs.Tree.{Kind, nothing, aDirectory, aFile, aLink, kindOf, kind, isDirectory}
 use Rattle.model.specs.Checks.{pass, notRoot}
-use Rattle.model.specs.Rename.{asEntry, uncovered, along, carried, moved}
+use Rattle.model.specs.Rename.{stops, asEntry, uncovered, along, carried, moved}
 use Rattle.model.specs.Plain.{plainMove}
 use Rattle.model.proofs.Orders.{split, Split, same-no, same-refl, bot, yea, nay, test, is-none, is-some, opt, mem, mem-ancestors}
 use Rattle.model.proofs.Orders.{rest-is, rest-app, rest-self, below-rest, rest-below, rest-nil, inside-down, below-split, below-moved}
@@ -31,7 +31,7 @@ pub record RenameOk (f : View) (a b : Path) : Type 0 where
   pub found : f a ≡ none → ⊥
   pub apart : below a b ≡ true → ⊥
   pub free : (q : Path) (n : Node) → below b q ≡ true → f q ≡ some n → ⊥
-  pub unlinked : (q s : Path) → rest a q ≡ some s → f q ≡ some link → ⊥
+  pub unstopped : (q s : Path) (n : Node) → rest a q ≡ some s → f q ≡ some n → stops n ≡ true → ⊥
   pub target-link : f b ≡ some link → ⊥
   pub over-dir : kind f b ≡ aDirectory → kind f a ≡ aDirectory
   pub over-file : kind f b ≡ aFile → kind f a ≡ aFile
@@ -197,7 +197,7 @@ module _ (t : Table) (l : Tree) (held′ : Held l) (cl : Closed (lookup l)) (i :
       as-shown : (n : Node) → lookup l q ≡ some n → shown t l q ≡ some n → view (asEntry n) ≡ some n
       as-shown (dir m) d v = refl
       as-shown (file m z y) d v = let w = held′ q m z y d in ap (λ (c : Body). view (asEntry (file m z c))) w ∙ sym (ap (λ (c : Body). some (file m z c)) w)
-      as-shown link d v = absurd (o .unlinked q s r v)
+      as-shown link d v = absurd (o .unstopped q s link r v refl)
 
   M-ref : (q : Path) (m s : ℕ) (p : Path) → M q ≡ some (reference m s p) → lookup l p ≡ some (file m s (listed p))
   M-ref q m s p h = elim (M-from q (reference m s p) h) [
@@ -255,7 +255,7 @@ module _ (t : Table) (l : Tree) (held′ : Held l) (cl : Closed (lookup l)) (i :
   E-outside q u v = cc (M-out q u)
 
   outside-link : (k : Path) → shown t l k ≡ some link → (rest a k ≡ none) × (rest b k ≡ none)
-  outside-link k h = (elim (opt (rest a k)) [ is-none e ↦ e | is-some s e ↦ absurd (o .unlinked k s e h) ], elim (opt (rest b k)) [ is-none e ↦ e | is-some s e ↦ absurd (no s e) ])
+  outside-link k h = (elim (opt (rest a k)) [ is-none e ↦ e | is-some s e ↦ absurd (o .unstopped k s link e h refl) ], elim (opt (rest b k)) [ is-none e ↦ e | is-some s e ↦ absurd (no s e) ])
     where
       no : (s : Path) → rest b k ≡ some s → ⊥
       no [] e = o .target-link (cc (rest-nil b k e))
@@ -329,12 +329,16 @@ module _ (s : Tree) (a b : Path) (o : RenameOk (lookup s) a b) where
   ]
 
 module _ (t : Table) (l : Tree) (i : Inv t l) (a b : Path) where
-  pub listed-link : (q : Path) → shown t l q ≡ some link → lookup l q ≡ some link
-  listed-link q e = elim (entry-at (lookup t q)) [ at-none z ↦ cc | at-own m d z ↦ cc | at-reference m s p z ↦ cc | at-directory m z ↦ cc | at-deleted z ↦ cc ]
-
-  pub link-at : (a ≡ [] → ⊥) → (q s : Path) → rest a q ≡ some s → shown t l q ≡ some link → (kind (shown t l) a ≡ aLink → _≡_ {A = ℕ} 0 1) → (kind (shown t l) a ≡ aDirectory → _≡_ {A = ℕ} 0 1) → _≡_ {A = ℕ} 0 1
-  link-at sa q [] r e u v = u (kind-at (shown t l) a (some link) (cc (rest-nil a q r)) sa)
-  link-at sa q (x ∷ s) r e u v = v (i .closed a q link (rest-below a q x s r) e)
+  -- no entry shows a node that stops the walk: it is listed, and has no entry
+  pub listed-stop : (q : Path) (n : Node) → shown t l q ≡ some n → stops n ≡ true → (lookup l q ≡ some n) × (lookup t q ≡ none)
+  listed-stop q n e h = go (lookup t q) refl e
+    where
+      go : (x : Option Entry) → lookup t q ≡ x → over x (lookup l q) ≡ some n → (lookup l q ≡ some n) × (lookup t q ≡ none)
+      go none z y = (y, z)
+      go (some (own m c)) z y = absurd (bot (cc))
+      go (some (reference m k p)) z y = absurd (bot (cc))
+      go (some (directory m)) z y = absurd (bot (cc))
+      go (some deleted) z y = absurd (bot (cc))
 
   pub kind-link : (p : Path) → (p ≡ [] → ⊥) → kind (shown t l) p ≡ aLink → shown t l p ≡ some link
   kind-link p r h = elim (node-at (shown t l p)) [

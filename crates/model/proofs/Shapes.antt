@@ -14,7 +14,7 @@ use Rattle.model.specs.Tree.{Entry, own, reference, directory, deleted, 
 use Rattle.model.specs.Table.{charge, isTable, tableIn, sized}
 use Rattle.model.specs.Listing.{isListing, treeIn}
 use Rattle.model.specs.Checks.{Check, pass, refuse, _then_, unless, form, parentAt, parentsIn, parentChecks, writeAt, ancestorAt, ancestorsIn, mkdirParents, mkdirAt, unlinkAt, unlinkEntry, notRoot, visibleChild, noVisibleChild, rmdirAt, rmdirEntry, Memory, limited, unlimited, charged}
-use Rattle.model.specs.Rename.{notLink, notDeleted, noClash, present, ifDirectory, planned, plan, budget, Walk, sum, overBudget, atLink, walkFrom, walked, keysFit, carried, moved, renameChecks}
+use Rattle.model.specs.Rename.{notLink, notDeleted, noClash, present, ifDirectory, planned, plan, budget, Walk, sum, overBudget, atLink, stopped, walkFrom, walked, keysFit, carried, moved, renameChecks}
 use Rattle.model.specs.Calls.{Call, write, mkdir, unlink, rmdir, rename, changed, forms, rules, valueOf, Query, says}
 use Rattle.model.specs.Answer.{accepted, refused}
 use Rattle.model.specs.Outcome.{Store, Request, lent, room, verdict, settle, outcome, answered, ask, opened}
@@ -165,7 +165,7 @@ module _ {c : Call} {p : Path} (at : Names c 0 p) where
   well-walked : (x : Walk) → Well c (walked (length p) x)
   well-walked (sum n) = passes
   well-walked overBudget = refuses limit
-  well-walked atLink = here at 4 tt tt
+  well-walked (stopped atLink n) = here at 4 tt tt
 
 -- the ancestors of mkdir with parents
 module _ (p : Path) (ok : Bool) (m : ℕ) where

@@ -1,5 +1,5 @@
--- Rename's walk: what a walk that comes to a sum says of listed links, what one that ends at a link has met, and what the budget changes.
--- `walk-links` assumes that the listing is closed, `walk-met` that it ascends; the laws of the budget assume nothing.
+-- Rename's walk: what a walk that comes to a sum says of the listed nodes that stop it, what one that was stopped has met, and what the budget changes.
+-- `walk-stops` assumes that the listing is closed, `walk-met` that it ascends; the laws of the budget assume nothing.
 use mathlib.Core.Path.{_≡_, refl, ap, sym, _∙_}
 use mathlib.Core.Logic.{_⊎_, inl, inr}
 use mathlib.Core.List.{List, [], _∷_}
@@ -13,7 +13,7 @@ use Rattle.model.specs.Bytes.{Bytes, consIf}
 use Rattle.model.specs.Path.{Path, components, below, child, slashless}
 use Rattle.model.specs.Map.{isNone, lookup, only}
 use Rattle.model.specs.Tree.{Node, dir, file, link, Entry, Table, Tree, kindOf, isDirectory}
-use Rattle.model.specs.Rename.{Walk, sum, overBudget, atLink, inBudget, visit, visits, children, lastFirst, enter, walk, depth, walkFrom}
+use Rattle.model.specs.Rename.{Stop, atLink, stops, Walk, sum, overBudget, stopped, inBudget, visit, visits, children, lastFirst, enter, walk, depth, walkFrom}
 use Rattle.model.proofs.Orders.{bot, yea, nay, test, and-true, eqb-eq, split, Split, mem, same-refl, below-trans}
 use Rattle.model.proofs.Maps.{Ascending, lookup-low, lookup-only, ascending-only}
 use Rattle.model.proofs.Texts.{onFirst-length}
@@ -74,7 +74,7 @@ depth-le (x ∷ xs) q n h = elim (split (x .0) q) [
 abbrev pub Ended : Walk → Type 0
 Ended (sum s) = ⊥
 Ended overBudget = Unit {0}
-Ended atLink = Unit {0}
+Ended (stopped x v) = Unit {0}
 
 data Stands (w : Walk) : Type 0 where
   going : (s : ℕ) → w ≡ sum s → Stands w
@@ -83,12 +83,12 @@ data Stands (w : Walk) : Type 0 where
 stands : (w : Walk) → Stands w
 stands (sum s) = going s refl
 stands overBudget = ended tt
-stands atLink = ended tt
+stands (stopped x v) = ended tt
 
 ended-sum : (w : Walk) (s : ℕ) → Ended w → w ≡ sum s → ⊥
 ended-sum (sum r) s h e = h
 ended-sum overBudget s h e = bot (cc)
-ended-sum atLink s h e = bot (cc)
+ended-sum (stopped x v) s h e = bot (cc)
 
 -- a step that leaves every ended walk as it is
 abbrev pub Keeps : (Path → Walk → Walk) → Type 0
@@ -116,18 +116,18 @@ enter-before g k ds w s e = elim (stands w) [
   | ended h ↦ absurd (ended-sum w s h (sym (enter-ended g k ds w h) ∙ e))
 ]
 
--- what ended at a link ended there at one of the directories entered
-enter-link : (g : Path → Walk → Walk) → Keeps g → (ds : List Path) (s : ℕ) → enter g ds (sum s) ≡ atLink
-    → (p : Path) × (mem p ds ≡ true) × (r : ℕ) × (g p (sum r) ≡ atLink)
-enter-link g k [] s e = absurd (bot (cc))
-enter-link g k (p ∷ ps) s e = elim (stands (g p (sum s))) [
+-- what was stopped was stopped at one of the directories entered
+enter-stopped : (x : Stop) (v : ℕ) (g : Path → Walk → Walk) → Keeps g → (ds : List Path) (s : ℕ) → enter g ds (sum s) ≡ stopped x v
+    → (p : Path) × (mem p ds ≡ true) × (r : ℕ) × (g p (sum r) ≡ stopped x v)
+enter-stopped x v g k [] s e = absurd (bot (cc))
+enter-stopped x v g k (p ∷ ps) s e = elim (stands (g p (sum s))) [
   | ended h ↦ (p, cc (same-refl p), s, sym (enter-ended g k ps (g p (sum s)) h) ∙ e)
-  | going r u ↦ more (enter-link g k ps r (cc))
+  | going r u ↦ more (enter-stopped x v g k ps r (cc))
 ]
   where
-    more : (q : Path) × (mem q ps ≡ true) × (r : ℕ) × (g q (sum r) ≡ atLink)
-        → (q : Path) × (mem q (p ∷ ps) ≡ true) × (r : ℕ) × (g q (sum r) ≡ atLink)
-    more z = (z .0, elim (split p (z .0)) [ Split.eq x y ↦ cc | Split.ne x y ↦ cc (z .1) ], z .2, z .3)
+    more : (q : Path) × (mem q ps ≡ true) × (r : ℕ) × (g q (sum r) ≡ stopped x v)
+        → (q : Path) × (mem q (p ∷ ps) ≡ true) × (r : ℕ) × (g q (sum r) ≡ stopped x v)
+    more z = (z .0, elim (split p (z .0)) [ Split.eq u y ↦ cc | Split.ne u y ↦ cc (z .1) ], z .2, z .3)
 
 -- the directories of a tree are among those found
 found-kept : (xs : Tree) (ds : List Path) (q : Path) → mem q ds ≡ true → mem q (lastFirst xs ds) ≡ true
@@ -162,65 +162,74 @@ pub free-is : (o : Option Entry) → isNone o ≡ true → o ≡ none
 free-is none h = refl
 free-is (some e) h = cc
 
--- a listed link below d with no entry at its path
+-- a listed node below d that stops the walk, with no entry at its path
 pub record Met (t : Table) (l : Tree) (d : Path) : Type 0 where
   pub path : Path
   pub under : below d path ≡ true
-  pub is-link : lookup l path ≡ some link
+  pub node : Node
+  pub is-there : lookup l path ≡ some node
+  pub ends : stops node ≡ true
   pub free : lookup t path ≡ none
 
-budget-link : (b : Option ℕ) (s : ℕ) → inBudget b s ≡ atLink → ⊥
-budget-link none s h = bot (cc)
-budget-link (some n) s h = elim (test (leb s n)) [ yea e ↦ bot (cc) | nay e ↦ bot (cc) ]
+budget-stopped : (b : Option ℕ) (s : ℕ) (x : Stop) (v : ℕ) → inBudget b s ≡ stopped x v → ⊥
+budget-stopped none s x v h = bot (cc)
+budget-stopped (some n) s x v h = elim (test (leb s n)) [ yea e ↦ bot (cc) | nay e ↦ bot (cc) ]
 
 module _ (b : Option ℕ) where
   pub visits-ended : (xs : Tree) (w : Walk) → Ended w → visits b w xs ≡ w
   visits-ended [] w h = refl
   visits-ended (x ∷ xs) (sum s) h = absurd h
   visits-ended (x ∷ xs) overBudget h = visits-ended xs overBudget h
-  visits-ended (x ∷ xs) atLink h = visits-ended xs atLink h
+  visits-ended (x ∷ xs) (stopped y v) h = visits-ended xs (stopped y v) h
 
-  -- no link is visited on the way to a sum
-  visit-link : (w : Walk) (p : Path) → Ended (visit b w p link)
-  visit-link (sum s) p = tt
-  visit-link overBudget p = tt
-  visit-link atLink p = tt
+  -- no node that stops the walk is visited on the way to a sum
+  visit-stops : (w : Walk) (p : Path) (n : Node) → stops n ≡ true → Ended (visit b w p n)
+  visit-stops overBudget p n h = tt
+  visit-stops (stopped x v) p n h = tt
+  visit-stops (sum s) p (dir m) h = absurd (bot (cc))
+  visit-stops (sum s) p (file m z c) h = absurd (bot (cc))
+  visit-stops (sum s) p link h = tt
 
-  visits-sum : (xs : Tree) (w : Walk) (s : ℕ) (q : Path) → visits b w xs ≡ sum s → lookup xs q ≡ some link → ⊥
-  visits-sum [] w s q h e = bot (cc)
-  visits-sum (x ∷ xs) w s q h e = elim (split (x .0) q) [
-    | Split.ne z y ↦ visits-sum xs (visit b w (x .0) (x .1)) s q h (cc)
+  visits-sum : (xs : Tree) (w : Walk) (s : ℕ) (q : Path) (n : Node) → visits b w xs ≡ sum s → lookup xs q ≡ some n → stops n ≡ true → ⊥
+  visits-sum [] w s q n h e k = bot (cc)
+  visits-sum (x ∷ xs) w s q n h e k = elim (split (x .0) q) [
+    | Split.ne z y ↦ visits-sum xs (visit b w (x .0) (x .1)) s q n h (cc) k
     | Split.eq z y ↦
-        let f : x .1 ≡ link = cc in
-        let g : Ended (visit b w (x .0) (x .1)) = rw f (visit-link w (x .0)) in
+        let f : x .1 ≡ n = cc in
+        let g : Ended (visit b w (x .0) (x .1)) = visit-stops w (x .0) (x .1) (ap stops f ∙ k) in
         ended-sum (visit b w (x .0) (x .1)) s g (sym (visits-ended xs (visit b w (x .0) (x .1)) g) ∙ h)
   ]
 
-  -- what ends at a link has visited one
-  visit-met : (s : ℕ) (p : Path) (n : Node) → visit b (sum s) p n ≡ atLink → n ≡ link
-  visit-met s p (dir m) h = absurd (budget-link b (s + 3 * length p + 512) h)
-  visit-met s p (file m z c) h = absurd (budget-link b (s + 2 * length p + 512) h)
-  visit-met s p link h = refl
+  -- what was stopped has visited a node that stops the walk
+  visit-met : (x : Stop) (v s : ℕ) (p : Path) (n : Node) → visit b (sum s) p n ≡ stopped x v → stops n ≡ true
+  visit-met x v s p (dir m) h = absurd (budget-stopped b (s + 3 * length p + 512) x v h)
+  visit-met x v s p (file m z c) h = absurd (budget-stopped b (s + 2 * length p + 512) x v h)
+  visit-met x v s p link h = refl
 
-  visits-met : (xs : Tree) → Ascending xs → (s : ℕ) → visits b (sum s) xs ≡ atLink → (q : Path) × (lookup xs q ≡ some link)
-  visits-met [] a s h = absurd (bot (cc))
-  visits-met (x ∷ xs) a s h = go (stands (visit b (sum s) (x .0) (x .1))) (λ r z. visits-met xs (a .1) r z)
+  -- a node that stops the walk, found in a tree
+  abbrev StopIn : Tree → Type 0
+  StopIn xs = (q : Path) × (n : Node) × (lookup xs q ≡ some n) × (stops n ≡ true)
+
+  visits-met : (y : Stop) (v : ℕ) (xs : Tree) → Ascending xs → (s : ℕ) → visits b (sum s) xs ≡ stopped y v → StopIn xs
+  visits-met y v [] a s h = absurd (bot (cc))
+  visits-met y v (x ∷ xs) a s h = go (stands (visit b (sum s) (x .0) (x .1))) (λ r z. visits-met y v xs (a .1) r z)
     where
-      more : (q : Path) × (lookup xs q ≡ some link) → (q : Path) × (lookup (x ∷ xs) q ≡ some link)
+      more : StopIn xs → StopIn (x ∷ xs)
       more z = (
         z .0,
+        z .1,
         elim (split (x .0) (z .0)) [
-          | Split.eq u v ↦ cc (z .1, lookup-low (x .0) xs (a .0) (a .1))
-          | Split.ne u v ↦ cc (z .1)
+          | Split.eq u w ↦ cc (z .2, lookup-low (x .0) xs (a .0) (a .1))
+          | Split.ne u w ↦ cc (z .2)
         ],
+        z .3,
       )
 
-      go : Stands (visit b (sum s) (x .0) (x .1)) → ((r : ℕ) → visits b (sum r) xs ≡ atLink → (q : Path) × (lookup xs q ≡ some link))
-          → (q : Path) × (lookup (x ∷ xs) q ≡ some link)
+      go : Stands (visit b (sum s) (x .0) (x .1)) → ((r : ℕ) → visits b (sum r) xs ≡ stopped y v → StopIn xs) → StopIn (x ∷ xs)
       go (going r e) ih = more (ih r (cc))
       go (ended e) ih =
-          let f = visit-met s (x .0) (x .1) (sym (visits-ended xs (visit b (sum s) (x .0) (x .1)) e) ∙ h) in
-          (x .0, cc (same-refl (x .0)))
+          let f = sym (visits-ended xs (visit b (sum s) (x .0) (x .1)) e) ∙ h in
+          (x .0, x .1, cc (same-refl (x .0)), visit-met y v s (x .0) (x .1) f)
 
 module _ (t : Table) (l : Tree) where
   -- which listed paths are visited at d
@@ -236,84 +245,95 @@ module _ (t : Table) (l : Tree) where
     walk-ended (suc n) d w h =
         cc (visits-ended b (children t l d) w h, enter-ended (walk n t l b) (walk-ended n) (lastFirst (children t l d) []) w h)
 
-    links-below : Closed (lookup l) → (n : ℕ) (d : Path) (w : Walk) (s : ℕ) → walk n t l b d w ≡ sum s
-        → (q : Path) → below d q ≡ true → level q ≤ n + level d → lookup l q ≡ some link → lookup t q ≡ none
+    stops-below : Closed (lookup l) → (n : ℕ) (d : Path) (w : Walk) (s : ℕ) → walk n t l b d w ≡ sum s
+        → (q : Path) (x : Node) → below d q ≡ true → level q ≤ n + level d → lookup l q ≡ some x → stops x ≡ true → lookup t q ≡ none
         → ((p : Path) → below d p ≡ true → below p q ≡ true → lookup t p ≡ none) → ⊥
-    links-below c zero d w s h q u le e f g = let z = below-level d q u in omega arith
-    links-below c (suc n) d w s h q u le e f g = go (way d q u) (λ p v r z y le′ x. links-below c n p v r z q y le′ e f x)
+    stops-below c zero d w s h q x u le e j f g = let z = below-level d q u in omega arith
+    stops-below c (suc n) d w s h q x u le e j f g = go (way d q u) (λ p v r z y le′ k. stops-below c n p v r z q x y le′ e j f k)
       where
         go : (child d q ≡ true) ⊎ ((p : Path) × (child d p ≡ true) × (below p q ≡ true))
             → ((p : Path) (v : Walk) (r : ℕ) → walk n t l b p v ≡ sum r → below p q ≡ true → level q ≤ n + level p
             → ((x : Path) → below p x ≡ true → below x q ≡ true → lookup t x ≡ none) → ⊥) → ⊥
         go (inl z) ih =
             let y = enter-before (walk n t l b) (walk-ended n) (lastFirst (children t l d) []) (visits b w (children t l d)) s h in
-            visits-sum b (children t l d) w (y .0) q (y .1) (in-children d q link z f e)
+            visits-sum b (children t l d) w (y .0) q x (y .1) (in-children d q x z f e) j
         go (inr z) ih =
             let p = z .0 in
-            let x = child-below d p (z .1) in
+            let i = child-below d p (z .1) in
             let y = child-level d p (z .1) in
-            let k = c p q link (z .2) e in
+            let k = c p q x (z .2) e in
             let o = child-root d p (z .1) in
             elim (node-at (lookup l p)) [
               | no-node v ↦ bot (cc (kind-at (lookup l) p none v o))
-              | a-file i j a v ↦ bot (cc (kind-at (lookup l) p (some (file i j a)) v o))
+              | a-file m a r v ↦ bot (cc (kind-at (lookup l) p (some (file m a r)) v o))
               | a-link v ↦ bot (cc (kind-at (lookup l) p (some link) v o))
               | a-dir m v ↦
-                  let i = found-in (children t l d) [] p m (in-children d p (dir m) (z .1) (g p x (z .2)) v) in
-                  let r = enter-sum (walk n t l b) (walk-ended n) (lastFirst (children t l d) []) (visits b w (children t l d)) s h p i in
-                  ih p (r .0) (r .1) (r .2) (z .2) (omega arith) (λ q′ a a′. g q′ (below-trans d p q′ x a) a′)
+                  let a = found-in (children t l d) [] p m (in-children d p (dir m) (z .1) (g p i (z .2)) v) in
+                  let r = enter-sum (walk n t l b) (walk-ended n) (lastFirst (children t l d) []) (visits b w (children t l d)) s h p a in
+                  ih p (r .0) (r .1) (r .2) (z .2) (omega arith) (λ q′ u u′. g q′ (below-trans d p q′ i u) u′)
             ]
 
-    met-below : Ascending l → (n : ℕ) (d : Path) (s : ℕ) → walk n t l b d (sum s) ≡ atLink → Met t l d
-    met-below a zero d s h = absurd (bot (cc))
-    met-below a (suc n) d s h = go (stands (visits b (sum s) (children t l d))) (λ p r z. met-below a n p r z)
+    met-below : (y : Stop) (v : ℕ) → Ascending l → (n : ℕ) (d : Path) (s : ℕ) → walk n t l b d (sum s) ≡ stopped y v → Met t l d
+    met-below y v a zero d s h = absurd (bot (cc))
+    met-below y v a (suc n) d s h = go (stands (visits b (sum s) (children t l d))) (λ p r z. met-below y v a n p r z)
       where
-        here : (q : Path) × (lookup (children t l d) q ≡ some link) → Met t l d
+        here : StopIn b (children t l d) → Met t l d
         here z = elim (test (met d (z .0))) [
-          | nay e ↦ absurd (bot (cc (z .1, lookup-only (met d) l (z .0))))
+          | nay e ↦ absurd (bot (cc (z .2, lookup-only (met d) l (z .0))))
           | yea e ↦
               let w = and-true (child d (z .0)) (isNone (lookup t (z .0))) e in
               record {
                 path = z .0;
                 under = child-below d (z .0) (w .0);
-                is-link = cc (z .1, lookup-only (met d) l (z .0));
+                node = z .1;
+                is-there = cc (z .2, lookup-only (met d) l (z .0));
+                ends = z .3;
                 free = free-is (lookup t (z .0)) (w .1);
               }
         ]
 
         lift : (p : Path) → below d p ≡ true → Met t l p → Met t l d
-        lift p u m = record { path = m .path; under = below-trans d p (m .path) u (m .under); is-link = m .is-link; free = m .free }
+        lift p u m = record {
+          path = m .path;
+          under = below-trans d p (m .path) u (m .under);
+          node = m .node;
+          is-there = m .is-there;
+          ends = m .ends;
+          free = m .free;
+        }
 
-        deep : ((p : Path) (r : ℕ) → walk n t l b p (sum r) ≡ atLink → Met t l p)
-            → (p : Path) × (mem p (lastFirst (children t l d) []) ≡ true) × (r : ℕ) × (walk n t l b p (sum r) ≡ atLink) → Met t l d
+        deep : ((p : Path) (r : ℕ) → walk n t l b p (sum r) ≡ stopped y v → Met t l p)
+            → (p : Path) × (mem p (lastFirst (children t l d) []) ≡ true) × (r : ℕ) × (walk n t l b p (sum r) ≡ stopped y v) → Met t l d
         deep ih z = elim (found-only (met d) l [] (z .0) (z .1)) [
           | inl w ↦ absurd (bot (cc))
           | inr w ↦ lift (z .0) (child-below d (z .0) (and-true (child d (z .0)) (isNone (lookup t (z .0))) w .0)) (ih (z .0) (z .2) (z .3))
         ]
 
-        go : Stands (visits b (sum s) (children t l d)) → ((p : Path) (r : ℕ) → walk n t l b p (sum r) ≡ atLink → Met t l p) → Met t l d
+        go : Stands (visits b (sum s) (children t l d)) → ((p : Path) (r : ℕ) → walk n t l b p (sum r) ≡ stopped y v → Met t l p) → Met t l d
         go (ended e) ih =
             let f = enter-ended (walk n t l b) (walk-ended n) (lastFirst (children t l d) []) (visits b (sum s) (children t l d)) e in
-            here (visits-met b (children t l d) (ascending-only (met d) l a) s (sym f ∙ h))
-        go (going r e) ih = deep ih (enter-link (walk n t l b) (walk-ended n) (lastFirst (children t l d) []) r (cc))
+            here (visits-met b y v (children t l d) (ascending-only (met d) l a) s (sym f ∙ h))
+        go (going r e) ih = deep ih (enter-stopped y v (walk n t l b) (walk-ended n) (lastFirst (children t l d) []) r (cc))
 
     module _ (a : Path) where
-      -- (A) after a walk that comes to a sum, no listed link below a is without an entry both at its path and between a and it
-      pub walk-links : Closed (lookup l) → (s : ℕ) → walkFrom t l b a ≡ sum s
-          → (q : Path) → below a q ≡ true → lookup l q ≡ some link → lookup t q ≡ none
+      -- (A) after a walk that comes to a sum, no listed node below a that stops it is without an entry both at its path and between a and it
+      pub walk-stops : Closed (lookup l) → (s : ℕ) → walkFrom t l b a ≡ sum s
+          → (q : Path) (n : Node) → below a q ≡ true → lookup l q ≡ some n → stops n ≡ true → lookup t q ≡ none
           → ((p : Path) → below a p ≡ true → below p q ≡ true → lookup t p ≡ none) → ⊥
-      walk-links c s h q u e f g = let d = depth-le l q link e in links-below c (depth l) a (sum (2 * length a + 1)) s h q u (omega arith) e f g
+      walk-stops c s h q n u e j f g =
+          let d = depth-le l q n e in
+          stops-below c (depth l) a (sum (2 * length a + 1)) s h q n u (omega arith) e j f g
 
-      -- (B) a walk that ends at a link has met one
-      pub walk-met : Ascending l → walkFrom t l b a ≡ atLink → Met t l a
-      walk-met c h = met-below c (depth l) a (2 * length a + 1) h
+      -- (B) a walk that was stopped has met a node that stops it
+      pub walk-met : (y : Stop) (v : ℕ) → Ascending l → walkFrom t l b a ≡ stopped y v → Met t l a
+      walk-met y v c h = met-below y v c (depth l) a (2 * length a + 1) h
 
 -- (C) a walk with the budget B beside the one without, both from f on
 data Beside (B f : ℕ) : Walk → Walk → Type 0 where
   both : (s : ℕ) → f ≤ s → (s ≤ B) ⊎ (s ≡ f) → Beside B f (sum s) (sum s)
   over : (s : ℕ) → f < s → B < s → Beside B f overBudget (sum s)
-  links : Beside B f atLink atLink
-  over-link : Beside B f overBudget atLink
+  both-stopped : (x : Stop) (s : ℕ) → f ≤ s → (s ≤ B) ⊎ (s ≡ f) → Beside B f (stopped x s) (stopped x s)
+  over-stopped : (x : Stop) (s : ℕ) → f < s → B < s → Beside B f overBudget (stopped x s)
 
 module _ (B f : ℕ) where
   added : (s : ℕ) → f < s → Beside B f (inBudget (some B) s) (sum s)
@@ -325,16 +345,16 @@ module _ (B f : ℕ) where
   visit-beside : (p : Path) (n : Node) (v w : Walk) → Beside B f v w → Beside B f (visit (some B) v p n) (visit none w p n)
   visit-beside p (dir m) _ _ (both s h g) = added (s + 3 * length p + 512) (omega arith)
   visit-beside p (dir m) _ _ (over s h g) = over (s + 3 * length p + 512) (omega arith) (omega arith)
-  visit-beside p (dir m) _ _ links = links
-  visit-beside p (dir m) _ _ over-link = over-link
+  visit-beside p (dir m) _ _ (both-stopped x s h g) = both-stopped x s h g
+  visit-beside p (dir m) _ _ (over-stopped x s h g) = over-stopped x s h g
   visit-beside p (file m z c) _ _ (both s h g) = added (s + 2 * length p + 512) (omega arith)
   visit-beside p (file m z c) _ _ (over s h g) = over (s + 2 * length p + 512) (omega arith) (omega arith)
-  visit-beside p (file m z c) _ _ links = links
-  visit-beside p (file m z c) _ _ over-link = over-link
-  visit-beside p link _ _ (both s h g) = links
-  visit-beside p link _ _ (over s h g) = over-link
-  visit-beside p link _ _ links = links
-  visit-beside p link _ _ over-link = over-link
+  visit-beside p (file m z c) _ _ (both-stopped x s h g) = both-stopped x s h g
+  visit-beside p (file m z c) _ _ (over-stopped x s h g) = over-stopped x s h g
+  visit-beside p link _ _ (both s h g) = both-stopped atLink s h g
+  visit-beside p link _ _ (over s h g) = over-stopped atLink s h g
+  visit-beside p link _ _ (both-stopped x s h g) = both-stopped x s h g
+  visit-beside p link _ _ (over-stopped x s h g) = over-stopped x s h g
 
   visits-beside : (xs : Tree) (v w : Walk) → Beside B f v w → Beside B f (visits (some B) v xs) (visits none w xs)
   visits-beside [] v w h = h
@@ -355,33 +375,34 @@ module _ (B f : ℕ) where
   never-over : (v w : Walk) → Beside B f v w → w ≡ overBudget → ⊥
   never-over _ _ (both s h g) e = bot (cc)
   never-over _ _ (over s h g) e = bot (cc)
-  never-over _ _ links e = bot (cc)
-  never-over _ _ over-link e = bot (cc)
+  never-over _ _ (both-stopped x s h g) e = bot (cc)
+  never-over _ _ (over-stopped x s h g) e = bot (cc)
 
-  beside-over : (v w : Walk) → Beside B f v w → v ≡ overBudget → (w ≡ atLink) ⊎ ((n : ℕ) × (w ≡ sum n) × (B < n) × (f < n))
+  beside-over : (v w : Walk) → Beside B f v w → v ≡ overBudget
+      → ((x : Stop) × (n : ℕ) × (w ≡ stopped x n) × (B < n) × (f < n)) ⊎ ((n : ℕ) × (w ≡ sum n) × (B < n) × (f < n))
   beside-over _ _ (both s h g) e = absurd (bot (cc))
   beside-over _ _ (over s h g) e = inr (s, refl, g, h)
-  beside-over _ _ links e = absurd (bot (cc))
-  beside-over _ _ over-link e = inl refl
+  beside-over _ _ (both-stopped x s h g) e = absurd (bot (cc))
+  beside-over _ _ (over-stopped x s h g) e = inl (x, s, refl, g, h)
 
   beside-sum : (v w : Walk) (n : ℕ) → Beside B f v w → v ≡ sum n → w ≡ sum n
   beside-sum _ _ n (both s h g) e = e
   beside-sum _ _ n (over s h g) e = absurd (bot (cc))
-  beside-sum _ _ n links e = absurd (bot (cc))
-  beside-sum _ _ n over-link e = absurd (bot (cc))
+  beside-sum _ _ n (both-stopped x s h g) e = absurd (bot (cc))
+  beside-sum _ _ n (over-stopped x s h g) e = absurd (bot (cc))
 
-  beside-link : (v w : Walk) → Beside B f v w → v ≡ atLink → w ≡ atLink
-  beside-link _ _ (both s h g) e = absurd (bot (cc))
-  beside-link _ _ (over s h g) e = absurd (bot (cc))
-  beside-link _ _ links e = refl
-  beside-link _ _ over-link e = refl
+  beside-stopped : (v w : Walk) (y : Stop) (n : ℕ) → Beside B f v w → v ≡ stopped y n → w ≡ stopped y n
+  beside-stopped _ _ y n (both s h g) e = absurd (bot (cc))
+  beside-stopped _ _ y n (over s h g) e = absurd (bot (cc))
+  beside-stopped _ _ y n (both-stopped x s h g) e = e
+  beside-stopped _ _ y n (over-stopped x s h g) e = absurd (bot (cc))
 
   beside-within : (v w : Walk) (n : ℕ) → Beside B f v w → v ≡ sum n → (n ≤ B) ⊎ (n ≡ f)
   beside-within _ _ n (both s h (inl g)) e = let u : s ≡ n = cc in inl (omega arith)
   beside-within _ _ n (both s h (inr g)) e = let u : s ≡ n = cc in inr (sym u ∙ g)
   beside-within _ _ n (over s h g) e = absurd (bot (cc))
-  beside-within _ _ n links e = absurd (bot (cc))
-  beside-within _ _ n over-link e = absurd (bot (cc))
+  beside-within _ _ n (both-stopped x s h g) e = absurd (bot (cc))
+  beside-within _ _ n (over-stopped x s h g) e = absurd (bot (cc))
 
 module _ (t : Table) (l : Tree) (a : Path) where
   beside : (B : ℕ) → Beside B (2 * length a + 1) (walkFrom t l (some B) a) (walkFrom t l none a)
@@ -393,17 +414,18 @@ module _ (t : Table) (l : Tree) (a : Path) where
   pub walk-budget : walkFrom t l none a ≡ overBudget → ⊥
   walk-budget h = never-over 0 (2 * length a + 1) (walkFrom t l (some 0) a) (walkFrom t l none a) (beside 0) h
 
-  -- a walk that ends above its budget would have ended at a link without it, or come to a sum above it and above the start
+  -- a walk that ends above its budget would without it have been stopped, or come to a sum: the sum is above the budget and above the start
   pub walk-over : (B : ℕ) → walkFrom t l (some B) a ≡ overBudget
-      → (walkFrom t l none a ≡ atLink) ⊎ ((n : ℕ) × (walkFrom t l none a ≡ sum n) × (B < n) × (2 * length a + 1 < n))
+      → ((x : Stop) × (n : ℕ) × (walkFrom t l none a ≡ stopped x n) × (B < n) × (2 * length a + 1 < n))
+      ⊎ ((n : ℕ) × (walkFrom t l none a ≡ sum n) × (B < n) × (2 * length a + 1 < n))
   walk-over B h = beside-over B (2 * length a + 1) (walkFrom t l (some B) a) (walkFrom t l none a) (beside B) h
 
   -- any other walk ends as it would without a budget
   pub walk-sum : (B n : ℕ) → walkFrom t l (some B) a ≡ sum n → walkFrom t l none a ≡ sum n
   walk-sum B n h = beside-sum B (2 * length a + 1) (walkFrom t l (some B) a) (walkFrom t l none a) n (beside B) h
 
-  pub walk-link : (B : ℕ) → walkFrom t l (some B) a ≡ atLink → walkFrom t l none a ≡ atLink
-  walk-link B h = beside-link B (2 * length a + 1) (walkFrom t l (some B) a) (walkFrom t l none a) (beside B) h
+  pub walk-stopped : (B : ℕ) (y : Stop) (n : ℕ) → walkFrom t l (some B) a ≡ stopped y n → walkFrom t l none a ≡ stopped y n
+  walk-stopped B y n h = beside-stopped B (2 * length a + 1) (walkFrom t l (some B) a) (walkFrom t l none a) y n (beside B) h
 
   -- the start alone may be above the budget
   pub walk-within : (B n : ℕ) → walkFrom t l (some B) a ≡ sum n → (n ≤ B) ⊎ (n ≡ 2 * length a + 1)

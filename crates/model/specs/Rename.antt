@@ -1,5 +1,5 @@
 -- Document 01, "Order of checks": rename, with its plan and its walk, and the table that it leaves.
-use mathlib.Core.Bool.{Bool, cond, not, _&&_, _||_}
+use mathlib.Core.Bool.{Bool, true, false, cond, not, _&&_, _||_}
 use mathlib.Core.List.{List, [], _∷_, _++_}
 use mathlib.Core.Option.{Option, none, some}
 use Prim.Native.Nat.{ℕ, zero, suc, _+_, _*_, _-_, max}
@@ -69,23 +69,34 @@ abbrev pub budget : Memory → Table → Path → Path → Option ℕ
 budget (limited E limit) t a b = some (limit - charge E t - planned a b t)
 budget unlimited t a b = none
 
--- the walk has come to a sum, or has ended above its budget, or at a link
+-- "gives 4 at a link": what the walk stops at
+pub data Stop : Type 0 where
+  atLink : Stop
+
+-- the walk has come to a sum, or has ended above its budget, or at a node that stops it, with the sum so far
 pub data Walk : Type 0 where
   sum : ℕ → Walk
-  overBudget atLink : Walk
+  overBudget : Walk
+  stopped : Stop → (sum : ℕ) → Walk
 
 -- "above the budget after an addition is 11"
 abbrev pub inBudget : Option ℕ → ℕ → Walk
 inBudget none s = sum s
 inBudget (some b) s = cond (leb s b) (sum s) overBudget
 
+-- "gives 4 at a link": the nodes at which the walk stops
+abbrev pub stops : Node → Bool
+stops (dir m) = false
+stops (file m z c) = false
+stops link = true
+
 -- "gives 4 at a link, and adds 2 × path length + 512 for a file, 3 × path length + 512 for a directory"
 abbrev pub visit : Option ℕ → Walk → Path → Node → Walk
 visit b (sum s) p (dir m) = inBudget b (s + 3 * length p + 512)
 visit b (sum s) p (file m z c) = inBudget b (s + 2 * length p + 512)
-visit b (sum s) p link = atLink
+visit b (sum s) p link = stopped atLink s
 visit b overBudget p n = overBudget
-visit b atLink p n = atLink
+visit b (stopped x s) p n = stopped x s
 
 abbrev pub visits : Option ℕ → Walk → Tree → Walk
 visits b w [] = w
@@ -121,7 +132,7 @@ walkFrom t l b a = walk (depth l) t l b a (sum (2 * length a + 1))
 abbrev pub walked : ℕ → Walk → Check
 walked n (sum s) = pass
 walked n overBudget = refuse 11 0 0
-walked n atLink = refuse 4 0 n
+walked n (stopped atLink s) = refuse 4 0 n
 
 -- what a listed node is as an entry; a link, at which the walk has ended, is none
 abbrev pub asEntry : Node → Entry

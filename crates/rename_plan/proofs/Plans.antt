@@ -1,5 +1,5 @@
--- The plan's sum over what is below the source alone; what the plan gives, by the two comparisons.
-use mathlib.Core.Path.{_≡_, refl, ap, _∙_}
+-- The plan's sum over what is below the source alone; what the plan gives, by the two comparisons; what a stopped walk gives.
+use mathlib.Core.Path.{_≡_, refl, ap, sym, _∙_}
 use mathlib.Core.Bool.{true}
 use mathlib.Core.List.{[], _∷_}
 use mathlib.Core.Option.{Option, some}
@@ -13,11 +13,16 @@ use Rattle.model.specs.Map.{only, keys}
 use Rattle.model.specs.Tree.{Table}
 use Rattle.model.specs.Table.{charge}
 use Rattle.model.specs.Checks.{Check, refuse, _then_, limited}
-use Rattle.model.specs.Rename.{newKey, planned, plan, budget}
+use Rattle.model.specs.Rename.{newKey, planned, plan, budget, walked}
 use Rattle.base_budget.specs.Budget.{shrunk}
 use Rattle.base_budget.specs.declared.MemoryBudget.{MemoryBudget}
 use Rattle.base_budget.specs.declared.Shrunk.the-variants.{Left, MemoryUsageLimitExceeded}
 use Rattle.base_budget.proofs.Budgets.{left-is, exceeded-is}
+use Rattle.rename_walk.specs.Walked.{walkOf}
+use Rattle.rename_walk.specs.declared.Stop.{Stop}
+use Rattle.rename_walk.specs.declared.Stop.the-variants.{AtLink}
+use Rattle.rename_walk.specs.declared.Walked.{Walked}
+use Rattle.rename_walk.specs.declared.Walked.the-variants.{Stopped}
 use Rattle.model.proofs.Orders.{yea, nay, test}
 use Rattle.model.proofs.Maps.{every-only}
 
@@ -30,6 +35,10 @@ planned-below a b (x ∷ xs) =
       | yea e ↦ rw (e, e) (ap (λ (n : ℕ). 2 * length (x .0) + length (newKey a b (x .0)) + 256 + n) ih)
       | nay e ↦ rw e (omega arith)
     ]
+
+-- a walk that was stopped gives 4, whatever its sum
+pub stopped-gives : (n : ℕ) (w : Walked) (x : Stop) (s : ℕ) → w ≡ Stopped x s → refuse 4 0 n ≡ walked n (walkOf w)
+stopped-gives n w AtLink s e = sym (ap (λ (v : Walked). walked n (walkOf v)) e)
 
 -- p is the part of t below a, and s the sum over it
 pub planned-part :

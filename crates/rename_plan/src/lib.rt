@@ -59,7 +59,7 @@ fn check_walked(walk: rename_walk::Walked, len: u64) -> Judged
         rename_walk::Walked::OverBudget => {
             return Judged::Refused(Refusal::Limit);
         }
-        rename_walk::Walked::AtLink => {
+        rename_walk::Walked::Stopped(rename_walk::Stop::AtLink, _) => {
             return Judged::Refused(Refusal::LinkOrRoot(0, len));
         }
     }

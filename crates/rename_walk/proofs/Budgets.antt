@@ -8,7 +8,7 @@ use lib.ListN.{length}
 use borrow.Author.Tests.{leb-true, leb-false, le-leb, lt-leb}
 use Rattle.model.specs.Path.{Path}
 use Rattle.model.specs.Tree.{Node, dir, file, link, kindOf, isDirectory}
-use Rattle.model.specs.Rename.{Walk, sum, overBudget, atLink, inBudget, visit}
+use Rattle.model.specs.Rename.{atLink, Walk, sum, overBudget, stopped, inBudget, visit}
 use Rattle.model.proofs.Orders.{bot}
 use Rattle.listing_records.specs.Found.{foundOf}
 use Rattle.base_budget.specs.Budget.{covers, shrunk}
@@ -39,7 +39,7 @@ module _ (b s : ℕ) where
     at-file (file k z c) m y h r f = let z : s + (2 * n + 512) ≡ s + 2 * length p + 512 = omega arith in f ∙ ap (inBudget (some b)) z
     at-file link m y h r f = absurd (bot (cc))
 
-  pub at-link : (p : Path) (x : Node) → found.Link ≡ foundOf (some x) → atLink ≡ visit (some b) (sum s) p x
+  pub at-link : (p : Path) (x : Node) → found.Link ≡ foundOf (some x) → stopped atLink s ≡ visit (some b) (sum s) p x
   at-link p (dir k) h = absurd (bot (cc))
   at-link p (file k z c) h = absurd (bot (cc))
   at-link p link h = refl
@@ -48,7 +48,7 @@ module _ (b s : ℕ) where
 pub ended-visit : (b : Option ℕ) (p : Path) (x : Node) (w v : Walk) → w ≡ v → ended v ≡ true → w ≡ visit b w p x
 ended-visit b p x w (sum s) e h = absurd (bot (cc))
 ended-visit b p x w overBudget e h = rw e
-ended-visit b p x w atLink e h = rw e
+ended-visit b p x w (stopped y s) e h = rw e
 
 -- a listed node is no absent one
 pub never-absent : (x : Node) → found.Absent ≡ foundOf (some x) → ⊥

@@ -9,7 +9,7 @@ use Rattle.model.specs.Bytes.{consIf}
 use Rattle.model.specs.Path.{Path, below, child}
 use Rattle.model.specs.Map.{lookup, isNone, only}
 use Rattle.model.specs.Tree.{Node, Entry, Table, Tree, kindOf, isDirectory}
-use Rattle.model.specs.Rename.{Walk, sum, overBudget, atLink, visits, children, lastFirst, enter, walk}
+use Rattle.model.specs.Rename.{Walk, sum, overBudget, stopped, visits, children, lastFirst, enter, walk}
 use Rattle.model.proofs.Orders.{bot, Tested, yea, nay, test, and-true, below-trans, below-Lt}
 use Rattle.model.proofs.Maps.{Ascending, map-ext, lookup-only, ascending-only}
 use Rattle.model.proofs.Rules.{child-below}
@@ -85,7 +85,7 @@ module _ (b : Option ℕ) where
   visits-ended [] w h = refl
   visits-ended (x ∷ xs) (sum n) h = absurd (bot (cc))
   visits-ended (x ∷ xs) overBudget h = visits-ended xs overBudget h
-  visits-ended (x ∷ xs) atLink h = visits-ended xs atLink h
+  visits-ended (x ∷ xs) (stopped y n) h = visits-ended xs (stopped y n) h
 
   enter-ended : (g : Path → Walk → Walk) → ((p : Path) (w : Walk) → ended w ≡ true → w ≡ g p w)
       → (ds : List Path) (w : Walk) → ended w ≡ true → w ≡ enter g ds w

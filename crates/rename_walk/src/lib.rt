@@ -25,11 +25,16 @@ ghost use Rattle.rename_walk.specs.Stretch.{endAfter, slashed, lead, Und
 use base_budget::MemoryBudget;
 use base_budget::Shrunk;
 
-// What the walk comes to: a sum, or its end above the budget or at a link.
+// What stops the walk.
+pub enum Stop {
+    AtLink,
+}
+
+// What the walk comes to: a sum, or its end above the budget, or at a node that stops it, with the sum so far.
 pub enum Walked {
     Sum(u64),
     OverBudget,
-    AtLink,
+    Stopped(Stop, u64),
 }
 
 // A stretch of records: the first `count` of the `left` that stand from `at` on.
@@ -70,7 +75,7 @@ fn added(total: u64, cost: u64, budget: MemoryBudget) -> Walked
     Walked::OverBudget
 }
 
-// One node visited, at a path of `len` bytes: a link ends the walk. A listed node is never absent.
+// One node visited, at a path of `len` bytes: a link stops the walk. A listed node is never absent.
 fn visit_from(total: u64, found: listing_records::Found, len: u64, budget: MemoryBudget) -> Walked
     requires { ⌜ len ≤ 16777216 ⌝ }
     ensures { λ r. ⌜ ((p : Path) (n : Node) → found ≡ foundOf (some n) → len ≡ length p → walkOf r
@@ -84,7 +89,7 @@ fn visit_from(total: u64, found: listing_records::Found, len: u64, budget: Memor
             return added(total, 2 * len + model::REAL_DESCENDANT_MEMORY_USAGE, budget);
         }
         listing_records::Found::Link => {
-            return Walked::AtLink;
+            return Walked::Stopped(Stop::AtLink, total);
         }
         listing_records::Found::Absent => {
             return Walked::Sum(total);
@@ -105,7 +110,7 @@ fn visited(walked: Walked, found: listing_records::Found, len: u64, budget: Memo
         Walked::OverBudget => {
             return walked;
         }
-        Walked::AtLink => {
+        Walked::Stopped(_, _) => {
             return walked;
         }
     }
@@ -122,7 +127,7 @@ fn is_ended(walked: Walked) -> bool
         Walked::OverBudget => {
             return true;
         }
-        Walked::AtLink => {
+        Walked::Stopped(_, _) => {
             return true;
         }
     }

@@ -4,6 +4,7 @@ use borrow.Author.Needs.{needs}
 use Rattle.model.specs.Rename.{walked}
 use Rattle.rename_walk.specs.Walked.{walkOf}
 use Rattle.rename_walk.specs.declared.Walked.{Walked}
+use Rattle.rename_plan.proofs.Plans.{stopped-gives}
 use Rattle.rename_plan.proofs.check_walked.Statement.{statement}
 use Rattle.rename_plan.proofs.check_walked.Tie as tie
 
@@ -29,7 +30,7 @@ enum-told-3 c = search needs
 returns-3 : tie.Need-returns-3
 returns-3 c =
     let a = c .before .before .args in
-    sym (ap (λ (w : Walked). walked (a .len) (walkOf w)) (c .enum-told3 .given .1))
+    stopped-gives (a .len) (a .walk) _ _ (c .enum-told3 .given .1)
 
 pub check-walked-spec : {M : Type 1} → statement M
 check-walked-spec =
