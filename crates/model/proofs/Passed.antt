@@ -20,14 +20,14 @@ pub record PathsPassed (t : Table) (l : Tree) (a b : Path) : Type 0 where
   pub source-not-deleted : notDeleted (length a) (lookup t a) ≡ pass
   pub source-no-link : notLink 0 (length a) (kind (shown t l) a) ≡ pass
 
--- `renameTypes`: what both show
+-- `renameTypes`: both together
 pub record TypesPassed (t : Table) (l : Tree) (a b : Path) : Type 0 where
   pub types-agree : noClash (length b) (kind (shown t l) a) (kind (shown t l) b) ≡ pass
   pub destination-empty : ifDirectory (kind (shown t l) a) (ifDirectory (kind (shown t l) b) (noVisibleChild 1 t l b)) ≡ pass
   pub not-below : cond (below a b) (refuse 10 0 (length a)) pass ≡ pass
   pub source-present : present (length a) (kind (shown t l) a) ≡ pass
 
--- `renameMemory`: what moving takes
+-- `renameMemory`: what moving takes of the memory
 pub record MemoryPassed (m : Memory) (t : Table) (l : Tree) (a b : Path) : Type 0 where
   pub plan-fits : ifDirectory (kind (shown t l) a) (plan m t a b) ≡ pass
   pub walk-passes : ifDirectory (kind (shown t l) a) (ifDirectory (kind (lookup l) a) (walked (length a) (walkFrom t l (budget m t a b) a))) ≡ pass

@@ -190,6 +190,6 @@ renameMemory memory t l a b =
     then charged memory (moved t l a b)
     then keysFit memory (rekey a b (carried t l a))
 
--- the three parts, in this order: the paths, then what they show, then what moving takes of the memory
+-- the three parts, in this order: each path by itself, both together, what moving takes of the memory
 abbrev pub renameChecks : Memory → Table → Tree → Path → Path → Check
 renameChecks memory t l a b = renamePaths t l a b then renameTypes t l a b then renameMemory memory t l a b
