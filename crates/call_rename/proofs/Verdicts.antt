@@ -7,12 +7,12 @@ use lib.ListN.{length, replicate}
 use borrow.Author.Tests.{leb-true}
 use Rattle.model.specs.Bytes.{Bytes, every}
 use Rattle.model.specs.Path.{Path, isPath, short}
-use Rattle.model.specs.Map.{lookup, keys, rekey}
-use Rattle.model.specs.Tree.{Table, Tree, shown, Kind, nothing, aDirectory, aFile, aLink, kind, isDirectory}
+use Rattle.model.specs.Map.{keys, rekey}
+use Rattle.model.specs.Tree.{Table, Tree, Kind, isDirectory}
 use Rattle.model.specs.Listing.{isListing, treeIn}
 use Rattle.model.specs.Table.{encode, padded, charge, recordOf, isTable, tableIn}
 use Rattle.model.specs.Checks.{Check, pass, refuse, _then_, unless, form, Memory, limited, charged}
-use Rattle.model.specs.Rename.{ifDirectory, plan, budget, walkFrom, walked, carried, moved, keysFit}
+use Rattle.model.specs.Rename.{ifDirectory, carried, moved, keysFit, directoryMemory}
 use Rattle.model.specs.Calls.{rename}
 use Rattle.model.specs.Answer.{toldRefusal}
 use Rattle.model.specs.Outcome.{Request, Outcome, room, verdict, settle, outcome}
@@ -27,12 +27,12 @@ use Rattle.check_judged.specs.Judged.{asCheck, checkOf, refuses}
 use Rattle.check_judged.proofs.Checked.{refusal-refuses, refused-stops}
 use Rattle.call_answer.specs.Meets.{requested, stored, Meets}
 use Rattle.call_answer.proofs.Settles.{told-so}
-use Rattle.rename_checks.specs.Both.{earlyChecks}
+use Rattle.rename_checks.specs.Early.{earlyChecks}
 use Rattle.rename_checks.proofs.Early.{early-first}
 use Rattle.rename_settle.specs.declared.Settled.{Settled}
 use Rattle.rename_settle.specs.declared.Settled.the-variants as settled
 use Rattle.rename_settle.specs.Settled.{lastChecks, settledCheck}
-use Rattle.call_rename.specs.First.{firstChecks, directoryChecks}
+use Rattle.call_rename.specs.First.{firstChecks}
 
 -- a check of directories, by whether k is one
 pub is-planned : (k m : Kind) (b : Bool) (c j : Check) → k ≡ m → b ≡ isDirectory k → b ≡ true → j ≡ c → j ≡ ifDirectory m c
@@ -41,26 +41,18 @@ is-planned k m b c j e f h g = g ∙ sym (ap (λ (x : Bool). cond x c pass) (sym
 pub not-planned : (k m : Kind) (b : Bool) (c : Check) → k ≡ m → b ≡ isDirectory k → b ≡ false → pass ≡ ifDirectory m c
 not-planned k m b c e f h = sym (ap (λ (x : Bool). cond x c pass) (sym (ap isDirectory e) ∙ sym f ∙ h))
 
--- two checks of directories in a row are one
-both-planned : (k : Kind) (c d : Check) → (ifDirectory k c then ifDirectory k d) ≡ ifDirectory k (c then d)
-both-planned nothing c d = refl
-both-planned aDirectory c d = refl
-both-planned aFile c d = refl
-both-planned aLink c d = refl
-
 -- the order of document 01, and the same checks in the three groups in which they are made
 regroup :
-    (a b c d e f g h i j : Check)
-    → (a then b then (c then d) then (e then f then g then h then i) then j) ≡ (((a then b then c then d) then e then (f then g)) then h then i then j)
-regroup (refuse n w k) b c d e f g h i j = refl
-regroup pass (refuse n w k) c d e f g h i j = refl
-regroup pass pass (refuse n w k) d e f g h i j = refl
-regroup pass pass pass (refuse n w k) e f g h i j = refl
-regroup pass pass pass pass (refuse n w k) f g h i j = refl
-regroup pass pass pass pass pass (refuse n w k) g h i j = refl
-regroup pass pass pass pass pass pass (refuse n w k) h i j = refl
-regroup pass pass pass pass pass pass pass (refuse n w k) i j = refl
-regroup pass pass pass pass pass pass pass pass i j = refl
+    (a b c d e f g h i : Check)
+    → (a then b then (c then d) then (e then f then g then h) then i) ≡ (((a then b then c then d) then e then f) then g then h then i)
+regroup (refuse n w k) b c d e f g h i = refl
+regroup pass (refuse n w k) c d e f g h i = refl
+regroup pass pass (refuse n w k) d e f g h i = refl
+regroup pass pass pass (refuse n w k) e f g h i = refl
+regroup pass pass pass pass (refuse n w k) f g h i = refl
+regroup pass pass pass pass pass (refuse n w k) g h i = refl
+regroup pass pass pass pass pass pass (refuse n w k) h i = refl
+regroup pass pass pass pass pass pass pass h i = refl
 
 -- 1, 2 and 3 passed: t whether the table is one, w whether the work buffer is long enough, l whether the listing is one, p and q whether the paths are
 all-five : (t w l p q : Bool) → (unless 1 (t && w) then unless 2 l then cond p pass (refuse 3 0 0) then cond q pass (refuse 3 1 0)) ≡ pass
@@ -107,22 +99,18 @@ module _ (l s : Bytes) (r : Record) (w : Bytes) (a b : Path) (limit : ℕ) where
 
   -- the checks before 11, and those from 11 on
   abbrev judgement : Check
-  judgement = firstChecks l s r (length w) a b then earlyChecks t g a b then directoryChecks m t g a b
+  judgement = firstChecks l s r (length w) a b then earlyChecks t g a b then directoryMemory m t g a b
 
   abbrev rest : Check
   rest = lastChecks m (length s) t g a b
 
   verdict-is : verdict l q (stored s r) ≡ (judgement then rest)
   verdict-is =
-      let f = shown t g in
       let one = unless 1 (isTable s r && leb (length s) (length w)) in
       let two = unless 2 (isListing l) in
       let thirteen = unless 13 (room l q (stored s r)) in
-      let walk = ifDirectory (kind (lookup g) a) (walked (length a) (walkFrom t g (budget m t a b) a)) in
       ap (λ (c : Check). one then two then (form 0 a then form 1 b) then c then thirteen) (early-first m t g a b)
-      ∙ regroup one two (form 0 a) (form 1 b) (earlyChecks t g a b) (ifDirectory (kind f a) (plan m t a b)) (ifDirectory (kind f a) walk)
-      (charged m new) (keysFit m (rekey a b (carried t g a))) thirteen
-      ∙ ap (λ (c : Check). (firstChecks l s r (length w) a b then earlyChecks t g a b then c) then rest) (both-planned (kind f a) (plan m t a b) walk)
+      ∙ regroup one two (form 0 a) (form 1 b) (earlyChecks t g a b) (directoryMemory m t g a b) (charged m new) (keysFit m (rekey a b (carried t g a))) thirteen
 
   -- j is what the checks before 11 gave
   module _ (j : Judged) (e : checkOf j ≡ judgement) where
@@ -139,12 +127,12 @@ module _ (l s : Bytes) (r : Record) (w : Bytes) (a b : Path) (limit : ℕ) where
       pub known : (isTable s r ≡ true) × (leb (length s) (length w) ≡ true) × (isListing l ≡ true) × (isPath a ≡ true) × (isPath b ≡ true)
       known =
           all-five (isTable s r) (leb (length s) (length w)) (isListing l) (isPath a) (isPath b)
-          (then-pass (firstChecks l s r (length w) a b) (earlyChecks t g a b then directoryChecks m t g a b) passed .0)
+          (then-pass (firstChecks l s r (length w) a b) (earlyChecks t g a b then directoryMemory m t g a b) passed .0)
 
       pub early : earlyChecks t g a b ≡ pass
       early =
-          then-pass (earlyChecks t g a b) (directoryChecks m t g a b)
-          (then-pass (firstChecks l s r (length w) a b) (earlyChecks t g a b then directoryChecks m t g a b) passed .1) .0
+          then-pass (earlyChecks t g a b) (directoryMemory m t g a b)
+          (then-pass (firstChecks l s r (length w) a b) (earlyChecks t g a b then directoryMemory m t g a b) passed .1) .0
 
       -- x is what 11, 12 and 13 settled
       module _ (x : Settled) (f : settledCheck x ≡ rest) where

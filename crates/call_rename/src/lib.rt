@@ -9,12 +9,13 @@ ghost use Rattle.model.specs.Path.{isPath};
 ghost use Rattle.model.specs.Listing.{treeIn, isListing};
 ghost use Rattle.model.specs.Table.{tableIn, isTable};
 ghost use Rattle.model.specs.Checks.{_then_, limited};
+ghost use Rattle.model.specs.Rename.{directoryMemory};
 ghost use Rattle.model.specs.Calls as calls;
 ghost use Rattle.model.specs.Outcome.{outcome};
 ghost use Rattle.check_judged.specs.Judged.{checkOf};
-ghost use Rattle.rename_checks.specs.Both.{earlyChecks};
+ghost use Rattle.rename_checks.specs.Early.{earlyChecks};
 ghost use Rattle.call_answer.specs.Meets.{requested, stored, Meets};
-ghost use Rattle.call_rename.specs.First.{firstChecks, directoryChecks};
+ghost use Rattle.call_rename.specs.First.{firstChecks};
 use check_judged::Judged;
 use model::Answer;
 use model::Answered;
@@ -52,7 +53,7 @@ fn plan_directory(
     requires { ⌜ isListing (now listing) ≡ true ⌝ }
     requires { ⌜ isTable (now table) rec ≡ true ⌝ }
     requires { ⌜ (isPath (now source) ≡ true) × (isPath (now destination) ≡ true) ⌝ }
-    ensures { λ r. ⌜ checkOf r ≡ directoryChecks (limited (rec .«entry_size») limit) (tableIn (now (table .entry)) rec)
+    ensures { λ r. ⌜ checkOf r ≡ directoryMemory (limited (rec .«entry_size») limit) (tableIn (now (table .entry)) rec)
         (treeIn (now (listing .entry))) (now (source .entry)) (now (destination .entry)) ⌝ }
 {
     let visible = view_at::visible_at(listing, table, rec, source);
@@ -74,7 +75,7 @@ fn judge(
 ) -> Judged
     ensures { λ r. ⌜ checkOf r ≡ (firstChecks (now (listing .entry)) (now (table .entry)) rec room (now (source .entry))
         (now (destination .entry)) then earlyChecks (tableIn (now (table .entry)) rec) (treeIn (now (listing .entry)))
-        (now (source .entry)) (now (destination .entry)) then directoryChecks (limited (rec .«entry_size») limit)
+        (now (source .entry)) (now (destination .entry)) then directoryMemory (limited (rec .«entry_size») limit)
         (tableIn (now (table .entry)) rec) (treeIn (now (listing .entry))) (now (source .entry))
         (now (destination .entry))) ⌝ }
 {

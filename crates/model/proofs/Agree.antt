@@ -5,7 +5,7 @@ use mathlib.Core.Logic.{_↔_, inl, inr}
 use mathlib.Core.List.{List, [], _∷_}
 use mathlib.Core.Bool.{Bool, true, false, cond}
 use mathlib.Core.Option.{Option, none, some}
-use Prim.Native.Nat.{ℕ, zero, suc, _-_}
+use Prim.Native.Nat.{ℕ, _-_}
 use native.Mathlib.Omega.{arith}
 use lib.Dec.{leb}
 use lib.ListN.{length}
@@ -19,7 +19,7 @@ use Rattle.model.specs.Table.{charge}
 use Rattle.model.specs.Checks.{Check, pass, refuse, _then_, unless, parentChecks, writeChecks, mkdirAt, mkdirParents, missing, makes, unlinkAt, unlinkChecks}
 use Rattle.model.specs.Checks.{notRoot, noVisibleChild, rmdirChecks, Memory, limited, unlimited, charged}
 use Rattle.model.specs.Rename.{notLink, notDeleted, noClash, present, ifDirectory, planned, plan, budget, atLink, stops, Walk, sum, overBudget, stopped, walkFrom, walked}
-use Rattle.model.specs.Rename.{carried, moved, keysFit, renameChecks}
+use Rattle.model.specs.Rename.{carried, moved, keysFit, renamePaths, renameTypes, planAndWalk, directoryMemory, renameChecks}
 use Rattle.model.specs.Calls.{Call, write, mkdir, unlink, rmdir, rename, changed, rules}
 use Rattle.model.specs.Plain.{plainEffect}
 use Rattle.model.specs.Cause.{MovesDirectory, Exceeds, charge-above, plan-above, walk-above, key-above}
@@ -27,9 +27,10 @@ use Rattle.model.proofs.Orders.{bot, yea, nay, test, is-none, is-some, 
 use Rattle.model.proofs.Orders.{rest-self, rest-below, rest-nil, below-rest}
 use Rattle.model.proofs.Maps.{upd, orElse, lookup-put, lookup-del, lookup-puts, lookup-each, Ascending, ascending-put, ascending-del, ascending-puts, ascending-outside}
 use Rattle.model.proofs.Invariant.{kind-is, is-nothing, is-directory, is-file, is-link′, entry-at, at-none, at-own, at-reference, at-directory, at-deleted}
-use Rattle.model.proofs.Invariant.{Closed, Inv, shown-put, shown-over, kind-at, kind-entry, then-pass, parents-dirs, parents-pass, inv-empty}
+use Rattle.model.proofs.Invariant.{Closed, Inv, shown-put, shown-over, kind-at, kind-entry, then-pass, then-both, parents-dirs, parents-pass, inv-empty}
 use Rattle.model.proofs.Small.{write-inv, unlink-inv, unlink-regular, rmdir-inv, RmdirOk, rmdir-ok, ok-rmdir, met-nothing, met-directory, mkdir-met, makes-missing, makes-none, mkdir-inv, mkdir-up, mkdir-lookup, madeAt, childless-empty, empty-childless}
 use Rattle.model.proofs.Moves.{Held, RenameOk, moveView, move-inv, move-tree, plain-move, entry-free, listed-stop, kind-link, kind-absent, proper-pass}
+use Rattle.model.proofs.Passed.{PathsPassed, TypesPassed, passed-paths, passed-types, rename-passed}
 use Rattle.model.proofs.Walks.{Met, walk-stops, walk-met, walk-budget, walk-over}
 
 -- the table t over the listing l and the plain tree s: the invariant, and the same tree
@@ -116,46 +117,6 @@ module _ (t : Table) (l : Tree) (c : Call) where
       go (stopped y n) e = absurd (no-stop (walk-met t l none a y n asc e))
       go overBudget e = absurd (walk-budget t l a e)
 
--- rename's checks as a list
-abbrev pub firstOf : Check → List Check → Check
-firstOf x [] = x
-firstOf x (y ∷ ys) = x then firstOf y ys
-
--- the check at a place of the list
-abbrev pub checkAt : ℕ → Check → List Check → Check
-checkAt zero x xs = x
-checkAt (suc n) x [] = x
-checkAt (suc n) x (y ∷ ys) = checkAt n y ys
-
--- where the list passes, each check of it does
-pub pass-at : (n : ℕ) (x : Check) (xs : List Check) → firstOf x xs ≡ pass → checkAt n x xs ≡ pass
-pass-at zero x [] h = h
-pass-at zero x (y ∷ ys) h = then-pass x (firstOf y ys) h .0
-pass-at (suc n) x [] h = h
-pass-at (suc n) x (y ∷ ys) h = pass-at n y ys (then-pass x (firstOf y ys) h .1)
-
-abbrev pub later : Memory → Table → Tree → Path → Path → List Check
-later m t l a b =
-    let f = shown t l in
-    notRoot 1 b
-    ∷ parentChecks 1 f b
-    ∷ notLink 1 (length b) (kind f b)
-    ∷ parentChecks 0 f a
-    ∷ notDeleted (length a) (lookup t a)
-    ∷ notLink 0 (length a) (kind f a)
-    ∷ noClash (length b) (kind f a) (kind f b)
-    ∷ ifDirectory (kind f a) (ifDirectory (kind f b) (noVisibleChild 1 t l b))
-    ∷ cond (below a b) (refuse 10 0 (length a)) pass
-    ∷ present (length a) (kind f a)
-    ∷ ifDirectory (kind f a) (plan m t a b)
-    ∷ ifDirectory (kind f a) (ifDirectory (kind (lookup l) a) (walked (length a) (walkFrom t l (budget m t a b) a)))
-    ∷ charged m (moved t l a b)
-    ∷ keysFit m (rekey a b (carried t l a))
-    ∷ []
-
-pub as-list : (m : Memory) (t : Table) (l : Tree) (a b : Path) → renameChecks m t l a b ≡ firstOf (notRoot 0 a) (later m t l a b)
-as-list m t l a b = refl
-
 module _ (t : Table) (l : Tree) (cl : Closed (lookup l)) (i : Inv t l) (a b : Path) where
   -- a walk that goes through has met no visible node that stops it
   no-stop-below : (B : Option ℕ) (n : ℕ) → ifDirectory (kind (lookup l) a) (walked n (walkFrom t l B a)) ≡ pass
@@ -176,11 +137,24 @@ module _ (t : Table) (l : Tree) (cl : Closed (lookup l)) (i : Inv t l) (a b : Pa
   no-stop-at n h r link g e = bot (cc (kind-at (shown t l) a (some link) g r))
 
   pub rename-ok : (m : Memory) → renameChecks m t l a b ≡ pass → RenameOk (shown t l) a b
-  rename-ok m h = build (at 0) (at 1) (at 2) (at 3) (at 6) (at 7) (at 8) (at 9) (at 10) (at 12)
+  rename-ok m h =
+      let p = rename-passed m t l a b h in
+      let from = sa (p .paths .source-not-root) in
+      let to = sb (p .paths .destination-not-root) in
+      let ty = p .types .types-agree in
+      record {
+        source = from;
+        target = to;
+        up = λ q z. parents-dirs 1 (length b) (kind (shown t l)) b q (p .paths .destination-parents) z;
+        found = found′ (p .types .source-present) from;
+        apart = apart′ (p .types .not-below);
+        free = free′ ty (p .types .destination-empty);
+        unstopped = unstopped′ (p .memory .walk-passes) (p .paths .source-no-link) from;
+        target-link = link′ (p .paths .destination-no-link) to;
+        over-dir = dir′ ty;
+        over-file = file′ ty (p .types .source-present) (p .paths .source-no-link);
+      }
     where
-      at : (n : ℕ) → checkAt n (notRoot 0 a) (later m t l a b) ≡ pass
-      at n = pass-at n (notRoot 0 a) (later m t l a b) h
-
       sa : notRoot 0 a ≡ pass → a ≡ [] → ⊥
       sa h e = bot (cc)
 
@@ -215,40 +189,12 @@ module _ (t : Table) (l : Tree) (cl : Closed (lookup l)) (i : Inv t l) (a b : Pa
           → notLink 0 (length a) (kind (shown t l) a) ≡ pass → kind (shown t l) b ≡ aFile → kind (shown t l) a ≡ aFile
       file′ h g r e = elim (kind-is (kind (shown t l) a)) [ is-directory k ↦ cc | is-nothing k ↦ cc | is-file k ↦ k | is-link′ k ↦ cc ]
 
-      build : notRoot 0 a ≡ pass → notRoot 1 b ≡ pass → parentChecks 1 (shown t l) b ≡ pass → notLink 1 (length b) (kind (shown t l) b) ≡ pass
-          → notLink 0 (length a) (kind (shown t l) a) ≡ pass → noClash (length b) (kind (shown t l) a) (kind (shown t l) b) ≡ pass
-          → ifDirectory (kind (shown t l) a) (ifDirectory (kind (shown t l) b) (noVisibleChild 1 t l b)) ≡ pass → cond (below a b) (refuse 10 0 (length a)) pass ≡ pass
-          → present (length a) (kind (shown t l) a) ≡ pass
-          → ifDirectory (kind (shown t l) a) (ifDirectory (kind (lookup l) a) (walked (length a) (walkFrom t l (budget m t a b) a))) ≡ pass → RenameOk (shown t l) a b
-      build ra rb pb nb na ty em un an wa = record {
-        source = sa ra;
-        target = sb rb;
-        up = λ q z. parents-dirs 1 (length b) (kind (shown t l)) b q pb z;
-        found = found′ an (sa ra);
-        apart = apart′ un;
-        free = free′ ty em;
-        unstopped = unstopped′ wa na (sa ra);
-        target-link = link′ nb (sb rb);
-        over-dir = dir′ ty;
-        over-file = file′ ty an na;
-      }
-
   ok-rename : Ascending l → RenameOk (shown t l) a b → (m : Memory) → Allowed m t l (rename a b) (renameChecks m t l a b)
   ok-rename asc o m =
-      next (notRoot 0 a) _ (fine (notRoot 0 a) (proper-pass t l i a b 0 a (o .source))) (
-      next (notRoot 1 b) _ (fine (notRoot 1 b) (proper-pass t l i a b 1 b (o .target))) (
-      next (parentChecks 1 (shown t l) b) _ (fine (parentChecks 1 (shown t l) b) (parents-pass 1 (length b) (kind (shown t l)) b (o .up))) (
-      next (notLink 1 (length b) kb) _ (fine (notLink 1 (length b) kb) link-b) (
-      next (parentChecks 0 (shown t l) a) _ (fine (parentChecks 0 (shown t l) a) (parents-pass 0 (length a) (kind (shown t l)) a up-a)) (
-      next (notDeleted (length a) (lookup t a)) _ (fine (notDeleted (length a) (lookup t a)) there) (
-      next (notLink 0 (length a) ka) _ (fine (notLink 0 (length a) ka) link-a) (
-      next (noClash (length b) ka kb) _ (fine (noClash (length b) ka kb) types) (
-      next (ifDirectory ka (ifDirectory kb (noVisibleChild 1 t l b))) _ (fine (ifDirectory ka (ifDirectory kb (noVisibleChild 1 t l b))) vacant) (
-      next (cond (below a b) (refuse 10 0 (length a)) pass) _ (fine (cond (below a b) (refuse 10 0 (length a)) pass) apart′) (
-      next (present (length a) ka) _ (fine (present (length a) ka) found′) (
-      next (ifDirectory ka (plan m t a b)) _ planned′ (
-      next (ifDirectory ka (ifDirectory (kind (lookup l) a) (walked (length a) (walkFrom t l (budget m t a b) a)))) _ walked′ (
-      next (charged m (moved t l a b)) _ (allowed-charged t l (rename a b) m) (allowed-keys t l (rename a b) m a b refl))))))))))))))
+      next (renamePaths t l a b) _ (fine (renamePaths t l a b) (passed-paths t l a b paths′)) (
+      next (renameTypes t l a b) _ (fine (renameTypes t l a b) (passed-types t l a b types′)) (
+      next (directoryMemory m t l a b) _ directory′ (
+      next (charged m (moved t l a b)) _ (allowed-charged t l (rename a b) m) (allowed-keys t l (rename a b) m a b refl))))
     where
       ka : Kind
       ka = kind (shown t l) a
@@ -283,8 +229,8 @@ module _ (t : Table) (l : Tree) (cl : Closed (lookup l)) (i : Inv t l) (a b : Pa
       there : notDeleted (length a) (lookup t a) ≡ pass
       there = elim (entry-at (lookup t a)) [ at-none z ↦ cc | at-own m d z ↦ cc | at-reference m s p z ↦ cc | at-directory m z ↦ cc | at-deleted z ↦ absurd (o .found (cc)) ]
 
-      types : noClash (length b) ka kb ≡ pass
-      types = elim (kind-is kb) [
+      agree : noClash (length b) ka kb ≡ pass
+      agree = elim (kind-is kb) [
         | is-link′ z ↦ cc
         | is-nothing z ↦ cc
         | is-directory z ↦ cc (o .over-dir z)
@@ -300,22 +246,34 @@ module _ (t : Table) (l : Tree) (cl : Closed (lookup l)) (i : Inv t l) (a b : Pa
       found′ : present (length a) ka ≡ pass
       found′ = elim (kind-is ka) [ is-nothing z ↦ absurd (is-a z) | is-link′ z ↦ cc | is-file z ↦ cc | is-directory z ↦ cc ]
 
+      paths′ : PathsPassed t l a b
+      paths′ = record {
+        source-not-root = proper-pass t l i a b 0 a (o .source);
+        destination-not-root = proper-pass t l i a b 1 b (o .target);
+        destination-parents = parents-pass 1 (length b) (kind (shown t l)) b (o .up);
+        destination-no-link = link-b;
+        source-parents = parents-pass 0 (length a) (kind (shown t l)) a up-a;
+        source-not-deleted = there;
+        source-no-link = link-a;
+      }
+
+      types′ : TypesPassed t l a b
+      types′ = record { types-agree = agree; destination-empty = vacant; not-below = apart′; source-present = found′ }
+
       if-dir : (k : Kind) (x : Check) → (k ≡ aDirectory → Allowed m t l (rename a b) x) → Allowed m t l (rename a b) (ifDirectory k x)
       if-dir nothing x h = fine pass refl
       if-dir aDirectory x h = h refl
       if-dir aFile x h = fine pass refl
       if-dir aLink x h = fine pass refl
 
-      planned′ : Allowed m t l (rename a b) (ifDirectory ka (plan m t a b))
-      planned′ = if-dir ka (plan m t a b) (λ k. allowed-plan t l (rename a b) m a b (record { renames = refl; moves = k }))
-
       met : Met t l a → ⊥
       met x = let r = below-rest a (x .path) (x .under) in o .unstopped (x .path) (47 ∷ r .0) (x .node) (r .1) (cc (x .is-there, x .free)) (x .ends)
 
-      walked′ : Allowed m t l (rename a b) (ifDirectory ka (ifDirectory (kind (lookup l) a) (walked (length a) (walkFrom t l (budget m t a b) a))))
-      walked′ = if-dir ka (ifDirectory (kind (lookup l) a) (walked (length a) (walkFrom t l (budget m t a b) a))) (λ k.
+      directory′ : Allowed m t l (rename a b) (directoryMemory m t l a b)
+      directory′ = if-dir ka (planAndWalk m t l a b) (λ k.
+          next (plan m t a b) _ (allowed-plan t l (rename a b) m a b (record { renames = refl; moves = k })) (
           if-dir (kind (lookup l) a) (walked (length a) (walkFrom t l (budget m t a b) a)) (λ d.
-          allowed-walk t l (rename a b) asc m a b (record { renames = refl; moves = k }) d met))
+          allowed-walk t l (rename a b) asc m a b (record { renames = refl; moves = k }) d met)))
 
 -- the plain tree with directories at a path and at its missing ancestors
 abbrev plainMade : Tree → Path → ℕ → Tree
@@ -371,10 +329,6 @@ module _ (t : Table) (l s : Tree) (g : Sound t l s) where
     λ h. ok-rmdir [] s plain-inv p (subst (λ (f : View). RmdirOk f p) (g .tree) (rmdir-ok t l (g .inv) p h)),
     λ h. ok-rmdir t l (g .inv) p (subst⁻¹ (λ (f : View). RmdirOk f p) (g .tree) (rmdir-ok [] s plain-inv p h)),
   )
-
-  -- a check and then one that passes
-  then-both : (x y : Check) → x ≡ pass → y ≡ pass → (x then y) ≡ pass
-  then-both x y h k = cc
 
   agree-at : (p : Path) (ok : Bool) (y : Check) → mkdirAt (length p) ok (kind (shown t l) p) y ≡ mkdirAt (length p) ok (kind (lookup s) p) y
   agree-at p ok y = ap (λ (k : Kind). mkdirAt (length p) ok k y) (agree-kind p)

@@ -15,7 +15,7 @@ use Rattle.model.specs.Tree.{Node, dir, file, link, Entry, own, director
 use Rattle.model.specs.Tree.{Kind, nothing, aDirectory, aLink, kindOf, kind, isNothing, isDirectory}
 use Rattle.model.specs.Table.{charge}
 use Rattle.model.specs.Checks.{Check, pass, _then_, unless, parentChecks, writeChecks, mkdirAt, mkdirParents, missing, makes, unlinkChecks, rmdirChecks}
-use Rattle.model.specs.Checks.{notRoot, Memory, limited, charged}
+use Rattle.model.specs.Checks.{Memory, limited, charged}
 use Rattle.model.specs.Rename.{asEntry, uncovered, along, carried, moved, renameChecks}
 use Rattle.model.specs.Calls.{Call, write, mkdir, unlink, rmdir, rename, changed, rules}
 use Rattle.model.specs.Posix.{Prefixed, Empty, makeDirectory, makeMissing, makeDirectories, renameFile, Posix}
@@ -26,7 +26,8 @@ use Rattle.model.proofs.Maps.{orElse, lookup-put, lookup-puts, lookup-e
 use Rattle.model.proofs.Invariant.{kind-is, is-nothing, is-directory, is-file, is-link′, Closed, Inv, shown-put, shown-over, kind-at, then-pass, parents-dirs}
 use Rattle.model.proofs.Small.{mkdir-up, mem-absent, met-nothing, met-directory, mkdir-met, makes-missing, makes-none, not-both, mkdir-lookup, madeAt, unlink-found, rmdir-ok, above-dirs}
 use Rattle.model.proofs.Moves.{Held, RenameOk, moveView, move-tree, move-self}
-use Rattle.model.proofs.Agree.{rename-ok, pass-at, later}
+use Rattle.model.proofs.Passed.{rename-passed}
+use Rattle.model.proofs.Agree.{rename-ok}
 
 -- the entries elsewhere stay
 
@@ -98,7 +99,7 @@ module _ (E limit : ℕ) (t : Table) (l : Tree) where
   ]
   in-limit (unlink p) h = inl (within (charge E (changed t l (unlink p))) limit (then-pass (unlinkChecks t l p) (charged (limited E limit) (changed t l (unlink p))) h .1))
   in-limit (rmdir p) h = inl (within (charge E (changed t l (rmdir p))) limit (then-pass (rmdirChecks t l p) (charged (limited E limit) (changed t l (rmdir p))) h .1))
-  in-limit (rename a b) h = inl (within (charge E (moved t l a b)) limit (pass-at 13 (notRoot 0 a) (later (limited E limit) t l a b) h))
+  in-limit (rename a b) h = inl (within (charge E (moved t l a b)) limit (rename-passed (limited E limit) t l a b h .memory .charge-fits))
 
 -- POSIX
 

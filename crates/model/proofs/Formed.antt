@@ -30,7 +30,7 @@ use Rattle.model.proofs.Maps.{Above, Ascending, lookup-low, ascends-is,
 use Rattle.model.proofs.Maps.{orElse, mapO, lookup-put, lookup-puts, lookup-each, lookup-keys, lookup-mapped, lookup-only, lookup-rekey}
 use Rattle.model.proofs.Invariant.{Closed, then-pass}
 use Rattle.model.proofs.Moves.{Held}
-use Rattle.model.proofs.Agree.{pass-at, later}
+use Rattle.model.proofs.Passed.{rename-passed}
 use Rattle.model.specs.Runs.{Word, WordedCall}
 use Rattle.model.proofs.Words.{Worded, Words, IsBytes}
 use Rattle.model.proofs.Texts.{path-ancestor, path-moved}
@@ -401,14 +401,14 @@ module _ (t : Table) (l : Tree) (f : FineTable t) (g : Listing l) (a : Path) whe
         let c = carried t l a in
         fine-puts (rekey a b c) (puts (each deleted (keys c)) t) (fine-puts (each deleted (keys c)) t f gone-fine) moved-fine
 
--- what of rename's chain of checks is needed: no root, and short keys
+-- what of rename's checks is needed: no root, and short keys
 module _ (E limit : ℕ) (t : Table) (l : Tree) (a b : Path) where
   rename-says : renameChecks (limited E limit) t l a b ≡ pass
       → (a ≡ [] → ⊥) × (b ≡ [] → ⊥) × (every short (keys (rekey a b (carried t l a))) ≡ true)
-  rename-says h = let m = limited E limit in (
-    root-refused 0 a (pass-at 0 (notRoot 0 a) (later m t l a b) h),
-    root-refused 1 b (pass-at 1 (notRoot 0 a) (later m t l a b) h),
-    unless-true 12 (every short (keys (rekey a b (carried t l a)))) (pass-at 14 (notRoot 0 a) (later m t l a b) h),
+  rename-says h = let p = rename-passed (limited E limit) t l a b h in (
+    root-refused 0 a (p .paths .source-not-root),
+    root-refused 1 b (p .paths .destination-not-root),
+    unless-true 12 (every short (keys (rekey a b (carried t l a)))) (p .memory .keys-fit),
   )
     where
       unless-true : (n : ℕ) (x : Bool) → unless n x ≡ pass → x ≡ true

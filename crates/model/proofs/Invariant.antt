@@ -68,6 +68,10 @@ pub then-pass : (a b : Check) → (a then b) ≡ pass → (a ≡ pass) × (b ≡
 then-pass pass b h = (refl, h)
 then-pass (refuse k w n) b h = (cc, cc)
 
+-- two checks that pass, one after the other
+pub then-both : (a b : Check) → a ≡ pass → b ≡ pass → (a then b) ≡ pass
+then-both a b h k = cc
+
 parent-dir : (w n : ℕ) (k : Kind) → parentAt w n k ≡ pass → k ≡ aDirectory
 parent-dir w n nothing h = cc
 parent-dir w n aDirectory h = refl

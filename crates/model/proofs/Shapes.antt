@@ -14,7 +14,7 @@ use Rattle.model.specs.Tree.{Entry, own, reference, directory, deleted, 
 use Rattle.model.specs.Table.{charge, isTable, tableIn, sized}
 use Rattle.model.specs.Listing.{isListing, treeIn}
 use Rattle.model.specs.Checks.{Check, pass, refuse, _then_, unless, form, parentAt, parentsIn, parentChecks, writeAt, ancestorAt, ancestorsIn, mkdirParents, mkdirAt, unlinkAt, unlinkEntry, notRoot, visibleChild, noVisibleChild, rmdirAt, rmdirEntry, Memory, limited, unlimited, charged}
-use Rattle.model.specs.Rename.{notLink, notDeleted, noClash, present, ifDirectory, planned, plan, budget, Walk, sum, overBudget, atLink, stopped, walkFrom, walked, keysFit, carried, moved, renameChecks}
+use Rattle.model.specs.Rename.{notLink, notDeleted, noClash, present, ifDirectory, planned, plan, budget, Walk, sum, overBudget, atLink, stopped, walkFrom, walked, keysFit, carried, moved, renamePaths, renameTypes, renameMemory, renameChecks}
 use Rattle.model.specs.Calls.{Call, write, mkdir, unlink, rmdir, rename, changed, forms, rules, valueOf, Query, says}
 use Rattle.model.specs.Answer.{accepted, refused}
 use Rattle.model.specs.Outcome.{Store, Request, lent, room, verdict, settle, outcome, answered, ask, opened}
@@ -205,8 +205,8 @@ module _ (a b : Path) where
   well-keysFit (limited E z) x = well-unless 12 (every short (keys x)) (key-too-long a b refl)
   well-keysFit unlimited x = passes
 
-  well-rename : (m : Memory) (t : Table) (l : Tree) → Well (rename a b) (renameChecks m t l a b)
-  well-rename m t l =
+  well-paths : (t : Table) (l : Tree) → Well (rename a b) (renamePaths t l a b)
+  well-paths t l =
       let f = shown t l in
       let from = source a b in
       let to = destination a b in
@@ -217,14 +217,24 @@ module _ (a b : Path) where
       and well-parents from f
       and well-notDeleted from (lookup t a)
       and well-notLink from (kind f a)
-      and well-clash (kind f a) (kind f b)
-      and well-ifDirectory (kind f a) (well-ifDirectory (kind f b) (well-empty to t l))
+
+  well-types : (t : Table) (l : Tree) → Well (rename a b) (renameTypes t l a b)
+  well-types t l =
+      let f = shown t l in
+      well-clash (kind f a) (kind f b)
+      and well-ifDirectory (kind f a) (well-ifDirectory (kind f b) (well-empty (destination a b) t l))
       and well-cond (below a b) (refuses (below-source a b refl)) passes
-      and well-present from (kind f a)
-      and well-ifDirectory (kind f a) (well-plan m t)
-      and well-ifDirectory (kind f a) (well-ifDirectory (kind (lookup l) a) (well-walked from (walkFrom t l (budget m t a b) a)))
+      and well-present (source a b) (kind f a)
+
+  well-memory : (m : Memory) (t : Table) (l : Tree) → Well (rename a b) (renameMemory m t l a b)
+  well-memory m t l =
+      let walk = well-walked (source a b) (walkFrom t l (budget m t a b) a) in
+      well-ifDirectory (kind (shown t l) a) (well-plan m t and well-ifDirectory (kind (lookup l) a) walk)
       and well-charged m (moved t l a b)
       and well-keysFit m (rekey a b (carried t l a))
+
+  well-rename : (m : Memory) (t : Table) (l : Tree) → Well (rename a b) (renameChecks m t l a b)
+  well-rename m t l = well-paths t l and well-types t l and well-memory m t l
 
 -- 3, and 4 to 12, of each call
 well-forms : (c : Call) → Well c (forms c)

@@ -9,7 +9,7 @@ use Prim.Native.Nat.{ℕ, zero, suc, _+_, _*_, _≤_, _<_}
 use native.Mathlib.Omega.{arith}
 use lib.ListN.{length}
 use lib.Dec.{eqb, leb, leb→le, nleb→lt}
-use Rattle.model.specs.Bytes.{Bytes, consIf}
+use Rattle.model.specs.Bytes.{consIf}
 use Rattle.model.specs.Path.{Path, components, below, child, slashless}
 use Rattle.model.specs.Map.{isNone, lookup, only}
 use Rattle.model.specs.Tree.{Node, dir, file, link, Entry, Table, Tree, kindOf, isDirectory}

@@ -163,10 +163,9 @@ keysFit (limited E limit) c = unless 12 (every short (keys c))
 keysFit unlimited c = pass
 
 -- "rename: roots; destination's parents; a link at the destination without an entry, 4; source's parents; source
--- deleted 5, link 4; type clash 8 or 7; 9 for a directory source; 10; source absent 5; for a directory the plan and the
--- walk; 11; 12"
-abbrev pub renameChecks : Memory → Table → Tree → Path → Path → Check
-renameChecks memory t l a b =
+-- deleted 5, link 4; …"
+abbrev pub renamePaths : Table → Tree → Path → Path → Check
+renamePaths t l a b =
     let f = shown t l in
     notRoot 0 a
     then notRoot 1 b
@@ -175,12 +174,33 @@ renameChecks memory t l a b =
     then parentChecks 0 f a
     then notDeleted (length a) (lookup t a)
     then notLink 0 (length a) (kind f a)
-    then noClash (length b) (kind f a) (kind f b)
+
+-- "… type clash 8 or 7; 9 for a directory source; 10; source absent 5; …"
+abbrev pub renameTypes : Table → Tree → Path → Path → Check
+renameTypes t l a b =
+    let f = shown t l in
+    noClash (length b) (kind f a) (kind f b)
     then ifDirectory (kind f a) (ifDirectory (kind f b) (noVisibleChild 1 t l b))
     then cond (below a b) (refuse 10 0 (length a)) pass
     then present (length a) (kind f a)
-    then ifDirectory (kind f a) (plan memory t a b)
-    then ifDirectory (kind f a) (ifDirectory (kind (lookup l) a)
-    (walked (length a) (walkFrom t l (budget memory t a b) a)))
+
+-- "the plan and the walk": the walk is through the listing, so where the source is a directory there
+abbrev pub planAndWalk : Memory → Table → Tree → Path → Path → Check
+planAndWalk memory t l a b =
+    plan memory t a b
+    then ifDirectory (kind (lookup l) a) (walked (length a) (walkFrom t l (budget memory t a b) a))
+
+-- "… for a directory the plan and the walk; …"
+abbrev pub directoryMemory : Memory → Table → Tree → Path → Path → Check
+directoryMemory memory t l a b = ifDirectory (kind (shown t l) a) (planAndWalk memory t l a b)
+
+-- "… for a directory the plan and the walk; 11; 12"
+abbrev pub renameMemory : Memory → Table → Tree → Path → Path → Check
+renameMemory memory t l a b =
+    directoryMemory memory t l a b
     then charged memory (moved t l a b)
     then keysFit memory (rekey a b (carried t l a))
+
+-- the three parts, in this order: each path by itself, both together, what moving takes of the memory
+abbrev pub renameChecks : Memory → Table → Tree → Path → Path → Check
+renameChecks memory t l a b = renamePaths t l a b then renameTypes t l a b then renameMemory memory t l a b

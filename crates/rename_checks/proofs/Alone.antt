@@ -1,4 +1,4 @@
--- What each of rename's checks gives, from what the code has found: the root, a deleted source, a clash, a directory onto a directory.
+-- What each of rename's checks gives, from what the code has found: the root, a deleted source, a clash, a directory onto a directory; and their groups.
 use mathlib.Core.Path.{_≡_, refl, sym, ap, _∙_}
 use mathlib.Core.Bool.{Bool, true, false}
 use mathlib.Core.List.{[], _∷_}
@@ -9,11 +9,11 @@ use lib.ListN.{length}
 use Rattle.model.specs.Bytes.{Bytes}
 use Rattle.model.specs.Path.{Path}
 use Rattle.model.specs.Tree.{Entry, own, reference, directory, deleted, Kind, aDirectory, aFile, isDirectory}
-use Rattle.model.specs.Checks.{Check, pass, refuse, notRoot}
+use Rattle.model.specs.Checks.{Check, pass, refuse, _then_, notRoot}
 use Rattle.model.specs.Rename.{notDeleted, noClash, ifDirectory}
 use Rattle.table_entries.specs.declared.OverlayEntry.{OverlayEntry}
 use Rattle.table_entries.specs.Said as told
-use Rattle.check_judged.proofs.Thens.{when, otherwise}
+use Rattle.check_judged.proofs.Thens.{then-assoc, when, otherwise}
 
 pub at-root : (w : ℕ) (p : Path) → length p ≡ 0 → refuse 4 w 0 ≡ notRoot w p
 at-root w [] h = refl
@@ -67,3 +67,7 @@ module _ (k m j i : Kind) (e : k ≡ j) (h : m ≡ i) (x : Check) where
 
   pub full-at : (c : Check) → x ≡ ifDirectory k (ifDirectory m c) → x ≡ ifDirectory j (ifDirectory i c)
   full-at c z = z ∙ ap (λ (y : Kind). ifDirectory y (ifDirectory m c)) e ∙ ap (λ (y : Kind). ifDirectory j (ifDirectory y c)) h
+
+-- the checks of the paths, in the groups in which they are made
+pub grouped : (a b c d e : Check) → ((a then b) then (c then d) then e) ≡ (a then b then c then d then e)
+grouped a b c d e = then-assoc a b ((c then d) then e) ∙ ap (λ (x : Check). a then b then x) (then-assoc c d e)

@@ -8,16 +8,16 @@ use mathlib.Core.Option.{none, some}
 use Prim.Native.Nat.{ℕ}
 use lib.ListN.{length}
 use Rattle.model.specs.Path.{Path, below, rest}
-use Rattle.model.specs.Map.{lookup}
 use Rattle.model.specs.Tree.{Node, Table, Tree, shown, Kind, aDirectory, aFile, kind, isNothing, isDirectory}
-use Rattle.model.specs.Checks.{pass, refuse, _then_, parentChecks, notRoot, noVisibleChild}
-use Rattle.model.specs.Rename.{notLink, notDeleted, noClash, present, ifDirectory}
+use Rattle.model.specs.Checks.{pass, refuse, parentChecks, notRoot, noVisibleChild}
+use Rattle.model.specs.Rename.{notLink, noClash, present, ifDirectory, renamePaths, renameTypes}
 use Rattle.model.proofs.Orders.{Lt, bot, is-none, is-some, opt, inside-both}
 use Rattle.model.proofs.Invariant.{kind-is, is-nothing, is-directory, is-file, is-link′, kind-at, then-pass, parents-dirs}
 use Rattle.model.proofs.Rules.{child-root, way}
+use Rattle.model.proofs.Passed.{PathsPassed, TypesPassed, paths-passed, types-passed}
 use Rattle.model.proofs.Small.{childless}
 use Rattle.rename_laws.proofs.Moves.{Parted}
-use Rattle.rename_checks.specs.Both.{bothChecks, earlyChecks}
+use Rattle.rename_checks.specs.Early.{earlyChecks}
 
 not-root : (w : ℕ) (p : Path) → notRoot w p ≡ pass → Lt [] p
 not-root w [] h = absurd (bot (cc))
@@ -33,34 +33,19 @@ regular n k h g = elim (kind-is k) [
 ]
 
 module _ (t : Table) (l : Tree) (a b : Path) (h : earlyChecks t l a b ≡ pass) where
+  paths : PathsPassed t l a b
+  paths = paths-passed t l a b (then-pass (renamePaths t l a b) (renameTypes t l a b) h .0)
+
+  types : TypesPassed t l a b
+  types = types-passed t l a b (then-pass (renamePaths t l a b) (renameTypes t l a b) h .1)
+
   pub no-roots : Lt [] a × Lt [] b
-  no-roots =
-      let f = shown t l in
-      let target = parentChecks 1 f b then notLink 1 (length b) (kind f b) in
-      let source = parentChecks 0 f a then notDeleted (length a) (lookup t a) then notLink 0 (length a) (kind f a) in
-      let r = then-pass (notRoot 0 a then notRoot 1 b) (target then source then bothChecks t l a b) h .0 in
-      let e = then-pass (notRoot 0 a) (notRoot 1 b) r in
-      (not-root 0 a (e .0), not-root 1 b (e .1))
+  no-roots = (not-root 0 a (paths .source-not-root), not-root 1 b (paths .destination-not-root))
 
   -- w is whether the source is a directory; else it is a file
   pub kind-whole : (k : Kind) → k ≡ kind (shown t l) a → (w : Bool) → w ≡ isDirectory k → kind (shown t l) a ≡ cond w aDirectory aFile
   kind-whole k e w d =
-      let f = shown t l in
-      let roots = notRoot 0 a then notRoot 1 b in
-      let target = parentChecks 1 f b then notLink 1 (length b) (kind f b) in
-      let away = notDeleted (length a) (lookup t a) then notLink 0 (length a) (kind f a) in
-      let clash = noClash (length b) (kind f a) (kind f b) in
-      let vacant = ifDirectory (kind f a) (ifDirectory (kind f b) (noVisibleChild 1 t l b)) in
-      let apart = cond (below a b) (refuse 10 0 (length a)) pass in
-      let there = present (length a) (kind f a) in
-      let h1 = then-pass roots (target then (parentChecks 0 f a then away) then bothChecks t l a b) h .1 in
-      let h2 = then-pass target ((parentChecks 0 f a then away) then bothChecks t l a b) h1 .1 in
-      let h3 = then-pass (parentChecks 0 f a then away) (bothChecks t l a b) h2 in
-      let h4 = then-pass (parentChecks 0 f a) away (h3 .0) .1 in
-      let link = then-pass (notDeleted (length a) (lookup t a)) (notLink 0 (length a) (kind f a)) h4 .1 in
-      let h5 = then-pass clash (vacant then apart then there) (h3 .1) .1 in
-      let h6 = then-pass vacant (apart then there) h5 .1 in
-      regular (length a) (kind f a) link (then-pass apart there h6 .1)
+      regular (length a) (kind (shown t l) a) (paths .source-no-link) (types .source-present)
       ∙ ap (λ (x : Bool). cond x aDirectory aFile) (sym (d ∙ ap isDirectory e))
 
 module _ (t : Table) (l : Tree) where
@@ -101,25 +86,13 @@ module _ (t : Table) (l : Tree) where
   -- the checks before the plan leave nothing at or below both paths, if these are not one
   pub apart-paths : (a b : Path) → earlyChecks t l a b ≡ pass → (a ≡ b → ⊥) → Parted a b
   apart-paths a b h ne q r f =
-      let v = shown t l in
-      let roots = notRoot 0 a then notRoot 1 b in
-      let target = parentChecks 1 v b then notLink 1 (length b) (kind v b) in
-      let apart = cond (below a b) (refuse 10 0 (length a)) pass in
-      let vacant = ifDirectory (kind v a) (ifDirectory (kind v b) (noVisibleChild 1 t l b)) in
-      let last = present (length a) (kind v a) in
-      let away = notDeleted (length a) (lookup t a) then notLink 0 (length a) (kind v a) in
-      let h1 = then-pass roots (target then (parentChecks 0 v a then away) then bothChecks t l a b) h .1 in
-      let h2 = then-pass target ((parentChecks 0 v a then away) then bothChecks t l a b) h1 .1 in
-      let h3 = then-pass (parentChecks 0 v a then away) (bothChecks t l a b) h2 in
-      let p = then-pass (parentChecks 0 v a) away (h3 .0) .0 in
-      let h4 = then-pass (noClash (length b) (kind v a) (kind v b)) (vacant then apart then last) (h3 .1) in
-      let h5 = then-pass vacant (apart then last) (h4 .1) in
-      let h6 = then-pass apart last (h5 .1) in
+      let p = paths t l a b h in
+      let y = types t l a b h in
       elim (opt (rest b q)) [
         | is-none n ↦ n
         | is-some s n ↦ absurd (elim (inside-both a b q r s f n) [
           | inl e ↦ ne e
-          | inr (inl e) ↦ not-over a b (h6 .0) e
-          | inr (inr e) ↦ not-under a b (h4 .0) (h5 .0) p e
+          | inr (inl e) ↦ not-over a b (y .not-below) e
+          | inr (inr e) ↦ not-under a b (y .types-agree) (y .destination-empty) (p .source-parents) e
         ])
       ]

@@ -12,11 +12,11 @@ ghost use Rattle.model.specs.Tree.{Entry, shown, kind};
 ghost use Rattle.model.specs.Listing.{treeIn, isListing};
 ghost use Rattle.model.specs.Table.{tableIn, isTable};
 ghost use Rattle.model.specs.Checks.{pass, refuse, _then_, parentChecks, notRoot, noVisibleChild};
-ghost use Rattle.model.specs.Rename.{notLink, notDeleted, noClash, present, ifDirectory};
+ghost use Rattle.model.specs.Rename.{notLink, notDeleted, noClash, present, ifDirectory, renamePaths, renameTypes};
 ghost use Rattle.table_entries.specs.Said.{said, saidOf};
 ghost use Rattle.view_at.specs.Sight.{visibleKind};
 ghost use Rattle.check_judged.specs.Judged.{checkOf};
-ghost use Rattle.rename_checks.specs.Both.{bothChecks, earlyChecks};
+ghost use Rattle.rename_checks.specs.Early.{earlyChecks};
 use check_judged::Judged;
 use model::Record;
 use model::Refusal;
@@ -24,7 +24,7 @@ use table_entries::OverlayEntry;
 use view_at::Visible;
 
 // The root, given as the path `which`, is refused.
-pub fn reject_mount_root(path: &[u8], which: u64) -> Judged
+fn reject_mount_root(path: &[u8], which: u64) -> Judged
     ensures { λ r. ⌜ checkOf r ≡ notRoot which (now (path .entry)) ⌝ }
 {
     if path.len() == 0 {
@@ -64,7 +64,7 @@ fn reject_link(visible: Visible, which: u64, len: u64) -> Judged
 }
 
 // The destination's parents; a link at it.
-pub fn check_destination(listing: &[u8], table: &[u8], rec: Record, path: &[u8]) -> Judged
+fn check_destination(listing: &[u8], table: &[u8], rec: Record, path: &[u8]) -> Judged
     requires { ⌜ isListing (now listing) ≡ true ⌝ }
     requires { ⌜ isTable (now table) rec ≡ true ⌝ }
     requires { ⌜ isPath (now path) ≡ true ⌝ }
@@ -109,7 +109,7 @@ fn reject_deleted(entry: OverlayEntry, bytes: u64) -> Judged
 }
 
 // The source's parents; a deleted entry or a link at it.
-pub fn check_source(listing: &[u8], table: &[u8], rec: Record, path: &[u8]) -> Judged
+fn check_source(listing: &[u8], table: &[u8], rec: Record, path: &[u8]) -> Judged
     requires { ⌜ isListing (now listing) ≡ true ⌝ }
     requires { ⌜ isTable (now table) rec ≡ true ⌝ }
     requires { ⌜ isPath (now path) ≡ true ⌝ }
@@ -129,6 +129,31 @@ pub fn check_source(listing: &[u8], table: &[u8], rec: Record, path: &[u8]) -> J
     }
     let visible = view_at::visible_at(listing, table, rec, path);
     reject_link(visible, 0, path.len() as u64)
+}
+
+// Each path by itself: the roots, then the destination, then the source.
+fn check_paths(
+    listing: &[u8],
+    table: &[u8],
+    rec: Record,
+    source: &[u8],
+    destination: &[u8],
+) -> Judged
+    requires { ⌜ isListing (now listing) ≡ true ⌝ }
+    requires { ⌜ isTable (now table) rec ≡ true ⌝ }
+    requires { ⌜ (isPath (now source) ≡ true) × (isPath (now destination) ≡ true) ⌝ }
+    ensures { λ r. ⌜ checkOf r ≡ renamePaths (tableIn (now (table .entry)) rec) (treeIn (now (listing .entry)))
+        (now (source .entry)) (now (destination .entry)) ⌝ }
+{
+    let roots = reject_roots(source, destination);
+    if check_judged::is_refused(roots) {
+        return roots;
+    }
+    let to = check_destination(listing, table, rec, destination);
+    if check_judged::is_refused(to) {
+        return to;
+    }
+    check_source(listing, table, rec, source)
 }
 
 // A directory only onto a directory or nothing, a file not onto a directory; `len` is the destination's length.
@@ -212,8 +237,8 @@ fn reject_absent(visible: Visible, len: u64) -> Judged
     }
 }
 
-// Type clash 8 or 7; 9 for a directory source; 10; source absent 5.
-pub fn check_both(
+// Both together: type clash 8 or 7; 9 for a directory source; 10; source absent 5.
+fn check_types(
     listing: &[u8],
     table: &[u8],
     rec: Record,
@@ -222,7 +247,7 @@ pub fn check_both(
 ) -> Judged
     requires { ⌜ isListing (now listing) ≡ true ⌝ }
     requires { ⌜ isTable (now table) rec ≡ true ⌝ }
-    ensures { λ r. ⌜ checkOf r ≡ bothChecks (tableIn (now (table .entry)) rec) (treeIn (now (listing .entry)))
+    ensures { λ r. ⌜ checkOf r ≡ renameTypes (tableIn (now (table .entry)) rec) (treeIn (now (listing .entry)))
         (now (source .entry)) (now (destination .entry)) ⌝ }
 {
     let from = view_at::visible_at(listing, table, rec, source);
@@ -256,17 +281,9 @@ pub fn early_checks(
     ensures { λ r. ⌜ checkOf r ≡ earlyChecks (tableIn (now (table .entry)) rec) (treeIn (now (listing .entry)))
         (now (source .entry)) (now (destination .entry)) ⌝ }
 {
-    let roots = reject_roots(source, destination);
-    if check_judged::is_refused(roots) {
-        return roots;
+    let paths = check_paths(listing, table, rec, source, destination);
+    if check_judged::is_refused(paths) {
+        return paths;
     }
-    let to = check_destination(listing, table, rec, destination);
-    if check_judged::is_refused(to) {
-        return to;
-    }
-    let from = check_source(listing, table, rec, source);
-    if check_judged::is_refused(from) {
-        return from;
-    }
-    check_both(listing, table, rec, source, destination)
+    check_types(listing, table, rec, source, destination)
 }

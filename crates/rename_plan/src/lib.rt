@@ -11,8 +11,8 @@ ghost use Rattle.model.specs.Map.{lookup};
 ghost use Rattle.model.specs.Tree.{kind, isDirectory};
 ghost use Rattle.model.specs.Listing.{treeIn, isListing};
 ghost use Rattle.model.specs.Table.{tableIn, isTable};
-ghost use Rattle.model.specs.Checks.{_then_, limited};
-ghost use Rattle.model.specs.Rename.{ifDirectory, planned, plan, walkFrom};
+ghost use Rattle.model.specs.Checks.{limited};
+ghost use Rattle.model.specs.Rename.{ifDirectory, planned, walkFrom, planAndWalk};
 ghost use Rattle.model.specs.Rename as rename;
 ghost use Rattle.check_judged.specs.Judged.{checkOf};
 ghost use Rattle.rename_walk.specs.Walked.{walkOf};
@@ -100,12 +100,8 @@ pub fn plan_checks(
     requires { ⌜ isListing (now listing) ≡ true ⌝ }
     requires { ⌜ isTable (now table) rec ≡ true ⌝ }
     requires { ⌜ (isPath (now source) ≡ true) × (isPath (now destination) ≡ true) ⌝ }
-    ensures { λ r. ⌜ checkOf r ≡ (plan (limited (rec .«entry_size») limit) (tableIn (now (table .entry)) rec)
-        (now (source .entry)) (now (destination .entry)) then ifDirectory (kind (lookup (treeIn (now (listing .entry))))
-        (now (source .entry))) (rename.walked (length (now (source .entry))) (walkFrom (tableIn (now (table .entry))
-        rec) (treeIn (now (listing .entry))) (rename.budget (limited (rec .«entry_size») limit)
-        (tableIn (now (table .entry)) rec) (now (source .entry)) (now (destination .entry)))
-        (now (source .entry))))) ⌝ }
+    ensures { λ r. ⌜ checkOf r ≡ planAndWalk (limited (rec .«entry_size») limit) (tableIn (now (table .entry)) rec)
+        (treeIn (now (listing .entry))) (now (source .entry)) (now (destination .entry)) ⌝ }
 {
     let Shrunk::Left(free) = base_budget::available_memory(rec.charge, limit) else {
         return Judged::Refused(Refusal::Limit);

@@ -19,7 +19,7 @@ use Rattle.model.specs.declared.Record.{Record}
 use Rattle.model.specs.declared.Refusal.the-variants.{Limit, KeyTooLong, NoRoom}
 use Rattle.model.proofs.Orders.{Lt, bot}
 use Rattle.model.proofs.Maps.{orElse, mapO}
-use Rattle.rename_checks.specs.Both.{earlyChecks}
+use Rattle.rename_checks.specs.Early.{earlyChecks}
 use Rattle.rename_checks.proofs.Passed.{no-roots}
 use Rattle.rename_laws.proofs.Moves.{loose-top}
 use Rattle.rename_measure.specs.declared.Projected.{Projected}

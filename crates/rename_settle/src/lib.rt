@@ -12,7 +12,7 @@ ghost use Rattle.model.specs.Listing.{treeIn, isListing};
 ghost use Rattle.model.specs.Table.{bodyOf, recordOf, tableIn, isTable};
 ghost use Rattle.model.specs.Checks.{pass, limited};
 ghost use Rattle.model.specs.Rename.{moved};
-ghost use Rattle.rename_checks.specs.Both.{earlyChecks};
+ghost use Rattle.rename_checks.specs.Early.{earlyChecks};
 ghost use Rattle.rename_write.specs.Sequence.{topOf, top};
 ghost use Rattle.rename_settle.specs.Settled.{lastChecks, settledOf, settledCheck};
 ghost use Rattle.rename_settle.specs.declared.Settled.the-variants as settled;

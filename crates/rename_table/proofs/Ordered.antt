@@ -17,7 +17,7 @@ use Rattle.model.proofs.Orders.{Lt, Split, split}
 use Rattle.model.proofs.Maps.{Ascending, ascends-is, is-ascends}
 use Rattle.table_measure.specs.Into.{into}
 use Rattle.table_measure.proofs.Intos.{into-puts}
-use Rattle.rename_checks.specs.Both.{earlyChecks}
+use Rattle.rename_checks.specs.Early.{earlyChecks}
 use Rattle.rename_checks.proofs.Passed.{no-roots, apart-paths}
 use Rattle.rename_laws.proofs.Records.{Apart}
 use Rattle.rename_laws.proofs.Moves.{rekey-same, ascending-rekey, ascending-each, topEntry, ascending-carried, inside-carried}

@@ -13,7 +13,7 @@ ghost use Rattle.model.specs.Listing.{treeIn, isListing};
 ghost use Rattle.model.specs.Table.{encode, padded, tableIn, isTable};
 ghost use Rattle.model.specs.Checks.{pass};
 ghost use Rattle.model.specs.Rename.{carried, moved};
-ghost use Rattle.rename_checks.specs.Both.{earlyChecks};
+ghost use Rattle.rename_checks.specs.Early.{earlyChecks};
 
 // The table anew with what rename moves; `whole` tells whether the source is a directory.
 pub fn write_move(

@@ -3,10 +3,11 @@ use borrow.Author.Needs.{needs}
 use Rattle.model.specs.Listing.{treeIn}
 use Rattle.model.specs.Table.{tableIn}
 use Rattle.model.specs.Checks.{_then_, limited}
+use Rattle.model.specs.Rename.{directoryMemory}
 use Rattle.check_judged.specs.Judged.{checkOf}
 use Rattle.check_judged.proofs.Thens.{ends, goes-on}
-use Rattle.rename_checks.specs.Both.{earlyChecks}
-use Rattle.call_rename.specs.First.{firstChecks, directoryChecks}
+use Rattle.rename_checks.specs.Early.{earlyChecks}
+use Rattle.call_rename.specs.First.{firstChecks}
 use Rattle.call_rename.proofs.Verdicts.{ready-known}
 use Rattle.call_rename.proofs.judge.Statement.{statement}
 use Rattle.call_rename.proofs.judge.Tie as tie
@@ -25,7 +26,7 @@ returns c =
     let x = a .source .now in
     let y = a .destination .now in
     let f = firstChecks (a .listing .now) (a .table .now) (a .rec) (a .room) x y in
-    let d = directoryChecks (limited (a .rec .«entry_size») (a .limit)) t l x y in
+    let d = directoryMemory (limited (a .rec .«entry_size») (a .limit)) t l x y in
     let j = c .before .before .ready in
     let r = c .before .is-refused in
     ends f (checkOf (j .result)) (r .result) (j .ensures) (r .ensures) (earlyChecks t l x y then d) (c .if1 .taken)
@@ -50,7 +51,7 @@ returns-2 c =
     let x = a .source .now in
     let y = a .destination .now in
     let f = firstChecks (a .listing .now) (a .table .now) (a .rec) (a .room) x y in
-    let d = directoryChecks (limited (a .rec .«entry_size») (a .limit)) t l x y in
+    let d = directoryMemory (limited (a .rec .«entry_size») (a .limit)) t l x y in
     let j = c .before .before .before .before .before .ready in
     let r = c .before .before .before .before .is-refused in
     let k = c .before .before .early-checks in
@@ -76,7 +77,7 @@ returns-3 c =
     let x = a .source .now in
     let y = a .destination .now in
     let f = firstChecks (a .listing .now) (a .table .now) (a .rec) (a .room) x y in
-    let d = directoryChecks (limited (a .rec .«entry_size») (a .limit)) t l x y in
+    let d = directoryMemory (limited (a .rec .«entry_size») (a .limit)) t l x y in
     let j = c .before .before .before .before .before .before .ready in
     let r = c .before .before .before .before .before .is-refused in
     let k = c .before .before .before .early-checks in

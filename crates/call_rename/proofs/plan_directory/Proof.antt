@@ -1,12 +1,10 @@
 -- `plan_directory` meets its contract: the plan is made where the source is a directory, and only there.
 use borrow.Author.Needs.{needs}
-use lib.ListN.{length}
-use Rattle.model.specs.Map.{lookup}
 use Rattle.model.specs.Tree.{shown, kind}
 use Rattle.model.specs.Listing.{treeIn}
 use Rattle.model.specs.Table.{tableIn}
-use Rattle.model.specs.Checks.{_then_, limited}
-use Rattle.model.specs.Rename.{ifDirectory, plan, budget, walkFrom, walked}
+use Rattle.model.specs.Checks.{limited}
+use Rattle.model.specs.Rename.{planAndWalk}
 use Rattle.view_at.specs.Sight.{visibleKind}
 use Rattle.check_judged.specs.Judged.{checkOf}
 use Rattle.call_rename.proofs.Verdicts.{is-planned, not-planned}
@@ -34,8 +32,7 @@ returns c =
     let d = c .before .before .is-directory in
     let p = c .plan-checks in
     is-planned (visibleKind (v .result)) (kind (shown t l) x) (d .result)
-    (plan m t x y then ifDirectory (kind (lookup l) x) (walked (length x) (walkFrom t l (budget m t x y) x))) (checkOf (p .result)) (v .ensures)
-    (d .ensures) (c .before .if1 .taken) (p .ensures)
+    (planAndWalk m t l x y) (checkOf (p .result)) (v .ensures) (d .ensures) (c .before .if1 .taken) (p .ensures)
 
 returns-2 : tie.Need-returns-2
 returns-2 c =
@@ -48,7 +45,7 @@ returns-2 c =
     let v = c .before .before .visible-at in
     let d = c .before .is-directory in
     not-planned (visibleKind (v .result)) (kind (shown t l) x) (d .result)
-    (plan m t x y then ifDirectory (kind (lookup l) x) (walked (length x) (walkFrom t l (budget m t x y) x))) (v .ensures) (d .ensures) (c .if1 .left)
+    (planAndWalk m t l x y) (v .ensures) (d .ensures) (c .if1 .left)
 
 pub plan-directory-spec : {M : Type 1} → statement M
 plan-directory-spec =

@@ -1,4 +1,4 @@
--- `check_both` meets its contract: the clash, a directory onto one that is not empty, a destination below the source, an absent source.
+-- `check_types` meets its contract: the clash, a directory onto one that is not empty, a destination below the source, an absent source.
 use borrow.Author.Needs.{needs}
 use mathlib.Core.Bool.{cond}
 use lib.ListN.{length}
@@ -12,8 +12,8 @@ use Rattle.view_at.specs.Sight.{visibleKind}
 use Rattle.check_judged.specs.Judged.{checkOf}
 use Rattle.check_judged.proofs.Thens.{ends, goes-on, goes-on-at}
 use Rattle.rename_checks.proofs.Alone.{clash-at, full-at}
-use Rattle.rename_checks.proofs.check_both.Statement.{statement}
-use Rattle.rename_checks.proofs.check_both.Tie as tie
+use Rattle.rename_checks.proofs.check_types.Statement.{statement}
+use Rattle.rename_checks.proofs.check_types.Tie as tie
 
 visible-at-requires : tie.Need-visible-at-requires
 visible-at-requires c κs = search needs
@@ -145,8 +145,8 @@ returns-4 c =
     (goes-on-at z (checkOf (j .result)) (q .result) (j .ensures) (q .ensures) (present (length x)) (visibleKind (v .result)) k (checkOf (b .result))
     (c .before .if3 .left) (b .ensures) (v .ensures)))
 
-pub check-both-spec : {M : Type 1} → statement M
-check-both-spec =
+pub check-types-spec : {M : Type 1} → statement M
+check-types-spec =
     tie.close
     (tie.spec
     visible-at-requires
