@@ -26,8 +26,8 @@ use Rattle.table_insert.specs.declared.Inserted.{Inserted}
 use Rattle.table_insert.specs.Insert.{insertion, ifDone}
 use Rattle.check_judged.specs.Judged.{asCheck}
 use Rattle.check_judged.proofs.Checked.{refusal-refuses, refused-stops}
-use Rattle.call_answer.specs.Meets.{requested, stored, Meets, answeredOf}
-use Rattle.call_answer.proofs.Settles.{last, refused-meets, inserted-meets}
+use Rattle.call_answer.specs.Meets.{requested, stored, last, Meets, answeredOf}
+use Rattle.call_answer.proofs.Settles.{refused-meets, inserted-meets}
 use Rattle.check_lent.proofs.Firsts.{firsts}
 use Rattle.call_mkdir.specs.Step.{afterStep}
 use Rattle.call_mkdir.specs.declared.Step.{Step}

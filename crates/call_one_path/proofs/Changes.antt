@@ -1,21 +1,19 @@
--- The calls that insert one entry, write, unlink and rmdir: their checks up to 10, the root that none of them passes, and then the insertion.
+-- The calls that change one entry: their checks from 3 to 10, the root that none of them passes, and what is left for their end.
 use mathlib.Core.Path.{_≡_, refl, sym, ap, _∙_}
-use mathlib.Core.Bool.{true, false, _&&_}
+use mathlib.Core.Bool.{Bool, true, false, cond}
 use mathlib.Core.List.{[], _∷_}
 use mathlib.Core.Option.{Option, none}
 use Prim.Native.Nat.{ℕ, _≤_}
-use lib.Dec.{leb}
 use lib.ListN.{length, replicate}
-use borrow.Author.Tests.{leb-true}
 use Rattle.model.specs.Bytes.{Bytes, before}
 use Rattle.model.specs.Path.{Path, isPath}
-use Rattle.model.specs.Map.{lookup}
-use Rattle.model.specs.Tree.{Entry, Table, Tree, shown, kind}
-use Rattle.model.specs.Listing.{isListing, treeIn}
-use Rattle.model.specs.Table.{encode, padded, isTable, tableIn}
-use Rattle.model.specs.Checks.{Check, pass, refuse, _then_, unless, form, limited, charged, parentChecks, writeChecks, unlinkAt, unlinkEntry, unlinkChecks, rmdirChecks}
+use Rattle.model.specs.Map.{put, lookup}
+use Rattle.model.specs.Tree.{Entry, Table, kind}
+use Rattle.model.specs.Listing.{treeIn}
+use Rattle.model.specs.Table.{encode, padded, tableIn}
+use Rattle.model.specs.Checks.{Check, pass, refuse, _then_, unless, form, limited, charged, parentChecks, unlinkAt, unlinkEntry}
 use Rattle.model.specs.Calls.{Call, changed, forms, rules, valueOf}
-use Rattle.model.specs.Outcome.{Request, room, verdict, outcome}
+use Rattle.model.specs.Outcome.{Store, Given, shownIn, Request, room, outcome}
 use Rattle.model.specs.declared.Record.{Record}
 use Rattle.model.specs.declared.Refusal.{Refusal}
 use Rattle.model.specs.declared.Answered.{Answered}
@@ -23,91 +21,118 @@ use Rattle.model.specs.declared.Answer.the-variants.{Refused}
 use Rattle.model.proofs.Orders.{bot}
 use Rattle.model.proofs.Maps.{ascends-is, lookup-low}
 use Rattle.model.proofs.Codec.{decoded, path-short}
+use Rattle.table_write.specs.Merge.{Written}
 use Rattle.table_insert.specs.declared.Inserted.{Inserted}
 use Rattle.table_insert.specs.Insert.{insertion, ifDone}
 use Rattle.check_judged.specs.declared.Judged.{Judged}
 use Rattle.check_judged.specs.declared.Judged.the-variants as judge
 use Rattle.check_judged.specs.Judged.{checkOf, refuses}
 use Rattle.check_judged.proofs.Checked.{refused-not-passed}
+use Rattle.check_judged.proofs.Thens.{ends, goes-on}
+use Rattle.check_one_path.specs.Change.{changeChecks}
+use Rattle.check_one_path.specs.declared.Change.{Change}
+use Rattle.check_one_path.specs.declared.Change.the-variants as change
 use Rattle.call_answer.specs.Meets.{requested, stored, Meets, answeredOf}
-use Rattle.call_answer.proofs.Settles.{last, refused-meets, inserted-meets}
-use Rattle.check_lent.proofs.Firsts.{firsts, all-four}
+use Rattle.call_answer.proofs.Settles.{refused-meets, inserted-meets}
+use Rattle.call_answer.proofs.Admits.{given-verdict}
+use Rattle.call_one_path.specs.Puts.{Puts}
 
--- a call's checks, with those before 11 as one
-regroup : (a b c d e f : Check) → (a then b then c then (d then e) then f) ≡ (((a then b then c) then d) then (e then f))
-regroup pass pass pass pass e f = refl
-regroup pass pass pass (refuse n w k) e f = refl
-regroup pass pass (refuse n w k) d e f = refl
-regroup pass (refuse n w k) c d e f = refl
-regroup (refuse n w k) b c d e f = refl
+-- an own file's fields
+pub own-written : (m : ℕ) (d : Bytes) → Written 1 m 0 d
+own-written m d = record { type = refl; time = refl; long = refl; content = refl }
 
-first-passed : (c d : Check) → pass ≡ (c then d) → refuses c ≡ false
-first-passed pass d h = refl
-first-passed (refuse n w k) d h = absurd (bot (cc))
+-- a form that did not refuse
+formed : (b : Bool) → refuses (cond b pass (refuse 3 0 0)) ≡ false → b ≡ true
+formed true h = refl
+formed false h = absurd (bot (cc))
 
-second-passed : (c d : Check) → pass ≡ (c then d) → d ≡ pass
-second-passed pass d h = sym h
-second-passed (refuse n w k) d h = absurd (bot (cc))
+-- both of two checks pass
+both-passed : (b : Bool) (d : Check) → pass ≡ (cond b pass (refuse 3 0 0) then d) → (b ≡ true) × (d ≡ pass)
+both-passed true d h = (refl, sym h)
+both-passed false d h = absurd (bot (cc))
 
--- where the checks c refuse at the root, a path that passed them is not empty
-not-root : (p : Path) (c : Path → Check) → refuses (c []) ≡ true → c p ≡ pass → before [] p ≡ true
-not-root [] c h e = absurd (refused-not-passed (c []) h e)
-not-root (b ∷ p) c h e = refl
-
--- the checks of the calls at the root
-module _ (t : Table) (l : Tree) where
-  pub write-root : refuses (writeChecks (shown t l) []) ≡ true
-  write-root = refl
-
-  pub rmdir-root : refuses (rmdirChecks t l []) ≡ true
-  rmdir-root = refl
-
-pub unlink-root : (s : Bytes) (r : Record) (l : Tree) → isTable s r ≡ true → refuses (unlinkChecks (tableIn s r) l []) ≡ true
-unlink-root s r l h =
-    let u = ascends-is [] (tableIn s r) (decoded s r h .ascending) in
-    let e : lookup (tableIn s r) [] ≡ none = lookup-low [] (tableIn s r) (u .0) (u .1) in
-    ap (λ (o : Option Entry). refuses (unlinkEntry 0 o (parentChecks 0 (shown (tableIn s r) l) [] then unlinkAt 0 (kind (shown (tableIn s r) l) [])))) e
-
--- a call with one path: its checks from 4 to 10 are c, and j is what the checks up to there gave
-module _ (l s : Bytes) (r : Record) (w : Bytes) (p : Path) (c : Path → Check) where
+-- a call with the path p, by its checks from 3 to 10
+module _ (l s : Bytes) (r : Record) (p : Path) (x : Change) where
   abbrev judged : Check
-  judged = firsts (isTable s r) (leb (length s) (length w)) (isListing l) (isPath p) then c p
+  judged = form 0 p then changeChecks x (tableIn s r) (treeIn l) p
 
-  -- what an insertion asks for
-  pub may : (j : Judged) → checkOf j ≡ judged → j ≡ judge.Pass → (isTable s r ≡ true → refuses (c []) ≡ true)
-      → (isTable s r ≡ true) × (before [] p ≡ true) × (length p ≤ 512) × (length s ≤ length w)
-  may j e h n =
-      let a = firsts (isTable s r) (leb (length s) (length w)) (isListing l) (isPath p) in
-      let g : pass ≡ judged = sym (ap checkOf h) ∙ e in
-      let k = all-four (isTable s r) (leb (length s) (length w)) (isListing l) (isPath p) (first-passed a (c p) g) in
-      let b = not-root p c (n (k .0)) (second-passed a (c p) g) in
-      (k .0, b, path-short p (k .3), leb-true (length s) (length w) (k .1))
+  -- each call refuses the root: write and unlink as a directory, rmdir by its own check
+  root : Given l s r → refuses (changeChecks x (tableIn s r) (treeIn l) []) ≡ true
+  root g = each x
+    where
+      each : (y : Change) → refuses (changeChecks y (tableIn s r) (treeIn l) []) ≡ true
+      each change.Write = refl
+      each change.Unlink =
+          let u = ascends-is [] (tableIn s r) (decoded s r (g .is-table) .ascending) in
+          let e : lookup (tableIn s r) [] ≡ none = lookup-low [] (tableIn s r) (u .0) (u .1) in
+          let f = shownIn l s r in
+          ap (λ (o : Option Entry). refuses (unlinkEntry 0 o (parentChecks 0 f [] then unlinkAt 0 (kind f [])))) e
+      each change.Rmdir = refl
 
-  module _ (limit : ℕ) (call : Call) where
-    abbrev q : Request
-    q = requested call limit w
+  -- so a path that passes is a key
+  may : Given l s r → (c : Check) → c ≡ judged → c ≡ pass → (before [] p ≡ true) × (length p ≤ 512)
+  may g c e h =
+      let k = both-passed (isPath p) (changeChecks x (tableIn s r) (treeIn l) p) (sym h ∙ e) in
+      (not-root p (k .1), path-short p (k .0))
+    where
+      not-root : (p : Path) → changeChecks x (tableIn s r) (treeIn l) p ≡ pass → before [] p ≡ true
+      not-root [] e = absurd (refused-not-passed (changeChecks x (tableIn s r) (treeIn l) []) (root g) e)
+      not-root (b ∷ p) e = refl
 
-    abbrev after : Table
-    after = changed (tableIn s r) (treeIn l) call
+  -- 3 gave j, and b is whether that refuses
+  module _ (g : Given l s r) (j : Check) (b : Bool) (e : j ≡ form 0 p) (i : b ≡ refuses j) where
+    pub is-path : b ≡ false → isPath p ≡ true
+    is-path h = formed (isPath p) (ap refuses (sym e) ∙ sym i ∙ h)
 
-    module _ (f : forms call ≡ form 0 p)
-        (g : rules (limited (r .«entry_size») limit) (tableIn s r) (treeIn l) call ≡ (c p then charged (limited (r .«entry_size») limit) after)) where
-      grouped : verdict l q (stored s r) ≡ (judged then last l q (stored s r))
-      grouped =
-          let t = unless 1 (isTable s r && leb (length s) (length w)) in
-          let u = unless 2 (isListing l) in
-          let v = unless 13 (room l q (stored s r)) in
-          ap (λ (x : Check). t then u then x then rules (limited (r .«entry_size») limit) (tableIn s r) (treeIn l) call then v) f
-          ∙ ap (λ (x : Check). t then u then form 0 p then x then v) g
-          ∙ regroup t u (form 0 p) (c p) (charged (limited (r .«entry_size») limit) after) v
+    pub by-form : b ≡ true → (j ≡ judged) × (j ≡ pass → (before [] p ≡ true) × (length p ≤ 512))
+    by-form h = let k = ends (form 0 p) j b e i (changeChecks x (tableIn s r) (treeIn l) p) h in (k, may g j k)
 
-      module _ (j : Judged) (e : checkOf j ≡ judged) where
-        pub call-refused : (x : Refusal) → j ≡ judge.Refused x
-            → Meets (outcome l q (stored s r)) (record { answer = Refused x; «record» = r }) s w
-        call-refused x h = refused-meets l q (stored s r) judged grouped x (sym (ap checkOf h) ∙ e)
+    -- the call is y, and its own checks gave c
+    pub by-change : b ≡ false → (y : Change) → x ≡ y → (c : Check) → c ≡ changeChecks y (tableIn s r) (treeIn l) p
+        → (c ≡ judged) × (c ≡ pass → (before [] p ≡ true) × (length p ≤ 512))
+    by-change h y u c d =
+        let f = d ∙ sym (ap (λ (z : Change). changeChecks z (tableIn s r) (treeIn l) p) u) in
+        let k = goes-on (form 0 p) j b e i (changeChecks x (tableIn s r) (treeIn l) p) c h f in
+        (k, may g c k)
 
-        -- the insertion answered i and left t and v
-        pub call-inserted : j ≡ judge.Pass → (i : Inserted) → i ≡ insertion (r .«entry_size») limit (length s) after → (t v : Bytes)
-            → t ≡ ifDone i (padded (length s) (encode after)) s → v ≡ ifDone i (replicate (length w) 0) w
-            → (a : Answered) → a ≡ answeredOf i r (valueOf call) → Meets (outcome l q (stored s r)) a t v
-        call-inserted h = inserted-meets l q (stored s r) judged grouped (sym (ap checkOf h) ∙ e)
+  -- c is what they gave, and the call puts v and answers n
+  pub puts-so : Given l s r → (w : Bytes) → length s ≤ length w → (limit : ℕ) (call : Call) (c : Check) → c ≡ judged → forms call ≡ form 0 p
+      → rules (limited (r .«entry_size») limit) (tableIn s r) (treeIn l) call
+      ≡ (changeChecks x (tableIn s r) (treeIn l) p then charged (limited (r .«entry_size») limit) (changed (tableIn s r) (treeIn l) call))
+      → (v : Entry) → changed (tableIn s r) (treeIn l) call ≡ put p v (tableIn s r) → (n : ℕ) → valueOf call ≡ n
+      → Puts c p v n l (requested call limit w) (stored s r)
+  puts-so g w h limit call c e f k v t n a =
+      let q = requested call limit w in
+      let m = limited (r .«entry_size») limit in
+      let d = changeChecks x (tableIn s r) (treeIn l) p in
+      let o = unless 13 (room l q (stored s r)) in
+      record {
+        checks = given-verdict l q (stored s r) g h
+            ∙ ap (λ (y : Check). y then rules m (tableIn s r) (treeIn l) call then o) f
+            ∙ ap (λ (y : Check). form 0 p then y then o) k
+            ∙ regroup (form 0 p) d (charged m (changed (tableIn s r) (treeIn l) call)) o
+            ∙ ap (λ (y : Check). y then (charged m (changed (tableIn s r) (treeIn l) call) then o)) (sym e);
+        table = t;
+        value = a;
+      }
+    where
+      regroup : (a b c d : Check) → (a then (b then c) then d) ≡ ((a then b) then (c then d))
+      regroup pass pass c d = refl
+      regroup pass (refuse n w k) c d = refl
+      regroup (refuse n w k) b c d = refl
+
+-- the end of such a call: its checks gave j
+module _ (j : Judged) (s : Bytes) (r : Record) (w : Bytes) (p : Path) (v : Entry) (n limit : ℕ) where
+  pub put-refused : (x : Refusal) → j ≡ judge.Refused x → (l : Bytes) (call : Call) → Puts (checkOf j) p v n l (requested call limit w) (stored s r)
+      → Meets (outcome l (requested call limit w) (stored s r)) (record { answer = Refused x; «record» = r }) s w
+  put-refused x h l call m = refused-meets l (requested call limit w) (stored s r) (checkOf j) (m .checks) x (sym (ap checkOf h))
+
+  -- the insertion answered i and left t and u
+  pub put-inserted : j ≡ judge.Pass → (i : Inserted) → i ≡ insertion (r .«entry_size») limit (length s) (put p v (tableIn s r)) → (t u : Bytes)
+      → t ≡ ifDone i (padded (length s) (encode (put p v (tableIn s r)))) s → u ≡ ifDone i (replicate (length w) 0) w
+      → (a : Answered) → a ≡ answeredOf i r n → (l : Bytes) (call : Call) → Puts (checkOf j) p v n l (requested call limit w) (stored s r)
+      → Meets (outcome l (requested call limit w) (stored s r)) a t u
+  put-inserted h i e t u f g a k l call m =
+      let z = sym (m .table) in
+      inserted-meets l (requested call limit w) (stored s r) (checkOf j) (m .checks) (sym (ap checkOf h)) i (e ∙ ap (insertion (r .«entry_size») limit (length s)) z) t u
+      (f ∙ ap (λ (y : Table). ifDone i (padded (length s) (encode y)) s) z) g a (k ∙ ap (answeredOf i r) (sym (m .value)))

@@ -1,19 +1,16 @@
--- `rmdir` meets its contract: refused by its checks, or as the insertion of a deleted entry answers.
-use mathlib.Core.Path.{refl}
+-- `rmdir` meets its contract: refused by 1 or 2, or as `rmdir_admitted` answers.
 use borrow.Author.Needs.{needs}
-use Rattle.model.specs.Listing.{treeIn}
-use Rattle.model.specs.Table.{tableIn}
-use Rattle.model.specs.Checks.{rmdirChecks}
 use Rattle.model.specs.Calls.{rmdir}
-use Rattle.call_one_path.proofs.Changes.{rmdir-root, may, call-refused, call-inserted}
+use Rattle.call_answer.specs.Meets.{requested, stored}
+use Rattle.call_answer.proofs.Admits.{not-admitted, admitted-given}
 use Rattle.call_one_path.proofs.rmdir.Statement.{statement}
 use Rattle.call_one_path.proofs.rmdir.Tie as tie
 
-judge-rmdir-requires : tie.Need-judge-rmdir-requires
-judge-rmdir-requires c κs = search needs
+admitted-requires : tie.Need-admitted-requires
+admitted-requires c κs = search needs
 
-enum-known-judged : tie.Need-enum-known-judged
-enum-known-judged c = search needs
+enum-known-admitted : tie.Need-enum-known-admitted
+enum-known-admitted c = search needs
 
 same-length : tie.Need-same-length
 same-length c = search needs
@@ -21,30 +18,17 @@ same-length c = search needs
 returns : tie.Need-returns
 returns c =
     let a = c .before .before .before .before .before .before .before .before .before .args in
-    let l = a .listing .now in
-    let s = a .table .now in
-    let f = rmdirChecks (tableIn s (a .rec)) (treeIn l) in
-    let j = c .before .before .before .judge-rmdir in
-    call-refused l s (a .rec) (a .work .now) (a .path .now) f (a .limit) (rmdir (a .path .now)) refl refl (j .result) (j .ensures) _ (c .before .judged .given .1)
+    let j = c .before .before .before .admitted in
+    not-admitted (a .listing .now) (requested (rmdir (a .path .now)) (a .limit) (a .work .now)) (stored (a .table .now) (a .rec)) (j .result) (j .ensures) _ (c .before .admitted2 .given .1)
 
 enum-told : tie.Need-enum-told
 enum-told c = search needs
 
-slice-aggregate-empty : tie.Need-slice-aggregate-empty
-slice-aggregate-empty c = search needs
-
-insert-requires : tie.Need-insert-requires
-insert-requires c κs =
-    let a = c .before .before .before .before .before .before .before .before .before .before .before .args in
-    let l = a .listing .now in
-    let s = a .table .now in
-    let f = rmdirChecks (tableIn s (a .rec)) (treeIn l) in
-    let j = c .before .before .before .before .before .judge-rmdir in
-    let m = may l s (a .rec) (a .work .now) (a .path .now) f (j .result) (j .ensures) (c .before .before .before .enum-told .given .1) (λ e. rmdir-root (tableIn s (a .rec)) (treeIn l)) in
-    (m .0, ((m .1, m .2), (record { type = refl; time = refl; long = refl; content = refl }, m .3)))
-
-answered-requires : tie.Need-answered-requires
-answered-requires c κs = search needs
+rmdir-admitted-requires : tie.Need-rmdir-admitted-requires
+rmdir-admitted-requires c κs =
+    let a = c .before .before .before .before .before .before .before .before .before .before .args in
+    let j = c .before .before .before .before .admitted in
+    admitted-given (a .listing .now) (requested (rmdir (a .path .now)) (a .limit) (a .work .now)) (stored (a .table .now) (a .rec)) (j .result) (j .ensures) (c .before .before .enum-told .given .1)
 
 same-length-2 : tie.Need-same-length-2
 same-length-2 c = search needs
@@ -53,29 +37,18 @@ same-length-3 : tie.Need-same-length-3
 same-length-3 c = search needs
 
 returns-2 : tie.Need-returns-2
-returns-2 c =
-    let a = c .before .before .before .before .before .before .before .before .before .before .before .before .before .before .before .before .before .args in
-    let l = a .listing .now in
-    let s = a .table .now in
-    let f = rmdirChecks (tableIn s (a .rec)) (treeIn l) in
-    let j = c .before .before .before .before .before .before .before .before .before .before .before .judge-rmdir in
-    let x = c .before .before .before .before .before .insert in
-    let y = c .answered in
-    call-inserted l s (a .rec) (a .work .now) (a .path .now) f (a .limit) (rmdir (a .path .now)) refl refl (j .result) (j .ensures) (c .before .before .before .before .before .before .before .before .before .enum-told .given .1)
-    (x .result) (x .ensures .0) (x .last .0) (x .last .1 .0) (x .ensures .1 .0) (x .ensures .1 .1) (y .result) (y .ensures)
+returns-2 c = search needs
 
 pub rmdir-spec : {M : Type 1} → statement M
 rmdir-spec =
     tie.close
     (tie.spec
-    judge-rmdir-requires
-    enum-known-judged
+    admitted-requires
+    enum-known-admitted
     same-length
     returns
     enum-told
-    slice-aggregate-empty
-    insert-requires
-    answered-requires
+    rmdir-admitted-requires
     same-length-2
     same-length-3
     returns-2)

@@ -1,19 +1,16 @@
--- `unlink` meets its contract: refused by its checks, or as the insertion of a deleted entry answers.
-use mathlib.Core.Path.{refl}
+-- `unlink` meets its contract: refused by 1 or 2, or as `unlink_admitted` answers.
 use borrow.Author.Needs.{needs}
-use Rattle.model.specs.Listing.{treeIn}
-use Rattle.model.specs.Table.{tableIn}
-use Rattle.model.specs.Checks.{unlinkChecks}
 use Rattle.model.specs.Calls.{unlink}
-use Rattle.call_one_path.proofs.Changes.{unlink-root, may, call-refused, call-inserted}
+use Rattle.call_answer.specs.Meets.{requested, stored}
+use Rattle.call_answer.proofs.Admits.{not-admitted, admitted-given}
 use Rattle.call_one_path.proofs.unlink.Statement.{statement}
 use Rattle.call_one_path.proofs.unlink.Tie as tie
 
-judge-unlink-requires : tie.Need-judge-unlink-requires
-judge-unlink-requires c κs = search needs
+admitted-requires : tie.Need-admitted-requires
+admitted-requires c κs = search needs
 
-enum-known-judged : tie.Need-enum-known-judged
-enum-known-judged c = search needs
+enum-known-admitted : tie.Need-enum-known-admitted
+enum-known-admitted c = search needs
 
 same-length : tie.Need-same-length
 same-length c = search needs
@@ -21,30 +18,17 @@ same-length c = search needs
 returns : tie.Need-returns
 returns c =
     let a = c .before .before .before .before .before .before .before .before .before .args in
-    let l = a .listing .now in
-    let s = a .table .now in
-    let f = unlinkChecks (tableIn s (a .rec)) (treeIn l) in
-    let j = c .before .before .before .judge-unlink in
-    call-refused l s (a .rec) (a .work .now) (a .path .now) f (a .limit) (unlink (a .path .now)) refl refl (j .result) (j .ensures) _ (c .before .judged .given .1)
+    let j = c .before .before .before .admitted in
+    not-admitted (a .listing .now) (requested (unlink (a .path .now)) (a .limit) (a .work .now)) (stored (a .table .now) (a .rec)) (j .result) (j .ensures) _ (c .before .admitted2 .given .1)
 
 enum-told : tie.Need-enum-told
 enum-told c = search needs
 
-slice-aggregate-none : tie.Need-slice-aggregate-none
-slice-aggregate-none c = search needs
-
-insert-requires : tie.Need-insert-requires
-insert-requires c κs =
-    let a = c .before .before .before .before .before .before .before .before .before .before .before .args in
-    let l = a .listing .now in
-    let s = a .table .now in
-    let f = unlinkChecks (tableIn s (a .rec)) (treeIn l) in
-    let j = c .before .before .before .before .before .judge-unlink in
-    let m = may l s (a .rec) (a .work .now) (a .path .now) f (j .result) (j .ensures) (c .before .before .before .enum-told .given .1) (unlink-root s (a .rec) (treeIn l)) in
-    (m .0, ((m .1, m .2), (record { type = refl; time = refl; long = refl; content = refl }, m .3)))
-
-answered-requires : tie.Need-answered-requires
-answered-requires c κs = search needs
+unlink-admitted-requires : tie.Need-unlink-admitted-requires
+unlink-admitted-requires c κs =
+    let a = c .before .before .before .before .before .before .before .before .before .before .args in
+    let j = c .before .before .before .before .admitted in
+    admitted-given (a .listing .now) (requested (unlink (a .path .now)) (a .limit) (a .work .now)) (stored (a .table .now) (a .rec)) (j .result) (j .ensures) (c .before .before .enum-told .given .1)
 
 same-length-2 : tie.Need-same-length-2
 same-length-2 c = search needs
@@ -53,29 +37,18 @@ same-length-3 : tie.Need-same-length-3
 same-length-3 c = search needs
 
 returns-2 : tie.Need-returns-2
-returns-2 c =
-    let a = c .before .before .before .before .before .before .before .before .before .before .before .before .before .before .before .before .before .args in
-    let l = a .listing .now in
-    let s = a .table .now in
-    let f = unlinkChecks (tableIn s (a .rec)) (treeIn l) in
-    let j = c .before .before .before .before .before .before .before .before .before .before .before .judge-unlink in
-    let x = c .before .before .before .before .before .insert in
-    let y = c .answered in
-    call-inserted l s (a .rec) (a .work .now) (a .path .now) f (a .limit) (unlink (a .path .now)) refl refl (j .result) (j .ensures) (c .before .before .before .before .before .before .before .before .before .enum-told .given .1)
-    (x .result) (x .ensures .0) (x .last .0) (x .last .1 .0) (x .ensures .1 .0) (x .ensures .1 .1) (y .result) (y .ensures)
+returns-2 c = search needs
 
 pub unlink-spec : {M : Type 1} → statement M
 unlink-spec =
     tie.close
     (tie.spec
-    judge-unlink-requires
-    enum-known-judged
+    admitted-requires
+    enum-known-admitted
     same-length
     returns
     enum-told
-    slice-aggregate-none
-    insert-requires
-    answered-requires
+    unlink-admitted-requires
     same-length-2
     same-length-3
     returns-2)

@@ -1,20 +1,16 @@
--- `write_bytes` meets its contract: refused by its checks, or as the insertion of its file answers.
-use mathlib.Core.Path.{refl}
+-- `write_bytes` meets its contract: refused by 1 or 2, or as `write_bytes_admitted` answers.
 use borrow.Author.Needs.{needs}
-use Rattle.model.specs.Tree.{shown}
-use Rattle.model.specs.Listing.{treeIn}
-use Rattle.model.specs.Table.{tableIn}
-use Rattle.model.specs.Checks.{writeChecks}
 use Rattle.model.specs.Calls.{write}
-use Rattle.call_one_path.proofs.Changes.{write-root, may, call-refused, call-inserted}
+use Rattle.call_answer.specs.Meets.{requested, stored}
+use Rattle.call_answer.proofs.Admits.{not-admitted, admitted-given}
 use Rattle.call_one_path.proofs.write_bytes.Statement.{statement}
 use Rattle.call_one_path.proofs.write_bytes.Tie as tie
 
-judge-write-requires : tie.Need-judge-write-requires
-judge-write-requires c κs = search needs
+admitted-requires : tie.Need-admitted-requires
+admitted-requires c κs = search needs
 
-enum-known-judged : tie.Need-enum-known-judged
-enum-known-judged c = search needs
+enum-known-admitted : tie.Need-enum-known-admitted
+enum-known-admitted c = search needs
 
 same-length : tie.Need-same-length
 same-length c = search needs
@@ -22,27 +18,17 @@ same-length c = search needs
 returns : tie.Need-returns
 returns c =
     let a = c .before .before .before .before .before .before .before .before .before .before .args in
-    let l = a .listing .now in
-    let s = a .table .now in
-    let f = writeChecks (shown (tableIn s (a .rec)) (treeIn l)) in
-    let j = c .before .before .before .judge-write in
-    call-refused l s (a .rec) (a .work .now) (a .path .now) f (a .limit) (write (a .path .now) (a .mtime) (a .«data» .now)) refl refl (j .result) (j .ensures) _ (c .before .judged .given .1)
+    let j = c .before .before .before .admitted in
+    not-admitted (a .listing .now) (requested (write (a .path .now) (a .mtime) (a .«data» .now)) (a .limit) (a .work .now)) (stored (a .table .now) (a .rec)) (j .result) (j .ensures) _ (c .before .admitted2 .given .1)
 
 enum-told : tie.Need-enum-told
 enum-told c = search needs
 
-insert-requires : tie.Need-insert-requires
-insert-requires c κs =
+write-bytes-admitted-requires : tie.Need-write-bytes-admitted-requires
+write-bytes-admitted-requires c κs =
     let a = c .before .before .before .before .before .before .before .before .before .before .before .args in
-    let l = a .listing .now in
-    let s = a .table .now in
-    let f = writeChecks (shown (tableIn s (a .rec)) (treeIn l)) in
-    let j = c .before .before .before .before .judge-write in
-    let m = may l s (a .rec) (a .work .now) (a .path .now) f (j .result) (j .ensures) (c .before .before .enum-told .given .1) (λ e. write-root (tableIn s (a .rec)) (treeIn l)) in
-    (m .0, ((m .1, m .2), (record { type = refl; time = refl; long = refl; content = refl }, m .3)))
-
-answered-requires : tie.Need-answered-requires
-answered-requires c κs = search needs
+    let j = c .before .before .before .before .admitted in
+    admitted-given (a .listing .now) (requested (write (a .path .now) (a .mtime) (a .«data» .now)) (a .limit) (a .work .now)) (stored (a .table .now) (a .rec)) (j .result) (j .ensures) (c .before .before .enum-told .given .1)
 
 same-length-2 : tie.Need-same-length-2
 same-length-2 c = search needs
@@ -51,28 +37,18 @@ same-length-3 : tie.Need-same-length-3
 same-length-3 c = search needs
 
 returns-2 : tie.Need-returns-2
-returns-2 c =
-    let a = c .before .before .before .before .before .before .before .before .before .before .before .before .before .before .before .before .before .args in
-    let l = a .listing .now in
-    let s = a .table .now in
-    let f = writeChecks (shown (tableIn s (a .rec)) (treeIn l)) in
-    let j = c .before .before .before .before .before .before .before .before .before .before .judge-write in
-    let x = c .before .before .before .before .before .insert in
-    let y = c .answered in
-    call-inserted l s (a .rec) (a .work .now) (a .path .now) f (a .limit) (write (a .path .now) (a .mtime) (a .«data» .now)) refl refl (j .result) (j .ensures) (c .before .before .before .before .before .before .before .before .enum-told .given .1)
-    (x .result) (x .ensures .0) (x .last .0) (x .last .1 .0) (x .ensures .1 .0) (x .ensures .1 .1) (y .result) (y .ensures)
+returns-2 c = search needs
 
 pub write-bytes-spec : {M : Type 1} → statement M
 write-bytes-spec =
     tie.close
     (tie.spec
-    judge-write-requires
-    enum-known-judged
+    admitted-requires
+    enum-known-admitted
     same-length
     returns
     enum-told
-    insert-requires
-    answered-requires
+    write-bytes-admitted-requires
     same-length-2
     same-length-3
     returns-2)

@@ -1,74 +1,20 @@
--- `unlink_checks` meets its contract: what its path's entry says decides, and without one the parents and what is listed.
-use mathlib.Core.Path.{refl}
+-- `unlink_checks` meets its contract: the checks by the path's entry are those of unlink.
 use borrow.Author.Needs.{needs}
-use Rattle.check_one_path.proofs.Asked.{unlink-by}
+use Rattle.model.specs.Listing.{treeIn}
+use Rattle.model.specs.Table.{tableIn}
+use Rattle.check_judged.specs.Judged.{checkOf}
+use Rattle.check_one_path.proofs.Asked.{unlink-entry}
 use Rattle.check_one_path.proofs.unlink_checks.Statement.{statement}
 use Rattle.check_one_path.proofs.unlink_checks.Tie as tie
 
-get-requires : tie.Need-get-requires
-get-requires c κs = search needs
-
-enum-known-entry : tie.Need-enum-known-entry
-enum-known-entry c = search needs
+entry-checks-requires : tie.Need-entry-checks-requires
+entry-checks-requires c κs = search needs
 
 returns : tie.Need-returns
 returns c =
-    let a = c .before .before .before .before .before .before .before .args in
-    let g = c .before .before .before .get in
-    unlink-by (a .listing .now) (a .table .now) (a .rec) (a .path .now) (g .result) _ (g .ensures) (c .before .entry .given .1) _ refl
-
-enum-known-entry-2 : tie.Need-enum-known-entry-2
-enum-known-entry-2 c = search needs
-
-returns-2 : tie.Need-returns-2
-returns-2 c =
-    let a = c .before .before .before .before .before .before .before .args in
-    let g = c .before .before .before .get in
-    unlink-by (a .listing .now) (a .table .now) (a .rec) (a .path .now) (g .result) _ (g .ensures) (c .before .entry2 .given .1) _ refl
-
-enum-known-entry-3 : tie.Need-enum-known-entry-3
-enum-known-entry-3 c = search needs
-
-returns-3 : tie.Need-returns-3
-returns-3 c =
-    let a = c .before .before .before .before .before .before .before .args in
-    let g = c .before .before .before .get in
-    unlink-by (a .listing .now) (a .table .now) (a .rec) (a .path .now) (g .result) _ (g .ensures) (c .before .entry3 .given .1) _ refl
-
-enum-told : tie.Need-enum-told
-enum-told c = search needs
-
-returns-4 : tie.Need-returns-4
-returns-4 c =
-    let a = c .before .before .before .before .before .before .args in
-    let g = c .before .before .get in
-    unlink-by (a .listing .now) (a .table .now) (a .rec) (a .path .now) (g .result) _ (g .ensures) (c .enum-told .given .1) _ refl
-
-enum-told-2 : tie.Need-enum-told-2
-enum-told-2 c = search needs
-
-unlink-listed-requires : tie.Need-unlink-listed-requires
-unlink-listed-requires c κs = search needs
-
-returns-5 : tie.Need-returns-5
-returns-5 c =
-    let a = c .before .before .before .before .before .before .before .args in
-    let g = c .before .before .before .get in
-    unlink-by (a .listing .now) (a .table .now) (a .rec) (a .path .now) (g .result) _ (g .ensures) (c .before .enum-told2 .given .1) _ (c .unlink-listed .ensures)
+    let a = c .before .before .before .before .args in
+    let x = c .entry-checks in
+    unlink-entry (tableIn (a .table .now) (a .rec)) (treeIn (a .listing .now)) (a .path .now) (checkOf (x .result)) (x .ensures)
 
 pub unlink-checks-spec : {M : Type 1} → statement M
-unlink-checks-spec =
-    tie.close
-    (tie.spec
-    get-requires
-    enum-known-entry
-    returns
-    enum-known-entry-2
-    returns-2
-    enum-known-entry-3
-    returns-3
-    enum-told
-    returns-4
-    enum-told-2
-    unlink-listed-requires
-    returns-5)
+unlink-checks-spec = tie.close (tie.spec entry-checks-requires returns)
