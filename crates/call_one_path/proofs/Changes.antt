@@ -1,19 +1,19 @@
--- The calls that change one entry: their checks from 3 to 10, the root that none of them passes, and what is left for their end.
-use mathlib.Core.Path.{_≡_, refl, sym, ap, _∙_}
+-- The calls that change one entry: their checks from 3 to 10, the root that none of them passes, and then the insertion.
+use mathlib.Core.Path.{_≡_, refl, sym, ap, subst, _∙_}
 use mathlib.Core.Bool.{Bool, true, false, cond}
 use mathlib.Core.List.{[], _∷_}
 use mathlib.Core.Option.{Option, none}
-use Prim.Native.Nat.{ℕ, _≤_}
+use Prim.Native.Nat.{ℕ, zero, suc, _≤_}
 use lib.ListN.{length, replicate}
 use Rattle.model.specs.Bytes.{Bytes, before}
 use Rattle.model.specs.Path.{Path, isPath}
 use Rattle.model.specs.Map.{put, lookup}
-use Rattle.model.specs.Tree.{Entry, Table, kind}
+use Rattle.model.specs.Tree.{Entry, Table, Tree, kind}
 use Rattle.model.specs.Listing.{treeIn}
-use Rattle.model.specs.Table.{encode, padded, tableIn}
-use Rattle.model.specs.Checks.{Check, pass, refuse, _then_, unless, form, limited, charged, parentChecks, unlinkAt, unlinkEntry}
-use Rattle.model.specs.Calls.{Call, changed, forms, rules, valueOf}
-use Rattle.model.specs.Outcome.{Store, Given, shownIn, Request, room, outcome}
+use Rattle.model.specs.Table.{encode, padded, entryOf, tableIn}
+use Rattle.model.specs.Checks.{Check, pass, refuse, _then_, unless, form, Memory, limited, unlimited, charged, parentChecks, unlinkAt, unlinkEntry}
+use Rattle.model.specs.Calls.{changed, forms, rules, valueOf}
+use Rattle.model.specs.Outcome.{Given, shownIn, Request, room, verdict, outcome}
 use Rattle.model.specs.declared.Record.{Record}
 use Rattle.model.specs.declared.Refusal.{Refusal}
 use Rattle.model.specs.declared.Answered.{Answered}
@@ -32,14 +32,10 @@ use Rattle.check_judged.proofs.Thens.{ends, goes-on}
 use Rattle.check_one_path.specs.Change.{changeChecks}
 use Rattle.check_one_path.specs.declared.Change.{Change}
 use Rattle.check_one_path.specs.declared.Change.the-variants as change
-use Rattle.call_answer.specs.Meets.{requested, stored, Meets, answeredOf}
+use Rattle.call_answer.specs.Meets.{requested, stored, last, Meets, answeredOf}
 use Rattle.call_answer.proofs.Settles.{refused-meets, inserted-meets}
 use Rattle.call_answer.proofs.Admits.{given-verdict}
-use Rattle.call_one_path.specs.Puts.{Puts}
-
--- an own file's fields
-pub own-written : (m : ℕ) (d : Bytes) → Written 1 m 0 d
-own-written m d = record { type = refl; time = refl; long = refl; content = refl }
+use Rattle.call_one_path.specs.Called.{callOf, brings, kindPut}
 
 -- a form that did not refuse
 formed : (b : Bool) → refuses (cond b pass (refuse 3 0 0)) ≡ false → b ≡ true
@@ -95,44 +91,59 @@ module _ (l s : Bytes) (r : Record) (p : Path) (x : Change) where
         let k = goes-on (form 0 p) j b e i (changeChecks x (tableIn s r) (treeIn l) p) c h f in
         (k, may g c k)
 
-  -- c is what they gave, and the call puts v and answers n
-  pub puts-so : Given l s r → (w : Bytes) → length s ≤ length w → (limit : ℕ) (call : Call) (c : Check) → c ≡ judged → forms call ≡ form 0 p
-      → rules (limited (r .«entry_size») limit) (tableIn s r) (treeIn l) call
-      ≡ (changeChecks x (tableIn s r) (treeIn l) p then charged (limited (r .«entry_size») limit) (changed (tableIn s r) (treeIn l) call))
-      → (v : Entry) → changed (tableIn s r) (treeIn l) call ≡ put p v (tableIn s r) → (n : ℕ) → valueOf call ≡ n
-      → Puts c p v n l (requested call limit w) (stored s r)
-  puts-so g w h limit call c e f k v t n a =
-      let q = requested call limit w in
-      let m = limited (r .«entry_size») limit in
-      let d = changeChecks x (tableIn s r) (treeIn l) p in
-      let o = unless 13 (room l q (stored s r)) in
-      record {
-        checks = given-verdict l q (stored s r) g h
-            ∙ ap (λ (y : Check). y then rules m (tableIn s r) (treeIn l) call then o) f
-            ∙ ap (λ (y : Check). form 0 p then y then o) k
-            ∙ regroup (form 0 p) d (charged m (changed (tableIn s r) (treeIn l) call)) o
-            ∙ ap (λ (y : Check). y then (charged m (changed (tableIn s r) (treeIn l) call) then o)) (sym e);
-        table = t;
-        value = a;
-      }
-    where
-      regroup : (a b c d : Check) → (a then (b then c) then d) ≡ ((a then b) then (c then d))
-      regroup pass pass c d = refl
-      regroup pass (refuse n w k) c d = refl
-      regroup (refuse n w k) b c d = refl
+-- what such a call brings are an entry's fields, and the data's length is what it answers
+brought : (x : Change) (p : Path) (m : ℕ) (d : Bytes) → brings x m d ≡ true → Written (kindPut x) m 0 d × (length d ≡ valueOf (callOf x p m d))
+brought change.Write p m d h = (record { type = refl; time = refl; long = refl; content = refl }, refl)
+brought change.Unlink p zero [] h = (record { type = refl; time = refl; long = refl; content = refl }, refl)
+brought change.Unlink p zero (b ∷ d) h = absurd (bot (cc))
+brought change.Unlink p (suc m) d h = absurd (bot (cc))
+brought change.Rmdir p zero [] h = (record { type = refl; time = refl; long = refl; content = refl }, refl)
+brought change.Rmdir p zero (b ∷ d) h = absurd (bot (cc))
+brought change.Rmdir p (suc m) d h = absurd (bot (cc))
 
--- the end of such a call: its checks gave j
-module _ (j : Judged) (s : Bytes) (r : Record) (w : Bytes) (p : Path) (v : Entry) (n limit : ℕ) where
-  pub put-refused : (x : Refusal) → j ≡ judge.Refused x → (l : Bytes) (call : Call) → Puts (checkOf j) p v n l (requested call limit w) (stored s r)
-      → Meets (outcome l (requested call limit w) (stored s r)) (record { answer = Refused x; «record» = r }) s w
-  put-refused x h l call m = refused-meets l (requested call limit w) (stored s r) (checkOf j) (m .checks) x (sym (ap checkOf h))
+-- its checks, and the entry that it puts
+called : (x : Change) (p : Path) (m : ℕ) (d : Bytes) (o : Memory) (t : Table) (l : Tree)
+    → (forms (callOf x p m d) ≡ form 0 p) × (rules o t l (callOf x p m d) ≡ (changeChecks x t l p then charged o (changed t l (callOf x p m d))))
+    × (put p (entryOf (kindPut x) m 0 d) t ≡ changed t l (callOf x p m d))
+called change.Write p m d o t l = (refl, refl, refl)
+called change.Unlink p m d o t l = (refl, refl, refl)
+called change.Rmdir p m d o t l = (refl, refl, refl)
 
-  -- the insertion answered i and left t and u
-  pub put-inserted : j ≡ judge.Pass → (i : Inserted) → i ≡ insertion (r .«entry_size») limit (length s) (put p v (tableIn s r)) → (t u : Bytes)
-      → t ≡ ifDone i (padded (length s) (encode (put p v (tableIn s r)))) s → u ≡ ifDone i (replicate (length w) 0) w
-      → (a : Answered) → a ≡ answeredOf i r n → (l : Bytes) (call : Call) → Puts (checkOf j) p v n l (requested call limit w) (stored s r)
-      → Meets (outcome l (requested call limit w) (stored s r)) a t u
-  put-inserted h i e t u f g a k l call m =
-      let z = sym (m .table) in
-      inserted-meets l (requested call limit w) (stored s r) (checkOf j) (m .checks) (sym (ap checkOf h)) i (e ∙ ap (insertion (r .«entry_size») limit (length s)) z) t u
-      (f ∙ ap (λ (y : Table). ifDone i (padded (length s) (encode y)) s) z) g a (k ∙ ap (answeredOf i r) (sym (m .value)))
+regroup : (a b c d : Check) → (a then (b then c) then d) ≡ ((a then b) then (c then d))
+regroup pass pass c d = refl
+regroup pass (refuse n w k) c d = refl
+regroup (refuse n w k) b c d = refl
+
+-- such a call behind 1 and 2, with the work buffer w; its checks from 3 to 10 gave j
+module _ (l s : Bytes) (r : Record) (w : Bytes) (p : Path) (x : Change) (m : ℕ) (d : Bytes) (limit : ℕ) (g : Given l s r) (h : length s ≤ length w)
+    (j : Judged) (e : checkOf j ≡ judged l s r p x) where
+  abbrev q : Request
+  q = requested (callOf x p m d) limit w
+
+  grouped : verdict l q (stored s r) ≡ (judged l s r p x then last l q (stored s r))
+  grouped =
+      let o = limited (r .«entry_size») limit in
+      let t = tableIn s r in
+      let n = unless 13 (room l q (stored s r)) in
+      let k = called x p m d o t (treeIn l) in
+      given-verdict l q (stored s r) g h
+      ∙ ap (λ (y : Check). y then rules o t (treeIn l) (callOf x p m d) then n) (k .0)
+      ∙ ap (λ (y : Check). form 0 p then y then n) (k .1)
+      ∙ regroup (form 0 p) (changeChecks x t (treeIn l) p) (charged o (changed t (treeIn l) (callOf x p m d))) n
+
+  pub call-refused : (y : Refusal) → j ≡ judge.Refused y → Meets (outcome l q (stored s r)) (record { answer = Refused y; «record» = r }) s w
+  call-refused y u = refused-meets l q (stored s r) (judged l s r p x) grouped y (sym (ap checkOf u) ∙ e)
+
+  module _ (b : brings x m d ≡ true) (k : ℕ) (f : k ≡ kindPut x) where
+    pub call-fields : Written k m 0 d
+    call-fields = subst (λ (y : ℕ). Written y m 0 d) (sym f) (brought x p m d b .0)
+
+    -- the insertion answered i and left t and v
+    pub call-inserted : j ≡ judge.Pass → (i : Inserted) → i ≡ insertion (r .«entry_size») limit (length s) (put p (entryOf k m 0 d) (tableIn s r)) → (t v : Bytes)
+        → t ≡ ifDone i (padded (length s) (encode (put p (entryOf k m 0 d) (tableIn s r)))) s → v ≡ ifDone i (replicate (length w) 0) w
+        → (a : Answered) → a ≡ answeredOf i r (length d) → Meets (outcome l q (stored s r)) a t v
+    call-inserted u i y t v z n a o =
+        let c : put p (entryOf k m 0 d) (tableIn s r) ≡ changed (tableIn s r) (treeIn l) (callOf x p m d) =
+        ap (λ (c : ℕ). put p (entryOf c m 0 d) (tableIn s r)) f ∙ called x p m d unlimited (tableIn s r) (treeIn l) .2 in
+        inserted-meets l q (stored s r) (judged l s r p x) grouped (sym (ap checkOf u) ∙ e) i (y ∙ ap (insertion (r .«entry_size») limit (length s)) c) t v
+        (z ∙ ap (λ (y : Table). ifDone i (padded (length s) (encode y)) s) c) n a (o ∙ ap (answeredOf i r) (brought x p m d b .1))

@@ -1,24 +1,23 @@
 // The calls of document 01 that change one entry: write_bytes, unlink and rmdir of overlay.rs. Any bytes can be given
-// as listing, table, work buffer, path and data, and any numbers as record, mtime and limit. Those that are named
-// *_admitted do the same, but assume a listing and a table that were checked, and a work buffer that is not shorter than
-// the table: 1 and 2 are not asked again. A refused call leaves all as it was; an accepted one leaves the work buffer all
-// 0. Each is a constant number of passes over what it is lent.
+// as listing, table, work buffer, path and data, and any numbers as record, mtime and limit. Each has an inner form, with
+// the name *_admitted, that assumes a listing and a table that were checked and a work buffer that is not shorter than
+// the table: for these 1 and 2 are not asked again. A refused call leaves all as it was; an accepted one leaves the work
+// buffer all 0. Each is a constant number of passes over what it is lent.
 ghost use mathlib.Core.Path.{_≡_};
 ghost use mathlib.Core.Bool.{true};
 ghost use mathlib.Core.List.{[]};
 ghost use Prim.Native.Nat.{_≤_};
 ghost use lib.ListN.{length};
-ghost use Rattle.model.specs.Bytes.{Bytes, before};
+ghost use Rattle.model.specs.Bytes.{before};
 ghost use Rattle.model.specs.Listing.{treeIn};
-ghost use Rattle.model.specs.Table.{entryOf, tableIn, isTable};
+ghost use Rattle.model.specs.Table.{tableIn};
 ghost use Rattle.model.specs.Checks.{pass, _then_, form};
 ghost use Rattle.model.specs.Calls as calls;
 ghost use Rattle.model.specs.Outcome.{Given, outcome};
-ghost use Rattle.table_write.specs.Merge.{Written};
 ghost use Rattle.check_judged.specs.Judged.{checkOf};
 ghost use Rattle.check_one_path.specs.Change.{changeChecks};
 ghost use Rattle.call_answer.specs.Meets.{requested, stored, Meets};
-ghost use Rattle.call_one_path.specs.Puts.{Puts};
+ghost use Rattle.call_one_path.specs.Called.{callOf, brings, kindPut};
 use check_judged::Judged;
 use check_one_path::Change;
 use model::Answer;
@@ -26,6 +25,7 @@ use model::Answered;
 use model::DELETED;
 use model::OWN_FILE;
 use model::Record;
+use table_insert::insert;
 
 // 3 to 10. A path that passes is neither the root nor too long for a key.
 fn judge(change: Change, listing: &[u8], table: &[u8], rec: Record, path: &[u8]) -> Judged
@@ -52,27 +52,44 @@ fn judge(change: Change, listing: &[u8], table: &[u8], rec: Record, path: &[u8])
     }
 }
 
-// The end of each of these calls: it hands on what the checks up to 10 refused with, or puts the entry, and answers the
-// data's length.
-fn put_judged(
-    judged: Judged,
+// The kind of the entry that the call puts: unlink and rmdir leave a deleted one.
+fn kind_put(change: Change) -> u64
+    ensures { λ r. ⌜ r ≡ kindPut change ⌝ }
+{
+    match change {
+        Change::Write => {
+            return OWN_FILE;
+        }
+        Change::Unlink => {
+            return DELETED;
+        }
+        Change::Rmdir => {
+            return DELETED;
+        }
+    }
+}
+
+// The call behind 1 and 2: refused by 3 to 10, or answered as the insertion of its entry is. Only a write brings an mtime
+// and data, and the data's length is what it answers.
+fn change_admitted(
+    change: Change,
+    listing: &[u8],
     table: &mut [u8],
     rec: Record,
     work: &mut [u8],
     path: &[u8],
-    kind: u64,
     mtime: u64,
     data: &[u8],
     limit: u64,
 ) -> Answered
-    requires { ⌜ (isTable (now table) rec ≡ true) × (length (now table) ≤ length (now work)) ⌝ }
-    requires { ⌜ Written kind mtime 0 (now «data») ⌝ }
-    requires { ⌜ (checkOf judged ≡ pass → (before [] (now path) ≡ true) × (length (now path) ≤ 512)) ⌝ }
-    ensures { λ r. ⌜ ((listing : Bytes) (call : calls.Call) → Puts (checkOf judged) (now (path .entry))
-        (entryOf kind mtime 0 (now («data» .entry))) (length (now («data» .entry))) listing (requested call limit
-        (now (work .entry))) (stored (now (table .entry)) rec) → Meets (outcome listing (requested call limit
-        (now (work .entry))) (stored (now (table .entry)) rec)) r (now (table .exit)) (now (work .exit))) ⌝ }
+    requires { ⌜ Given (now listing) (now table) rec ⌝ }
+    requires { ⌜ length (now table) ≤ length (now work) ⌝ }
+    requires { ⌜ brings change mtime (now «data») ≡ true ⌝ }
+    ensures { λ r. ⌜ Meets (outcome (now (listing .entry)) (requested (callOf change (now (path .entry)) mtime
+        (now («data» .entry))) limit (now (work .entry))) (stored (now (table .entry)) rec)) r (now (table .exit))
+        (now (work .exit)) ⌝ }
 {
+    let judged = judge(change, listing, table, rec, path);
     match judged {
         Judged::Refused(refusal) => {
             return Answered {
@@ -81,18 +98,40 @@ fn put_judged(
             };
         }
         Judged::Pass => {
-            let inserted = table_insert::insert(
-                table,
-                work,
-                rec,
-                path,
-                kind,
-                mtime,
-                0,
-                data,
-                limit,
-            );
+            let kind = kind_put(change);
+            let inserted = insert(table, work, rec, path, kind, mtime, 0, data, limit);
             return call_answer::answered(inserted, rec, data.len() as u64);
+        }
+    }
+}
+
+// The call with any bytes: 1 and 2, and all else behind them.
+fn change_any(
+    change: Change,
+    listing: &[u8],
+    table: &mut [u8],
+    rec: Record,
+    work: &mut [u8],
+    path: &[u8],
+    mtime: u64,
+    data: &[u8],
+    limit: u64,
+) -> Answered
+    requires { ⌜ brings change mtime (now «data») ≡ true ⌝ }
+    ensures { λ r. ⌜ Meets (outcome (now (listing .entry)) (requested (callOf change (now (path .entry)) mtime
+        (now («data» .entry))) limit (now (work .entry))) (stored (now (table .entry)) rec)) r (now (table .exit))
+        (now (work .exit)) ⌝ }
+{
+    let admitted = check_lent::admitted(listing, table, rec, work.len());
+    match admitted {
+        Judged::Refused(refusal) => {
+            return Answered {
+                answer: Answer::Refused(refusal),
+                record: rec,
+            };
+        }
+        Judged::Pass => {
+            return change_admitted(change, listing, table, rec, work, path, mtime, data, limit);
         }
     }
 }
@@ -112,18 +151,8 @@ pub fn write_bytes(
         (now («data» .entry))) limit (now (work .entry))) (stored (now (table .entry)) rec)) r (now (table .exit))
         (now (work .exit)) ⌝ }
 {
-    let admitted = check_lent::admitted(listing, table, rec, work.len());
-    match admitted {
-        Judged::Refused(refusal) => {
-            return Answered {
-                answer: Answer::Refused(refusal),
-                record: rec,
-            };
-        }
-        Judged::Pass => {
-            return write_bytes_admitted(listing, table, rec, work, path, mtime, data, limit);
-        }
-    }
+    let call = Change::Write;
+    change_any(call, listing, table, rec, work, path, mtime, data, limit)
 }
 
 // write_bytes behind 1 and 2.
@@ -143,8 +172,8 @@ pub fn write_bytes_admitted(
         (now («data» .entry))) limit (now (work .entry))) (stored (now (table .entry)) rec)) r (now (table .exit))
         (now (work .exit)) ⌝ }
 {
-    let judged = judge(Change::Write, listing, table, rec, path);
-    put_judged(judged, table, rec, work, path, OWN_FILE, mtime, data, limit)
+    let call = Change::Write;
+    change_admitted(call, listing, table, rec, work, path, mtime, data, limit)
 }
 
 // The path shows nothing from now on: its entry is a deleted one.
@@ -159,18 +188,9 @@ pub fn unlink(
     ensures { λ r. ⌜ Meets (outcome (now (listing .entry)) (requested (calls.unlink (now (path .entry))) limit
         (now (work .entry))) (stored (now (table .entry)) rec)) r (now (table .exit)) (now (work .exit)) ⌝ }
 {
-    let admitted = check_lent::admitted(listing, table, rec, work.len());
-    match admitted {
-        Judged::Refused(refusal) => {
-            return Answered {
-                answer: Answer::Refused(refusal),
-                record: rec,
-            };
-        }
-        Judged::Pass => {
-            return unlink_admitted(listing, table, rec, work, path, limit);
-        }
-    }
+    let call = Change::Unlink;
+    let none = &path[..0];
+    change_any(call, listing, table, rec, work, path, 0, none, limit)
 }
 
 // unlink behind 1 and 2.
@@ -187,9 +207,9 @@ pub fn unlink_admitted(
     ensures { λ r. ⌜ Meets (outcome (now (listing .entry)) (requested (calls.unlink (now (path .entry))) limit
         (now (work .entry))) (stored (now (table .entry)) rec)) r (now (table .exit)) (now (work .exit)) ⌝ }
 {
-    let judged = judge(Change::Unlink, listing, table, rec, path);
+    let call = Change::Unlink;
     let none = &path[..0];
-    put_judged(judged, table, rec, work, path, DELETED, 0, none, limit)
+    change_admitted(call, listing, table, rec, work, path, 0, none, limit)
 }
 
 // The same for an empty directory.
@@ -204,18 +224,9 @@ pub fn rmdir(
     ensures { λ r. ⌜ Meets (outcome (now (listing .entry)) (requested (calls.rmdir (now (path .entry))) limit
         (now (work .entry))) (stored (now (table .entry)) rec)) r (now (table .exit)) (now (work .exit)) ⌝ }
 {
-    let admitted = check_lent::admitted(listing, table, rec, work.len());
-    match admitted {
-        Judged::Refused(refusal) => {
-            return Answered {
-                answer: Answer::Refused(refusal),
-                record: rec,
-            };
-        }
-        Judged::Pass => {
-            return rmdir_admitted(listing, table, rec, work, path, limit);
-        }
-    }
+    let call = Change::Rmdir;
+    let none = &path[..0];
+    change_any(call, listing, table, rec, work, path, 0, none, limit)
 }
 
 // rmdir behind 1 and 2.
@@ -232,7 +243,7 @@ pub fn rmdir_admitted(
     ensures { λ r. ⌜ Meets (outcome (now (listing .entry)) (requested (calls.rmdir (now (path .entry))) limit
         (now (work .entry))) (stored (now (table .entry)) rec)) r (now (table .exit)) (now (work .exit)) ⌝ }
 {
-    let judged = judge(Change::Rmdir, listing, table, rec, path);
-    let empty = &path[..0];
-    put_judged(judged, table, rec, work, path, DELETED, 0, empty, limit)
+    let call = Change::Rmdir;
+    let none = &path[..0];
+    change_admitted(call, listing, table, rec, work, path, 0, none, limit)
 }
