@@ -1,8 +1,8 @@
 // mkdir of overlay.rs, with its flags parents and exist_ok. Any bytes can be given as listing, table, work buffer and
 // path, and any numbers as record, mtime and limit. mkdir_admitted is its inner form: it assumes a listing and a table
-// that were checked and a work buffer that is not shorter than the table, and does not ask 1 and 2 again. A refused call
-// leaves all as it was; an accepted one leaves the work buffer all 0. It is a constant number of passes over what it is
-// lent.
+// that were checked and a work buffer that is not shorter than the table, and 1 and 2 are not asked again. A refused
+// call leaves all as it was; an accepted one leaves the work buffer all 0. It is a constant number of passes over what
+// it is lent.
 ghost use mathlib.Core.Path.{_≡_};
 ghost use mathlib.Core.Bool.{true, cond};
 ghost use mathlib.Core.List.{[]};

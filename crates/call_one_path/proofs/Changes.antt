@@ -83,13 +83,10 @@ module _ (l s : Bytes) (r : Record) (p : Path) (x : Change) where
     pub by-form : b ≡ true → (j ≡ judged) × (j ≡ pass → (before [] p ≡ true) × (length p ≤ 512))
     by-form h = let k = ends (form 0 p) j b e i (changeChecks x (tableIn s r) (treeIn l) p) h in (k, may g j k)
 
-    -- the call is y, and its own checks gave c
-    pub by-change : b ≡ false → (y : Change) → x ≡ y → (c : Check) → c ≡ changeChecks y (tableIn s r) (treeIn l) p
+    -- the checks behind it gave c
+    pub by-checks : b ≡ false → (c : Check) → c ≡ changeChecks x (tableIn s r) (treeIn l) p
         → (c ≡ judged) × (c ≡ pass → (before [] p ≡ true) × (length p ≤ 512))
-    by-change h y u c d =
-        let f = d ∙ sym (ap (λ (z : Change). changeChecks z (tableIn s r) (treeIn l) p) u) in
-        let k = goes-on (form 0 p) j b e i (changeChecks x (tableIn s r) (treeIn l) p) c h f in
-        (k, may g c k)
+    by-checks h c d = let k = goes-on (form 0 p) j b e i (changeChecks x (tableIn s r) (treeIn l) p) c h d in (k, may g c k)
 
 -- what such a call brings are an entry's fields, and the data's length is what it answers
 brought : (x : Change) (p : Path) (m : ℕ) (d : Bytes) → brings x m d ≡ true → Written (kindPut x) m 0 d × (length d ≡ valueOf (callOf x p m d))

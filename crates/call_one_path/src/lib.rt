@@ -1,7 +1,7 @@
 // The calls of document 01 that change one entry: write_bytes, unlink and rmdir of overlay.rs. Any bytes can be given
-// as listing, table, work buffer, path and data, and any numbers as record, mtime and limit. Each has an inner form, with
-// the name *_admitted, that assumes a listing and a table that were checked and a work buffer that is not shorter than
-// the table: for these 1 and 2 are not asked again. A refused call leaves all as it was; an accepted one leaves the work
+// as listing, table, work buffer, path and data, and any numbers as record, mtime and limit. Each has an inner form,
+// named *_admitted, that assumes a listing and a table that were checked and a work buffer that is not shorter than the
+// table: for these 1 and 2 are not asked again. A refused call leaves all as it was; an accepted one leaves the work
 // buffer all 0. Each is a constant number of passes over what it is lent.
 ghost use mathlib.Core.Path.{_≡_};
 ghost use mathlib.Core.Bool.{true};
@@ -39,17 +39,7 @@ fn judge(change: Change, listing: &[u8], table: &[u8], rec: Record, path: &[u8])
     if check_judged::is_refused(form) {
         return form;
     }
-    match change {
-        Change::Write => {
-            return check_one_path::write_checks(listing, table, rec, path);
-        }
-        Change::Unlink => {
-            return check_one_path::unlink_checks(listing, table, rec, path);
-        }
-        Change::Rmdir => {
-            return check_one_path::rmdir_checks(listing, table, rec, path);
-        }
-    }
+    check_one_path::change_checks(change, listing, table, rec, path)
 }
 
 // The kind of the entry that the call puts: unlink and rmdir leave a deleted one.
@@ -69,8 +59,8 @@ fn kind_put(change: Change) -> u64
     }
 }
 
-// The call behind 1 and 2: refused by 3 to 10, or answered as the insertion of its entry is. Only a write brings an mtime
-// and data, and the data's length is what it answers.
+// The call behind 1 and 2: refused by 3 to 10, or answered as the insertion of its entry is. Only a write brings an
+// mtime and data; the data's length is what it answers.
 fn change_admitted(
     change: Change,
     listing: &[u8],

@@ -15,7 +15,7 @@ use Rattle.model.specs.declared.Record.{Record}
 use Rattle.table_entries.specs.declared.OverlayEntry.{OverlayEntry}
 use Rattle.table_entries.specs.Said.{Said, said, saidOf}
 use Rattle.table_entries.specs.Said as entry
-use Rattle.check_one_path.specs.Change.{targetAt, visibleChecks, entryOr, entryChecks}
+use Rattle.check_one_path.specs.Change.{targetAt, visibleChecks, entryOr, entryChecks, changeChecks}
 use Rattle.check_one_path.specs.declared.Change.{Change}
 use Rattle.check_one_path.specs.declared.Change.the-variants.{Unlink, Rmdir}
 
@@ -62,3 +62,7 @@ module _ (t : Table) (l : Tree) (p : Path) (z : Check) where
       each (some (reference m n d)) c = refl
       each (some (directory m)) c = refl
       each (some deleted) c = refl
+
+  -- the call x is y, whose checks the code made
+  pub as-change : (x y : Change) → x ≡ y → z ≡ changeChecks y t l p → z ≡ changeChecks x t l p
+  as-change x y e h = h ∙ sym (ap (λ (a : Change). changeChecks a t l p) e)

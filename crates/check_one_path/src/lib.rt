@@ -6,12 +6,11 @@ ghost use mathlib.Core.Bool.{true};
 ghost use Rattle.model.specs.Path.{isPath};
 ghost use Rattle.model.specs.Listing.{treeIn, isListing};
 ghost use Rattle.model.specs.Table.{tableIn, isTable};
-ghost use Rattle.model.specs.Checks.{writeAt, writeChecks, unlinkAt, unlinkChecks, rmdirAt, rmdirChecks};
-ghost use Rattle.model.specs.Checks.{noVisibleChild};
+ghost use Rattle.model.specs.Checks.{writeAt, unlinkAt, rmdirAt, rmdirChecks, noVisibleChild};
 ghost use Rattle.model.specs.Outcome.{Given, shownIn};
 ghost use Rattle.view_at.specs.Sight.{visibleKind};
 ghost use Rattle.check_judged.specs.Judged.{checkOf};
-ghost use Rattle.check_one_path.specs.Change.{targetAt, visibleChecks, entryChecks};
+ghost use Rattle.check_one_path.specs.Change.{targetAt, visibleChecks, entryChecks, changeChecks};
 use check_judged::Judged;
 use model::Record;
 use model::Refusal;
@@ -163,28 +162,8 @@ pub fn check_empty(listing: &[u8], table: &[u8], rec: Record, path: &[u8], which
     Judged::Pass
 }
 
-// write: parents; 8 on a directory; 4 on a link.
-pub fn write_checks(listing: &[u8], table: &[u8], rec: Record, path: &[u8]) -> Judged
-    requires { ⌜ Given (now listing) (now table) rec ⌝ }
-    requires { ⌜ isPath (now path) ≡ true ⌝ }
-    ensures { λ r. ⌜ checkOf r ≡ writeChecks (shownIn (now (listing .entry)) (now (table .entry)) rec)
-        (now (path .entry)) ⌝ }
-{
-    visible_checks(Change::Write, listing, table, rec, path)
-}
-
-// unlink: an own file or reference passes; a directory entry is 8; deleted is 5; else parents, then 4, 8 or 5.
-pub fn unlink_checks(listing: &[u8], table: &[u8], rec: Record, path: &[u8]) -> Judged
-    requires { ⌜ Given (now listing) (now table) rec ⌝ }
-    requires { ⌜ isPath (now path) ≡ true ⌝ }
-    ensures { λ r. ⌜ checkOf r ≡ unlinkChecks (tableIn (now (table .entry)) rec) (treeIn (now (listing .entry)))
-        (now (path .entry)) ⌝ }
-{
-    entry_checks(Change::Unlink, listing, table, rec, path)
-}
-
 // rmdir: root 4; its entry (file 7, deleted 5), else parents, link 4, 5 or 7; 9.
-pub fn rmdir_checks(listing: &[u8], table: &[u8], rec: Record, path: &[u8]) -> Judged
+fn rmdir_checks(listing: &[u8], table: &[u8], rec: Record, path: &[u8]) -> Judged
     requires { ⌜ Given (now listing) (now table) rec ⌝ }
     requires { ⌜ isPath (now path) ≡ true ⌝ }
     ensures { λ r. ⌜ checkOf r ≡ rmdirChecks (tableIn (now (table .entry)) rec) (treeIn (now (listing .entry)))
@@ -198,4 +177,31 @@ pub fn rmdir_checks(listing: &[u8], table: &[u8], rec: Record, path: &[u8]) -> J
         return entry;
     }
     check_empty(listing, table, rec, path, 0)
+}
+
+// 4 to 10. write: parents; 8 on a directory; 4 on a link. unlink: an own file or reference passes; a directory entry is
+// 8; deleted is 5; else parents, then 4, 8 or 5.
+pub fn change_checks(
+    change: Change,
+    listing: &[u8],
+    table: &[u8],
+    rec: Record,
+    path: &[u8],
+) -> Judged
+    requires { ⌜ Given (now listing) (now table) rec ⌝ }
+    requires { ⌜ isPath (now path) ≡ true ⌝ }
+    ensures { λ r. ⌜ checkOf r ≡ changeChecks change (tableIn (now (table .entry)) rec) (treeIn (now (listing .entry)))
+        (now (path .entry)) ⌝ }
+{
+    match change {
+        Change::Write => {
+            return visible_checks(Change::Write, listing, table, rec, path);
+        }
+        Change::Unlink => {
+            return entry_checks(Change::Unlink, listing, table, rec, path);
+        }
+        Change::Rmdir => {
+            return rmdir_checks(listing, table, rec, path);
+        }
+    }
 }
