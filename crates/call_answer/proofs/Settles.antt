@@ -6,10 +6,10 @@ use lib.ListN.{length, replicate}
 use Rattle.model.specs.Bytes.{Bytes}
 use Rattle.model.specs.Tree.{Table}
 use Rattle.model.specs.Table.{encode, padded, charge, recordOf}
-use Rattle.model.specs.Checks.{Check, pass, refuse, _then_, unless, limited, charged}
+use Rattle.model.specs.Checks.{Check, pass, refuse, _then_}
 use Rattle.model.specs.Calls.{valueOf}
 use Rattle.model.specs.Answer.{refused, told, toldRefusal}
-use Rattle.model.specs.Outcome.{Store, Request, Outcome, tableAfter, room, verdict, settle, outcome}
+use Rattle.model.specs.Outcome.{Store, Request, Outcome, tableAfter, verdict, settle, outcome}
 use Rattle.model.specs.declared.Answered.{Answered}
 use Rattle.model.specs.declared.Refusal.{Refusal}
 use Rattle.model.specs.declared.Refusal.the-variants as refusal
@@ -19,7 +19,7 @@ use Rattle.table_insert.specs.declared.Inserted.{Inserted}
 use Rattle.table_insert.specs.declared.Inserted.the-variants as inserted
 use Rattle.table_insert.specs.Insert.{insertion, ifDone}
 use Rattle.check_judged.specs.Judged.{asCheck}
-use Rattle.call_answer.specs.Meets.{Meets, answeredOf}
+use Rattle.call_answer.specs.Meets.{last, Meets, answeredOf}
 
 -- every refusal is told as one, with its number, path and length
 pub record Told (r : Refusal) : Type 0 where
@@ -68,16 +68,12 @@ module _ (listing : Bytes) (q : Request) (s : Store) where
   abbrev after : Table
   after = tableAfter listing q s
 
-  -- 11, then 13
-  abbrev pub last : Check
-  last = charged (limited (s .rec .«entry_size») (q .limit)) after then unless 13 (room listing q s)
-
   -- the checks before 11, which decide where they refuse
-  module _ (c : Check) (v : verdict listing q s ≡ (c then last)) where
+  module _ (c : Check) (v : verdict listing q s ≡ (c then last listing q s)) where
     pub refused-meets : (r : Refusal) → asCheck (toldRefusal r) ≡ c → Meets (outcome listing q s) (record { answer = Refused r; «record» = s .rec }) (s .table) (q .work)
-    refused-meets r e = told-so listing q s r (v ∙ ap (λ (x : Check). x then last) (sym e) ∙ stops r)
+    refused-meets r e = told-so listing q s r (v ∙ ap (λ (x : Check). x then last listing q s) (sym e) ∙ stops r)
       where
-        stops : (r : Refusal) → (asCheck (toldRefusal r) then last) ≡ asCheck (toldRefusal r)
+        stops : (r : Refusal) → (asCheck (toldRefusal r) then last listing q s) ≡ asCheck (toldRefusal r)
         stops r = let t = told-as r in rw (t .is)
 
     pub inserted-meets : pass ≡ c → (i : Inserted) → i ≡ insertion (s .rec .«entry_size») (q .limit) (length (s .table)) after → (t w : Bytes)
@@ -85,7 +81,7 @@ module _ (listing : Bytes) (q : Request) (s : Store) where
         → (a : Answered) → a ≡ answeredOf i (s .rec) (valueOf (q .call)) → Meets (outcome listing q s) a t w
     inserted-meets e i f t w g h a k =
         let E : ℕ = s .rec .«entry_size» in
-        let u : verdict listing q s ≡ last = v ∙ ap (λ (x : Check). x then last) (sym e) in
+        let u : verdict listing q s ≡ last listing q s = v ∙ ap (λ (x : Check). x then last listing q s) (sym e) in
         elim (test (leb (charge E after) (q .limit))) [
           | nay x ↦ by inserted.MemoryUsageLimitExceeded (f ∙ rw x) (refuses-so listing q s 11 0 0 (u ∙ rw x)) refl refl refl refl
           | yea x ↦ elim (test (leb (length (encode after)) (length (s .table)))) [

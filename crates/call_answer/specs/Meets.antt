@@ -2,9 +2,10 @@
 use mathlib.Core.Path.{_≡_}
 use Prim.Native.Nat.{ℕ}
 use Rattle.model.specs.Bytes.{Bytes}
+use Rattle.model.specs.Checks.{Check, _then_, unless, limited, charged}
 use Rattle.model.specs.Calls.{Call}
 use Rattle.model.specs.Answer.{told}
-use Rattle.model.specs.Outcome.{Store, Request, Outcome}
+use Rattle.model.specs.Outcome.{Store, Request, Outcome, tableAfter, room}
 use Rattle.model.specs.declared.Record.{Record}
 use Rattle.model.specs.declared.Answered.{Answered}
 use Rattle.model.specs.declared.Answer.the-variants.{Accepted, Refused}
@@ -18,6 +19,11 @@ requested c n w = record { call = c; limit = n; work = w }
 
 abbrev pub stored : Bytes → Record → Store
 stored s r = record { table = s; rec = r }
+
+-- 11, then 13
+abbrev pub last : Bytes → Request → Store → Check
+last listing q s =
+    charged (limited (s .rec .«entry_size») (q .limit)) (tableAfter listing q s) then unless 13 (room listing q s)
 
 -- answer, record, table and work buffer are those of the outcome o
 pub record Meets (o : Outcome) (r : Answered) (table work : Bytes) : Type 0 where

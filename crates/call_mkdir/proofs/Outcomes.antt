@@ -1,21 +1,20 @@
 -- From the step that mkdir takes to its outcome: refused, accepted as it stands, or as the insertion answers.
 use mathlib.Core.Path.{_≡_, refl, sym, ap, _∙_}
-use mathlib.Core.Bool.{Bool, true, _&&_}
+use mathlib.Core.Bool.{Bool, true}
 use mathlib.Core.List.{List, [], _++_}
-use Prim.Native.Nat.{ℕ, _-_}
+use Prim.Native.Nat.{ℕ, _≤_, _-_}
 use lib.Dec.{leb}
 use lib.ListN.{length, take, replicate}
 use borrow.Author.Tests.{le-leb}
 use Rattle.model.specs.Bytes.{Bytes}
-use Rattle.model.specs.Path.{Path, isPath}
+use Rattle.model.specs.Path.{Path}
 use Rattle.model.specs.Map.{puts, each}
-use Rattle.model.specs.Tree.{directory, Table, View, shown, kind}
-use Rattle.model.specs.Listing.{isListing, treeIn}
-use Rattle.model.specs.Table.{encode, padded, recordOf, isTable, tableIn}
-use Rattle.model.specs.Checks.{Check, pass, refuse, _then_, unless, form, limited, charged, mkdirAt, mkdirParents, makes}
+use Rattle.model.specs.Tree.{directory, Table, View}
+use Rattle.model.specs.Table.{encode, padded, recordOf, tableIn}
+use Rattle.model.specs.Checks.{Check, pass, _then_, unless, form, limited, charged, makes}
 use Rattle.model.specs.Calls.{mkdir}
 use Rattle.model.specs.Answer.{toldRefusal}
-use Rattle.model.specs.Outcome.{Request, Outcome, room, verdict, settle, outcome}
+use Rattle.model.specs.Outcome.{Given, shownIn, Request, Outcome, room, verdict, settle, outcome}
 use Rattle.model.specs.declared.Record.{Record}
 use Rattle.model.specs.declared.Refusal.{Refusal}
 use Rattle.model.specs.declared.Answered.{Answered}
@@ -26,22 +25,16 @@ use Rattle.table_insert.specs.declared.Inserted.{Inserted}
 use Rattle.table_insert.specs.Insert.{insertion, ifDone}
 use Rattle.check_judged.specs.Judged.{asCheck}
 use Rattle.check_judged.proofs.Checked.{refusal-refuses, refused-stops}
-use Rattle.call_answer.specs.Meets.{requested, stored, Meets, answeredOf}
-use Rattle.call_answer.proofs.Settles.{last, refused-meets, inserted-meets}
-use Rattle.check_lent.proofs.Firsts.{firsts}
-use Rattle.call_mkdir.specs.Step.{afterStep}
+use Rattle.check_judged.proofs.Thens.{then-assoc}
+use Rattle.call_answer.specs.Meets.{requested, stored, last, Meets, answeredOf}
+use Rattle.call_answer.proofs.Settles.{refused-meets, inserted-meets}
+use Rattle.call_answer.proofs.Admits.{given-verdict}
+use Rattle.call_mkdir.specs.Step.{mkdirChecks, afterStep}
 use Rattle.call_mkdir.specs.declared.Step.{Step}
 use Rattle.call_mkdir.specs.declared.Step.the-variants as step
 
--- a call's checks, with those before 13 as one
-regroup : (a b c d e : Check) → (a then b then c then d then e) ≡ (((a then b then c) then d) then e)
-regroup pass pass pass pass e = refl
-regroup pass pass pass (refuse n w k) e = refl
-regroup pass pass (refuse n w k) d e = refl
-regroup pass (refuse n w k) c d e = refl
-regroup (refuse n w k) b c d e = refl
-
-module _ (l s : Bytes) (r : Record) (w : Bytes) (p : Path) (up ok : Bool) (mtime limit : ℕ) where
+-- mkdir behind 1 and 2, with the work buffer w
+module _ (l s : Bytes) (r : Record) (w : Bytes) (p : Path) (up ok : Bool) (mtime limit : ℕ) (g : Given l s r) (h : length s ≤ length w) where
   abbrev q : Request
   q = requested (mkdir p up ok mtime) limit w
 
@@ -49,7 +42,7 @@ module _ (l s : Bytes) (r : Record) (w : Bytes) (p : Path) (up ok : Bool) (mtime
   t = tableIn s r
 
   abbrev f : View
-  f = shown t (treeIn l)
+  f = shownIn l s r
 
   abbrev made : List Path → Table
   made ks = puts (each (directory mtime) ks) t
@@ -60,34 +53,31 @@ module _ (l s : Bytes) (r : Record) (w : Bytes) (p : Path) (up ok : Bool) (mtime
   abbrev fits : Check
   fits = unless 13 (room l q (stored s r))
 
-  -- x is the step that the checks up to 8 gave
-  module _ (x : Step)
-      (e : (later : Check)
-      → (firsts (isTable s r) (leb (length s) (length w)) (isListing l) (isPath p) then mkdirAt (length p) ok (kind f p) (mkdirParents f p up then later))
-      ≡ afterStep x later) where
+  -- x is the step that 3 to 8 gave
+  module _ (x : Step) (e : (later : Check) → (form 0 p then mkdirChecks f p up ok later) ≡ afterStep x later) where
     decides : (y : Step) → x ≡ y → verdict l q (stored s r) ≡ (afterStep y charge then fits)
-    decides y h =
-        regroup (unless 1 (isTable s r && leb (length s) (length w))) (unless 2 (isListing l)) (form 0 p)
-        (mkdirAt (length p) ok (kind f p) (mkdirParents f p up then charge)) fits
-        ∙ ap (λ (c : Check). c then fits) (e charge ∙ ap (λ (z : Step). afterStep z charge) h)
+    decides y u =
+        given-verdict l q (stored s r) g h
+        ∙ sym (then-assoc (form 0 p) (mkdirChecks f p up ok charge) fits)
+        ∙ ap (λ (c : Check). c then fits) (e charge ∙ ap (λ (z : Step). afterStep z charge) u)
 
     pub step-refused : (y : Refusal) → x ≡ step.Refused y → Meets (outcome l q (stored s r)) (record { answer = Refused y; «record» = r }) s w
-    step-refused y h =
+    step-refused y u =
         let c = asCheck (toldRefusal y) in
         let v : verdict l q (stored s r) ≡ (c then last l q (stored s r)) =
-        decides (step.Refused y) h ∙ refused-stops c fits (refusal-refuses y) ∙ sym (refused-stops c (last l q (stored s r)) (refusal-refuses y)) in
+        decides (step.Refused y) u ∙ refused-stops c fits (refusal-refuses y) ∙ sym (refused-stops c (last l q (stored s r)) (refusal-refuses y)) in
         refused-meets l q (stored s r) c v y refl
 
     -- nothing is made: the table is the one that was read, and the work buffer v is zeroed
-    pub step-there : x ≡ step.There → isTable s r ≡ true → makes f p ≡ [] → (v : Bytes) → v ≡ take 0 w ++ replicate (length w - 0) 0
+    pub step-there : x ≡ step.There → makes f p ≡ [] → (v : Bytes) → v ≡ take 0 w ++ replicate (length w - 0) 0
         → Meets (outcome l q (stored s r)) (record { answer = Accepted 0; «record» = r }) s v
-    step-there h i n v z =
-        let d = decoded s r i in
+    step-there u n v z =
+        let d = decoded s r (g .is-table) in
         let a : made (makes f p) ≡ t = ap made n in
         let b : room l q (stored s r) ≡ true =
         ap (λ (y : Table). leb (length (encode y)) (length s)) a ∙ le-leb (length (encode t)) (length s) (d .fits) in
         let o : outcome l q (stored s r) ≡ settle pass l q (stored s r) =
-        ap (λ (c : Check). settle c l q (stored s r)) (decides step.There h ∙ ap (unless 13) b) in
+        ap (λ (c : Check). settle c l q (stored s r)) (decides step.There u ∙ ap (unless 13) b) in
         record {
           answer = sym (ap (λ (y : Outcome). y .reply) o);
           rec = d .rec ∙ ap (recordOf (r .«entry_size»)) (sym a) ∙ sym (ap (λ (y : Outcome). y .store .rec) o);
@@ -99,6 +89,6 @@ module _ (l s : Bytes) (r : Record) (w : Bytes) (p : Path) (up ok : Bool) (mtime
     pub step-made : x ≡ step.Make → (ks : List Path) → made ks ≡ made (makes f p) → (i : Inserted) → i ≡ insertion (r .«entry_size») limit (length s) (made ks)
         → (u v : Bytes) → u ≡ ifDone i (padded (length s) (encode (made ks))) s → v ≡ ifDone i (replicate (length w) 0) w
         → (a : Answered) → a ≡ answeredOf i r 0 → Meets (outcome l q (stored s r)) a u v
-    step-made h ks m i g u v b d a k =
-        inserted-meets l q (stored s r) pass (decides step.Make h) refl i (g ∙ ap (insertion (r .«entry_size») limit (length s)) m) u v
+    step-made z ks m i n u v b d a k =
+        inserted-meets l q (stored s r) pass (decides step.Make z) refl i (n ∙ ap (insertion (r .«entry_size») limit (length s)) m) u v
         (b ∙ ap (λ (y : Table). ifDone i (padded (length s) (encode y)) s) m) d a k

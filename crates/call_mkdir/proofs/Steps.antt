@@ -2,28 +2,21 @@
 use mathlib.Core.Path.{_≡_, refl, sym, ap, _∙_}
 use mathlib.Core.Bool.{Bool, true, false, cond}
 use mathlib.Core.List.{[], _∷_}
-use Prim.Native.Nat.{ℕ, _<_, _≤_}
+use Prim.Native.Nat.{ℕ, _<_}
 use native.Mathlib.Omega.{arith}
-use lib.Dec.{leb}
 use lib.ListN.{length}
-use borrow.Author.Tests.{leb-true}
-use Rattle.model.specs.Bytes.{Bytes}
 use Rattle.model.specs.Path.{Path, isPath, ancestors}
 use Rattle.model.specs.Tree.{View, Kind, nothing, aDirectory, aFile, aLink, kind, isNothing}
-use Rattle.model.specs.Listing.{isListing}
-use Rattle.model.specs.Table.{isTable}
-use Rattle.model.specs.Checks.{Check, pass, refuse, _then_, mkdirAt, mkdirParents, parentChecks, ancestorsIn, makes}
+use Rattle.model.specs.Checks.{Check, pass, refuse, _then_, form, mkdirAt, mkdirParents, parentChecks, ancestorsIn, makes}
 use Rattle.model.specs.Answer.{toldRefusal}
-use Rattle.model.specs.declared.Record.{Record}
 use Rattle.model.specs.declared.Refusal.{Refusal}
 use Rattle.model.proofs.Orders.{bot}
 use Rattle.view_at.specs.declared.Visible.{Visible}
 use Rattle.view_at.specs.Sight.{visibleKind}
 use Rattle.check_judged.specs.declared.Judged.{Judged}
 use Rattle.check_judged.specs.declared.Judged.the-variants as judge
-use Rattle.check_judged.specs.Judged.{asCheck, checkOf, refuses}
+use Rattle.check_judged.specs.Judged.{asCheck, checkOf}
 use Rattle.check_judged.proofs.Checked.{refusal-refuses, refused-stops}
-use Rattle.check_lent.proofs.Firsts.{firsts, known}
 use Rattle.call_mkdir.specs.Step.{afterStep}
 use Rattle.call_mkdir.specs.declared.Step.{Step}
 use Rattle.call_mkdir.specs.declared.Step.the-variants as step
@@ -119,15 +112,10 @@ never-there c x h e = stuck c (h (refuse 1 0 0) ∙ ap (λ (z : Step). afterStep
     stuck pass h = bot (cc)
     stuck (refuse n w k) h = bot (cc)
 
--- 1, 2 and 3 gave j: once they pass, all four are known and what follows decides
-module _ (listing table : Bytes) (r : Record) (n : ℕ) (path : Path) (j : Judged)
-    (e : checkOf j ≡ firsts (isTable table r) (leb (length table) n) (isListing listing) (isPath path)) (h : j ≡ judge.Pass) where
-  pub ready-known : (isTable table r ≡ true) × (length table ≤ n) × (isListing listing ≡ true) × (isPath path ≡ true)
-  ready-known =
-      let k = known listing table r n path j false e (sym (ap (λ (y : Judged). refuses (checkOf y)) h)) refl in
-      (k .0, leb-true (length table) n (k .1), k .2, k .3)
-
-  pub ready-on : (c : Check → Check) (x : Step) → ((later : Check) → c later ≡ afterStep x later) → (later : Check)
-      → (firsts (isTable table r) (leb (length table) n) (isListing listing) (isPath path) then c later) ≡ afterStep x later
-  ready-on c x a later =
-      on-passed (firsts (isTable table r) (leb (length table) n) (isListing listing) (isPath path)) j e h (c later) ∙ a later
+-- 3 gave j: once it passes, the path is one
+pub formed : (p : Path) (j : Judged) → checkOf j ≡ form 0 p → j ≡ judge.Pass → isPath p ≡ true
+formed p j e h = passed (isPath p) (sym (ap checkOf h) ∙ e)
+  where
+    passed : (b : Bool) → pass ≡ cond b pass (refuse 3 0 0) → b ≡ true
+    passed true h = refl
+    passed false h = absurd (bot (cc))

@@ -1,25 +1,25 @@
 // mkdir of overlay.rs, with its flags parents and exist_ok. Any bytes can be given as listing, table, work buffer and
-// path, and any numbers as record, mtime and limit. A refused call leaves all as it was; an accepted one leaves the
-// work buffer all 0. It is a constant number of passes over what it is lent.
+// path, and any numbers as record, mtime and limit. mkdir_admitted is its inner form: it assumes a listing and a table
+// that were checked and a work buffer that is not shorter than the table, and 1 and 2 are not asked again. A refused
+// call leaves all as it was; an accepted one leaves the work buffer all 0. It is a constant number of passes over what
+// it is lent.
 ghost use mathlib.Core.Path.{_≡_};
-ghost use mathlib.Core.Bool.{true, cond, _&&_};
+ghost use mathlib.Core.Bool.{true, cond};
 ghost use mathlib.Core.List.{[]};
 ghost use Prim.Native.Nat.{ℕ, _≤_, _<_};
-ghost use lib.Dec.{leb};
 ghost use lib.ListN.{length};
 ghost use Rattle.model.specs.Path.{isPath};
 ghost use Rattle.model.specs.Map.{puts, each};
-ghost use Rattle.model.specs.Tree.{directory, shown, kind, isNothing};
-ghost use Rattle.model.specs.Listing.{treeIn, isListing};
-ghost use Rattle.model.specs.Table.{tableIn, isTable};
-ghost use Rattle.model.specs.Checks.{Check, pass, refuse, _then_, unless, form, mkdirAt, mkdirParents, makes};
+ghost use Rattle.model.specs.Tree.{directory, kind, isNothing};
+ghost use Rattle.model.specs.Table.{tableIn};
+ghost use Rattle.model.specs.Checks.{Check, pass, refuse, _then_, form, mkdirAt, mkdirParents, makes};
 ghost use Rattle.model.specs.Calls as calls;
-ghost use Rattle.model.specs.Outcome.{outcome};
+ghost use Rattle.model.specs.Outcome.{Given, shownIn, outcome};
 ghost use Rattle.view_at.specs.Sight.{visibleKind};
 ghost use Rattle.check_judged.specs.Judged.{checkOf};
 ghost use Rattle.base_paths.specs.Dirs.{endsOf, climbs, prefixes};
 ghost use Rattle.call_answer.specs.Meets.{requested, stored, Meets};
-ghost use Rattle.call_mkdir.specs.Step.{afterStep, Makes};
+ghost use Rattle.call_mkdir.specs.Step.{mkdirChecks, afterStep, Makes};
 ghost use Rattle.call_mkdir.specs.declared.Step.the-variants as step;
 use base_paths::Dirs;
 use check_judged::Judged;
@@ -76,16 +76,15 @@ fn at_path(visible: Visible, exist_ok: bool, len: u64) -> Step
 // The parents' check, and the directories to make where the path shows nothing: with the flag the missing ancestors and
 // the path, else the path alone.
 fn to_create(listing: &[u8], table: &[u8], rec: Record, path: &[u8], parents: bool) -> ToCreate
-    requires { ⌜ isListing (now listing) ≡ true ⌝ }
-    requires { ⌜ isTable (now table) rec ≡ true ⌝ }
+    requires { ⌜ Given (now listing) (now table) rec ⌝ }
     requires { ⌜ (isPath (now path) ≡ true) × (0 < length (now path)) ⌝ }
-    ensures { λ r. ⌜ checkOf (r .judged) ≡ mkdirParents (shown (tableIn (now (table .entry)) rec)
-        (treeIn (now (listing .entry)))) (now (path .entry)) parents ⌝ }
+    ensures { λ r. ⌜ checkOf (r .judged) ≡ mkdirParents (shownIn (now (listing .entry)) (now (table .entry)) rec)
+        (now (path .entry)) parents ⌝ }
     ensures { λ r. ⌜ (r .dirs .count ≤ 32) × (climbs 0 (length (now (path .entry))) (endsOf (r .dirs)) ≡ true) ⌝ }
-    ensures { λ r. ⌜ (checkOf (r .judged) ≡ pass → isNothing (kind (shown (tableIn (now (table .entry)) rec)
-        (treeIn (now (listing .entry)))) (now (path .entry))) ≡ true → (m : ℕ)
+    ensures { λ r. ⌜ (checkOf (r .judged) ≡ pass → isNothing (kind (shownIn (now (listing .entry)) (now (table .entry))
+        rec) (now (path .entry))) ≡ true → (m : ℕ)
         → puts (each (directory m) (prefixes (now (path .entry)) (endsOf (r .dirs)))) (tableIn (now (table .entry)) rec)
-        ≡ puts (each (directory m) (makes (shown (tableIn (now (table .entry)) rec) (treeIn (now (listing .entry))))
+        ≡ puts (each (directory m) (makes (shownIn (now (listing .entry)) (now (table .entry)) rec)
         (now (path .entry)))) (tableIn (now (table .entry)) rec)) ⌝ }
 {
     if parents {
@@ -115,12 +114,11 @@ fn none() -> Dirs
 
 // Where the path shows nothing: what its parents give.
 fn make_at(listing: &[u8], table: &[u8], rec: Record, path: &[u8], parents: bool) -> Plan
-    requires { ⌜ isListing (now listing) ≡ true ⌝ }
-    requires { ⌜ isTable (now table) rec ≡ true ⌝ }
+    requires { ⌜ Given (now listing) (now table) rec ⌝ }
     requires { ⌜ isPath (now path) ≡ true ⌝ }
-    requires { ⌜ isNothing (kind (shown (tableIn (now table) rec) (treeIn (now listing))) (now path)) ≡ true ⌝ }
-    ensures { λ r. ⌜ ((later : Check) → (mkdirParents (shown (tableIn (now (table .entry)) rec)
-        (treeIn (now (listing .entry)))) (now (path .entry)) parents then later) ≡ afterStep (r .step) later) ⌝ }
+    requires { ⌜ isNothing (kind (shownIn (now listing) (now table) rec) (now path)) ≡ true ⌝ }
+    ensures { λ r. ⌜ ((later : Check) → (mkdirParents (shownIn (now (listing .entry)) (now (table .entry)) rec)
+        (now (path .entry)) parents then later) ≡ afterStep (r .step) later) ⌝ }
     ensures { λ r. ⌜ (r .step ≡ step.Make → Makes (now (listing .entry)) (now (table .entry)) rec (now (path .entry))
         (r .dirs)) ⌝ }
 {
@@ -152,17 +150,14 @@ fn judge_at(
     parents: bool,
     exist_ok: bool,
 ) -> Plan
-    requires { ⌜ isListing (now listing) ≡ true ⌝ }
-    requires { ⌜ isTable (now table) rec ≡ true ⌝ }
+    requires { ⌜ Given (now listing) (now table) rec ⌝ }
     requires { ⌜ isPath (now path) ≡ true ⌝ }
-    ensures { λ r. ⌜ ((later : Check) → mkdirAt (length (now (path .entry))) «exist_ok»
-        (kind (shown (tableIn (now (table .entry)) rec) (treeIn (now (listing .entry)))) (now (path .entry)))
-        (mkdirParents (shown (tableIn (now (table .entry)) rec) (treeIn (now (listing .entry)))) (now (path .entry))
-        parents then later) ≡ afterStep (r .step) later) ⌝ }
+    ensures { λ r. ⌜ ((later : Check) → mkdirChecks (shownIn (now (listing .entry)) (now (table .entry)) rec)
+        (now (path .entry)) parents «exist_ok» later ≡ afterStep (r .step) later) ⌝ }
     ensures { λ r. ⌜ (r .step ≡ step.Make → Makes (now (listing .entry)) (now (table .entry)) rec (now (path .entry))
         (r .dirs)) ⌝ }
-    ensures { λ r. ⌜ (r .step ≡ step.There → makes (shown (tableIn (now (table .entry)) rec)
-        (treeIn (now (listing .entry)))) (now (path .entry)) ≡ []) ⌝ }
+    ensures { λ r. ⌜ (r .step ≡ step.There → makes (shownIn (now (listing .entry)) (now (table .entry)) rec)
+        (now (path .entry)) ≡ []) ⌝ }
 {
     let visible = view_at::visible_at(listing, table, rec, path);
     let step = at_path(visible, exist_ok, path.len() as u64);
@@ -185,31 +180,25 @@ fn judge_at(
     }
 }
 
-// 1 to 8 for mkdir, for any bytes.
+// 3 to 8 for mkdir.
 fn judge_mkdir(
     listing: &[u8],
     table: &[u8],
     rec: Record,
-    room: usize,
     path: &[u8],
     parents: bool,
     exist_ok: bool,
 ) -> Plan
-    ensures { λ r. ⌜ ((later : Check) → ((unless 1 (isTable (now (table .entry)) rec
-        && leb (length (now (table .entry))) room) then unless 2 (isListing (now (listing .entry)))
-        then form 0 (now (path .entry))) then mkdirAt (length (now (path .entry))) «exist_ok»
-        (kind (shown (tableIn (now (table .entry)) rec) (treeIn (now (listing .entry)))) (now (path .entry)))
-        (mkdirParents (shown (tableIn (now (table .entry)) rec) (treeIn (now (listing .entry)))) (now (path .entry))
-        parents then later)) ≡ afterStep (r .step) later) ⌝ }
-    ensures { λ r. ⌜ (r .step ≡ step.Make → (isTable (now (table .entry)) rec ≡ true)
-        × (length (now (table .entry)) ≤ room) × (isPath (now (path .entry)) ≡ true) × Makes (now (listing .entry))
+    requires { ⌜ Given (now listing) (now table) rec ⌝ }
+    ensures { λ r. ⌜ ((later : Check) → (form 0 (now (path .entry)) then mkdirChecks (shownIn (now (listing .entry))
+        (now (table .entry)) rec) (now (path .entry)) parents «exist_ok» later) ≡ afterStep (r .step) later) ⌝ }
+    ensures { λ r. ⌜ (r .step ≡ step.Make → (isPath (now (path .entry)) ≡ true) × Makes (now (listing .entry))
         (now (table .entry)) rec (now (path .entry)) (r .dirs)) ⌝ }
-    ensures { λ r. ⌜ (r .step ≡ step.There → (isTable (now (table .entry)) rec ≡ true)
-        × (makes (shown (tableIn (now (table .entry)) rec) (treeIn (now (listing .entry)))) (now (path .entry))
-        ≡ [])) ⌝ }
+    ensures { λ r. ⌜ (r .step ≡ step.There → makes (shownIn (now (listing .entry)) (now (table .entry)) rec)
+        (now (path .entry)) ≡ []) ⌝ }
 {
-    let ready = check_lent::ready(listing, table, rec, room, path);
-    match ready {
+    let form = check_lent::check_path(path, 0);
+    match form {
         Judged::Refused(refusal) => {
             return Plan {
                 step: Step::Refused(refusal),
@@ -239,9 +228,50 @@ pub fn mkdir(
         «exist_ok» mtime) limit (now (work .entry))) (stored (now (table .entry)) rec)) r (now (table .exit))
         (now (work .exit)) ⌝ }
 {
-    let plan = judge_mkdir(listing, table, rec, work.len(), path, parents, exist_ok);
+    let admitted = check_lent::admitted(listing, table, rec, work.len());
+    match admitted {
+        Judged::Refused(refusal) => {
+            return Answered {
+                answer: Answer::Refused(refusal),
+                record: rec,
+            };
+        }
+        Judged::Pass => {
+            return mkdir_admitted(
+                listing,
+                table,
+                rec,
+                work,
+                path,
+                parents,
+                exist_ok,
+                mtime,
+                limit,
+            );
+        }
+    }
+}
+
+// mkdir behind 1 and 2.
+pub fn mkdir_admitted(
+    listing: &[u8],
+    table: &mut [u8],
+    rec: Record,
+    work: &mut [u8],
+    path: &[u8],
+    parents: bool,
+    exist_ok: bool,
+    mtime: u64,
+    limit: u64,
+) -> Answered
+    requires { ⌜ Given (now listing) (now table) rec ⌝ }
+    requires { ⌜ length (now table) ≤ length (now work) ⌝ }
+    ensures { λ r. ⌜ Meets (outcome (now (listing .entry)) (requested (calls.mkdir (now (path .entry)) parents
+        «exist_ok» mtime) limit (now (work .entry))) (stored (now (table .entry)) rec)) r (now (table .exit))
+        (now (work .exit)) ⌝ }
+{
+    let plan = judge_mkdir(listing, table, rec, path, parents, exist_ok);
     let step = plan.step;
-    let dirs = plan.dirs;
     match step {
         Step::Refused(refusal) => {
             return Answered {
@@ -257,7 +287,7 @@ pub fn mkdir(
             };
         }
         Step::Make => {
-            let inserted = table_dirs::insert_all(table, work, rec, path, dirs, mtime, limit);
+            let inserted = table_dirs::insert_all(table, work, rec, path, plan.dirs, mtime, limit);
             return call_answer::answered(inserted, rec, 0);
         }
     }

@@ -1,21 +1,19 @@
--- The calls that insert one entry, write, unlink and rmdir: their checks up to 10, the root that none of them passes, and then the insertion.
-use mathlib.Core.Path.{_≡_, refl, sym, ap, _∙_}
-use mathlib.Core.Bool.{true, false, _&&_}
+-- The calls that change one entry: their checks from 3 to 10, the root that none of them passes, and then the insertion.
+use mathlib.Core.Path.{_≡_, refl, sym, ap, subst, _∙_}
+use mathlib.Core.Bool.{Bool, true, false, cond}
 use mathlib.Core.List.{[], _∷_}
 use mathlib.Core.Option.{Option, none}
-use Prim.Native.Nat.{ℕ, _≤_}
-use lib.Dec.{leb}
+use Prim.Native.Nat.{ℕ, zero, suc, _≤_}
 use lib.ListN.{length, replicate}
-use borrow.Author.Tests.{leb-true}
 use Rattle.model.specs.Bytes.{Bytes, before}
 use Rattle.model.specs.Path.{Path, isPath}
-use Rattle.model.specs.Map.{lookup}
-use Rattle.model.specs.Tree.{Entry, Table, Tree, shown, kind}
-use Rattle.model.specs.Listing.{isListing, treeIn}
-use Rattle.model.specs.Table.{encode, padded, isTable, tableIn}
-use Rattle.model.specs.Checks.{Check, pass, refuse, _then_, unless, form, limited, charged, parentChecks, writeChecks, unlinkAt, unlinkEntry, unlinkChecks, rmdirChecks}
-use Rattle.model.specs.Calls.{Call, changed, forms, rules, valueOf}
-use Rattle.model.specs.Outcome.{Request, room, verdict, outcome}
+use Rattle.model.specs.Map.{put, lookup}
+use Rattle.model.specs.Tree.{Entry, Table, Tree, kind}
+use Rattle.model.specs.Listing.{treeIn}
+use Rattle.model.specs.Table.{encode, padded, entryOf, tableIn}
+use Rattle.model.specs.Checks.{Check, pass, refuse, _then_, unless, form, Memory, limited, unlimited, charged, parentChecks, unlinkAt, unlinkEntry}
+use Rattle.model.specs.Calls.{changed, forms, rules, valueOf}
+use Rattle.model.specs.Outcome.{Given, shownIn, Request, room, verdict, outcome}
 use Rattle.model.specs.declared.Record.{Record}
 use Rattle.model.specs.declared.Refusal.{Refusal}
 use Rattle.model.specs.declared.Answered.{Answered}
@@ -23,91 +21,126 @@ use Rattle.model.specs.declared.Answer.the-variants.{Refused}
 use Rattle.model.proofs.Orders.{bot}
 use Rattle.model.proofs.Maps.{ascends-is, lookup-low}
 use Rattle.model.proofs.Codec.{decoded, path-short}
+use Rattle.table_write.specs.Merge.{Written}
 use Rattle.table_insert.specs.declared.Inserted.{Inserted}
 use Rattle.table_insert.specs.Insert.{insertion, ifDone}
 use Rattle.check_judged.specs.declared.Judged.{Judged}
 use Rattle.check_judged.specs.declared.Judged.the-variants as judge
 use Rattle.check_judged.specs.Judged.{checkOf, refuses}
 use Rattle.check_judged.proofs.Checked.{refused-not-passed}
-use Rattle.call_answer.specs.Meets.{requested, stored, Meets, answeredOf}
-use Rattle.call_answer.proofs.Settles.{last, refused-meets, inserted-meets}
-use Rattle.check_lent.proofs.Firsts.{firsts, all-four}
+use Rattle.check_judged.proofs.Thens.{ends, goes-on}
+use Rattle.check_one_path.specs.Change.{changeChecks}
+use Rattle.check_one_path.specs.declared.Change.{Change}
+use Rattle.check_one_path.specs.declared.Change.the-variants as change
+use Rattle.call_answer.specs.Meets.{requested, stored, last, Meets, answeredOf}
+use Rattle.call_answer.proofs.Settles.{refused-meets, inserted-meets}
+use Rattle.call_answer.proofs.Admits.{given-verdict}
+use Rattle.call_one_path.specs.Called.{callOf, brings, kindPut}
 
--- a call's checks, with those before 11 as one
-regroup : (a b c d e f : Check) → (a then b then c then (d then e) then f) ≡ (((a then b then c) then d) then (e then f))
-regroup pass pass pass pass e f = refl
-regroup pass pass pass (refuse n w k) e f = refl
-regroup pass pass (refuse n w k) d e f = refl
-regroup pass (refuse n w k) c d e f = refl
-regroup (refuse n w k) b c d e f = refl
+-- a form that did not refuse
+formed : (b : Bool) → refuses (cond b pass (refuse 3 0 0)) ≡ false → b ≡ true
+formed true h = refl
+formed false h = absurd (bot (cc))
 
-first-passed : (c d : Check) → pass ≡ (c then d) → refuses c ≡ false
-first-passed pass d h = refl
-first-passed (refuse n w k) d h = absurd (bot (cc))
+-- both of two checks pass
+both-passed : (b : Bool) (d : Check) → pass ≡ (cond b pass (refuse 3 0 0) then d) → (b ≡ true) × (d ≡ pass)
+both-passed true d h = (refl, sym h)
+both-passed false d h = absurd (bot (cc))
 
-second-passed : (c d : Check) → pass ≡ (c then d) → d ≡ pass
-second-passed pass d h = sym h
-second-passed (refuse n w k) d h = absurd (bot (cc))
-
--- where the checks c refuse at the root, a path that passed them is not empty
-not-root : (p : Path) (c : Path → Check) → refuses (c []) ≡ true → c p ≡ pass → before [] p ≡ true
-not-root [] c h e = absurd (refused-not-passed (c []) h e)
-not-root (b ∷ p) c h e = refl
-
--- the checks of the calls at the root
-module _ (t : Table) (l : Tree) where
-  pub write-root : refuses (writeChecks (shown t l) []) ≡ true
-  write-root = refl
-
-  pub rmdir-root : refuses (rmdirChecks t l []) ≡ true
-  rmdir-root = refl
-
-pub unlink-root : (s : Bytes) (r : Record) (l : Tree) → isTable s r ≡ true → refuses (unlinkChecks (tableIn s r) l []) ≡ true
-unlink-root s r l h =
-    let u = ascends-is [] (tableIn s r) (decoded s r h .ascending) in
-    let e : lookup (tableIn s r) [] ≡ none = lookup-low [] (tableIn s r) (u .0) (u .1) in
-    ap (λ (o : Option Entry). refuses (unlinkEntry 0 o (parentChecks 0 (shown (tableIn s r) l) [] then unlinkAt 0 (kind (shown (tableIn s r) l) [])))) e
-
--- a call with one path: its checks from 4 to 10 are c, and j is what the checks up to there gave
-module _ (l s : Bytes) (r : Record) (w : Bytes) (p : Path) (c : Path → Check) where
+-- a call with the path p, by its checks from 3 to 10
+module _ (l s : Bytes) (r : Record) (p : Path) (x : Change) where
   abbrev judged : Check
-  judged = firsts (isTable s r) (leb (length s) (length w)) (isListing l) (isPath p) then c p
+  judged = form 0 p then changeChecks x (tableIn s r) (treeIn l) p
 
-  -- what an insertion asks for
-  pub may : (j : Judged) → checkOf j ≡ judged → j ≡ judge.Pass → (isTable s r ≡ true → refuses (c []) ≡ true)
-      → (isTable s r ≡ true) × (before [] p ≡ true) × (length p ≤ 512) × (length s ≤ length w)
-  may j e h n =
-      let a = firsts (isTable s r) (leb (length s) (length w)) (isListing l) (isPath p) in
-      let g : pass ≡ judged = sym (ap checkOf h) ∙ e in
-      let k = all-four (isTable s r) (leb (length s) (length w)) (isListing l) (isPath p) (first-passed a (c p) g) in
-      let b = not-root p c (n (k .0)) (second-passed a (c p) g) in
-      (k .0, b, path-short p (k .3), leb-true (length s) (length w) (k .1))
+  -- each call refuses the root: write and unlink as a directory, rmdir by its own check
+  root : Given l s r → refuses (changeChecks x (tableIn s r) (treeIn l) []) ≡ true
+  root g = each x
+    where
+      each : (y : Change) → refuses (changeChecks y (tableIn s r) (treeIn l) []) ≡ true
+      each change.Write = refl
+      each change.Unlink =
+          let u = ascends-is [] (tableIn s r) (decoded s r (g .is-table) .ascending) in
+          let e : lookup (tableIn s r) [] ≡ none = lookup-low [] (tableIn s r) (u .0) (u .1) in
+          let f = shownIn l s r in
+          ap (λ (o : Option Entry). refuses (unlinkEntry 0 o (parentChecks 0 f [] then unlinkAt 0 (kind f [])))) e
+      each change.Rmdir = refl
 
-  module _ (limit : ℕ) (call : Call) where
-    abbrev q : Request
-    q = requested call limit w
+  -- so a path that passes is a key
+  may : Given l s r → (c : Check) → c ≡ judged → c ≡ pass → (before [] p ≡ true) × (length p ≤ 512)
+  may g c e h =
+      let k = both-passed (isPath p) (changeChecks x (tableIn s r) (treeIn l) p) (sym h ∙ e) in
+      (not-root p (k .1), path-short p (k .0))
+    where
+      not-root : (p : Path) → changeChecks x (tableIn s r) (treeIn l) p ≡ pass → before [] p ≡ true
+      not-root [] e = absurd (refused-not-passed (changeChecks x (tableIn s r) (treeIn l) []) (root g) e)
+      not-root (b ∷ p) e = refl
 
-    abbrev after : Table
-    after = changed (tableIn s r) (treeIn l) call
+  -- 3 gave j, and b is whether that refuses
+  module _ (g : Given l s r) (j : Check) (b : Bool) (e : j ≡ form 0 p) (i : b ≡ refuses j) where
+    pub is-path : b ≡ false → isPath p ≡ true
+    is-path h = formed (isPath p) (ap refuses (sym e) ∙ sym i ∙ h)
 
-    module _ (f : forms call ≡ form 0 p)
-        (g : rules (limited (r .«entry_size») limit) (tableIn s r) (treeIn l) call ≡ (c p then charged (limited (r .«entry_size») limit) after)) where
-      grouped : verdict l q (stored s r) ≡ (judged then last l q (stored s r))
-      grouped =
-          let t = unless 1 (isTable s r && leb (length s) (length w)) in
-          let u = unless 2 (isListing l) in
-          let v = unless 13 (room l q (stored s r)) in
-          ap (λ (x : Check). t then u then x then rules (limited (r .«entry_size») limit) (tableIn s r) (treeIn l) call then v) f
-          ∙ ap (λ (x : Check). t then u then form 0 p then x then v) g
-          ∙ regroup t u (form 0 p) (c p) (charged (limited (r .«entry_size») limit) after) v
+    pub by-form : b ≡ true → (j ≡ judged) × (j ≡ pass → (before [] p ≡ true) × (length p ≤ 512))
+    by-form h = let k = ends (form 0 p) j b e i (changeChecks x (tableIn s r) (treeIn l) p) h in (k, may g j k)
 
-      module _ (j : Judged) (e : checkOf j ≡ judged) where
-        pub call-refused : (x : Refusal) → j ≡ judge.Refused x
-            → Meets (outcome l q (stored s r)) (record { answer = Refused x; «record» = r }) s w
-        call-refused x h = refused-meets l q (stored s r) judged grouped x (sym (ap checkOf h) ∙ e)
+    -- the checks behind it gave c
+    pub by-checks : b ≡ false → (c : Check) → c ≡ changeChecks x (tableIn s r) (treeIn l) p
+        → (c ≡ judged) × (c ≡ pass → (before [] p ≡ true) × (length p ≤ 512))
+    by-checks h c d = let k = goes-on (form 0 p) j b e i (changeChecks x (tableIn s r) (treeIn l) p) c h d in (k, may g c k)
 
-        -- the insertion answered i and left t and v
-        pub call-inserted : j ≡ judge.Pass → (i : Inserted) → i ≡ insertion (r .«entry_size») limit (length s) after → (t v : Bytes)
-            → t ≡ ifDone i (padded (length s) (encode after)) s → v ≡ ifDone i (replicate (length w) 0) w
-            → (a : Answered) → a ≡ answeredOf i r (valueOf call) → Meets (outcome l q (stored s r)) a t v
-        call-inserted h = inserted-meets l q (stored s r) judged grouped (sym (ap checkOf h) ∙ e)
+-- what such a call brings are an entry's fields, and the data's length is what it answers
+brought : (x : Change) (p : Path) (m : ℕ) (d : Bytes) → brings x m d ≡ true → Written (kindPut x) m 0 d × (length d ≡ valueOf (callOf x p m d))
+brought change.Write p m d h = (record { type = refl; time = refl; long = refl; content = refl }, refl)
+brought change.Unlink p zero [] h = (record { type = refl; time = refl; long = refl; content = refl }, refl)
+brought change.Unlink p zero (b ∷ d) h = absurd (bot (cc))
+brought change.Unlink p (suc m) d h = absurd (bot (cc))
+brought change.Rmdir p zero [] h = (record { type = refl; time = refl; long = refl; content = refl }, refl)
+brought change.Rmdir p zero (b ∷ d) h = absurd (bot (cc))
+brought change.Rmdir p (suc m) d h = absurd (bot (cc))
+
+-- its checks, and the entry that it puts
+called : (x : Change) (p : Path) (m : ℕ) (d : Bytes) (o : Memory) (t : Table) (l : Tree)
+    → (forms (callOf x p m d) ≡ form 0 p) × (rules o t l (callOf x p m d) ≡ (changeChecks x t l p then charged o (changed t l (callOf x p m d))))
+    × (put p (entryOf (kindPut x) m 0 d) t ≡ changed t l (callOf x p m d))
+called change.Write p m d o t l = (refl, refl, refl)
+called change.Unlink p m d o t l = (refl, refl, refl)
+called change.Rmdir p m d o t l = (refl, refl, refl)
+
+regroup : (a b c d : Check) → (a then (b then c) then d) ≡ ((a then b) then (c then d))
+regroup pass pass c d = refl
+regroup pass (refuse n w k) c d = refl
+regroup (refuse n w k) b c d = refl
+
+-- such a call behind 1 and 2, with the work buffer w; its checks from 3 to 10 gave j
+module _ (l s : Bytes) (r : Record) (w : Bytes) (p : Path) (x : Change) (m : ℕ) (d : Bytes) (limit : ℕ) (g : Given l s r) (h : length s ≤ length w)
+    (j : Judged) (e : checkOf j ≡ judged l s r p x) where
+  abbrev q : Request
+  q = requested (callOf x p m d) limit w
+
+  grouped : verdict l q (stored s r) ≡ (judged l s r p x then last l q (stored s r))
+  grouped =
+      let o = limited (r .«entry_size») limit in
+      let t = tableIn s r in
+      let n = unless 13 (room l q (stored s r)) in
+      let k = called x p m d o t (treeIn l) in
+      given-verdict l q (stored s r) g h
+      ∙ ap (λ (y : Check). y then rules o t (treeIn l) (callOf x p m d) then n) (k .0)
+      ∙ ap (λ (y : Check). form 0 p then y then n) (k .1)
+      ∙ regroup (form 0 p) (changeChecks x t (treeIn l) p) (charged o (changed t (treeIn l) (callOf x p m d))) n
+
+  pub call-refused : (y : Refusal) → j ≡ judge.Refused y → Meets (outcome l q (stored s r)) (record { answer = Refused y; «record» = r }) s w
+  call-refused y u = refused-meets l q (stored s r) (judged l s r p x) grouped y (sym (ap checkOf u) ∙ e)
+
+  module _ (b : brings x m d ≡ true) (k : ℕ) (f : k ≡ kindPut x) where
+    pub call-fields : Written k m 0 d
+    call-fields = subst (λ (y : ℕ). Written y m 0 d) (sym f) (brought x p m d b .0)
+
+    -- the insertion answered i and left t and v
+    pub call-inserted : j ≡ judge.Pass → (i : Inserted) → i ≡ insertion (r .«entry_size») limit (length s) (put p (entryOf k m 0 d) (tableIn s r)) → (t v : Bytes)
+        → t ≡ ifDone i (padded (length s) (encode (put p (entryOf k m 0 d) (tableIn s r)))) s → v ≡ ifDone i (replicate (length w) 0) w
+        → (a : Answered) → a ≡ answeredOf i r (length d) → Meets (outcome l q (stored s r)) a t v
+    call-inserted u i y t v z n a o =
+        let c : put p (entryOf k m 0 d) (tableIn s r) ≡ changed (tableIn s r) (treeIn l) (callOf x p m d) =
+        ap (λ (c : ℕ). put p (entryOf c m 0 d) (tableIn s r)) f ∙ called x p m d unlimited (tableIn s r) (treeIn l) .2 in
+        inserted-meets l q (stored s r) (judged l s r p x) grouped (sym (ap checkOf u) ∙ e) i (y ∙ ap (insertion (r .«entry_size») limit (length s)) c) t v
+        (z ∙ ap (λ (y : Table). ifDone i (padded (length s) (encode y)) s) c) n a (o ∙ ap (answeredOf i r) (brought x p m d b .1))

@@ -2,10 +2,9 @@
 use mathlib.Core.Path.{refl}
 use borrow.Author.Needs.{needs}
 use lib.ListN.{length}
-use Rattle.model.specs.Tree.{shown, kind}
-use Rattle.model.specs.Listing.{treeIn}
-use Rattle.model.specs.Table.{tableIn}
+use Rattle.model.specs.Tree.{kind}
 use Rattle.model.specs.Checks.{mkdirParents}
+use Rattle.model.specs.Outcome.{shownIn}
 use Rattle.view_at.specs.Sight.{visibleKind}
 use Rattle.call_mkdir.proofs.Steps.{make-nothing, there-makes, at-make, at-there, at-refused, never-there, there-not-make, refused-not-make, refused-not-there}
 use Rattle.call_mkdir.proofs.judge_at.Statement.{statement}
@@ -24,16 +23,16 @@ make-at-requires : tie.Need-make-at-requires
 make-at-requires c κs =
     let o = c .before .before .before .before .before .before .before in
     let a = o .args in
-    let f = shown (tableIn (a .table .now) (a .rec)) (treeIn (a .listing .now)) in
+    let f = shownIn (a .listing .now) (a .table .now) (a .rec) in
     let v = c .before .before .before .visible-at in
     let x = c .before .before .at-path in
     let n = make-nothing (length (a .path .now)) (a .exist-ok) (visibleKind (v .result)) (kind f (a .path .now)) (x .result) (v .ensures) (x .ensures) (c .enum-told .given .1) in
-    (o .pre .0, (o .pre .1 .0, (o .pre .1 .1, n)))
+    (o .pre .0, (o .pre .1, n))
 
 returns : tie.Need-returns
 returns c =
     let a = c .before .before .before .before .before .before .before .before .args in
-    let f = shown (tableIn (a .table .now) (a .rec)) (treeIn (a .listing .now)) in
+    let f = shownIn (a .listing .now) (a .table .now) (a .rec) in
     let p = a .path .now in
     let v = c .before .before .before .before .visible-at in
     let x = c .before .before .before .at-path in
@@ -55,7 +54,7 @@ none-requires c κs = search needs
 returns-2 : tie.Need-returns-2
 returns-2 c =
     let a = c .before .before .before .before .before .before .before .before .args in
-    let f = shown (tableIn (a .table .now) (a .rec)) (treeIn (a .listing .now)) in
+    let f = shownIn (a .listing .now) (a .table .now) (a .rec) in
     let p = a .path .now in
     let v = c .before .before .before .before .visible-at in
     let x = c .before .before .before .at-path in
@@ -76,7 +75,7 @@ none-requires-2 c κs = search needs
 returns-3 : tie.Need-returns-3
 returns-3 c =
     let a = c .before .before .before .before .before .before .before .before .before .args in
-    let f = shown (tableIn (a .table .now) (a .rec)) (treeIn (a .listing .now)) in
+    let f = shownIn (a .listing .now) (a .table .now) (a .rec) in
     let p = a .path .now in
     let v = c .before .before .before .before .before .visible-at in
     let x = c .before .before .before .before .at-path in (

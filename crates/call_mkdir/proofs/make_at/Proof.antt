@@ -1,10 +1,8 @@
 -- `make_at` meets its contract: the parents' check refuses, or gives the directories to make.
 use mathlib.Core.Path.{ap}
 use borrow.Author.Needs.{needs}
-use Rattle.model.specs.Tree.{shown}
-use Rattle.model.specs.Listing.{treeIn}
-use Rattle.model.specs.Table.{tableIn}
 use Rattle.model.specs.Checks.{mkdirParents}
+use Rattle.model.specs.Outcome.{shownIn}
 use Rattle.check_judged.specs.Judged.{checkOf}
 use Rattle.call_mkdir.proofs.Steps.{on-refused, on-passed, refused-not-make, not-root}
 use Rattle.call_mkdir.proofs.make_at.Statement.{statement}
@@ -14,7 +12,7 @@ to-create-requires : tie.Need-to-create-requires
 to-create-requires c κs =
     let o = c .before .before .before in
     let a = o .args in
-    (o .pre .0, (o .pre .1 .0, (o .pre .1 .1 .0, not-root (shown (tableIn (a .table .now) (a .rec)) (treeIn (a .listing .now))) (a .path .now) (o .pre .1 .1 .1))))
+    (o .pre .0, (o .pre .1 .0, not-root (shownIn (a .listing .now) (a .table .now) (a .rec)) (a .path .now) (o .pre .1 .1)))
 
 enum-known-judged : tie.Need-enum-known-judged
 enum-known-judged c = search needs
@@ -23,7 +21,7 @@ returns : tie.Need-returns
 returns c =
     let a = c .before .before .before .before .before .before .before .before .args in
     let x = c .before .before .before .before .to-create in (
-      on-refused (mkdirParents (shown (tableIn (a .table .now) (a .rec)) (treeIn (a .listing .now))) (a .path .now) (a .parents)) (x .result .judged) (x .ensures .0) _ (c .before .judged .given .1),
+      on-refused (mkdirParents (shownIn (a .listing .now) (a .table .now) (a .rec)) (a .path .now) (a .parents)) (x .result .judged) (x .ensures .0) _ (c .before .judged .given .1),
       λ e. absurd (refused-not-make _ e),
     )
 
@@ -36,8 +34,8 @@ returns-2 c =
     let a = o .args in
     let x = c .before .before .before .to-create in
     let g = c .enum-told .given .1 in (
-      on-passed (mkdirParents (shown (tableIn (a .table .now) (a .rec)) (treeIn (a .listing .now))) (a .path .now) (a .parents)) (x .result .judged) (x .ensures .0) g,
-      λ e. record { count = x .ensures .1 .0 .0; climb = x .ensures .1 .0 .1; table = x .ensures .1 .1 (ap checkOf g) (o .pre .1 .1 .1) },
+      on-passed (mkdirParents (shownIn (a .listing .now) (a .table .now) (a .rec)) (a .path .now) (a .parents)) (x .result .judged) (x .ensures .0) g,
+      λ e. record { count = x .ensures .1 .0 .0; climb = x .ensures .1 .0 .1; table = x .ensures .1 .1 (ap checkOf g) (o .pre .1 .1) },
     )
 
 pub make-at-spec : {M : Type 1} → statement M

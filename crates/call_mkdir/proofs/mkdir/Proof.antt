@@ -1,31 +1,34 @@
--- `mkdir` meets its contract: refused by its checks, accepted where the directory is there, or as the insertion of its directories answers.
+-- `mkdir` meets its contract: refused by 1 or 2, or as `mkdir_admitted` answers.
 use borrow.Author.Needs.{needs}
-use Rattle.base_paths.specs.Dirs.{endsOf, prefixes}
-use Rattle.call_mkdir.proofs.Outcomes.{step-refused, step-there, step-made}
+use Rattle.model.specs.Calls.{mkdir}
+use Rattle.call_answer.specs.Meets.{requested, stored}
+use Rattle.call_answer.proofs.Admits.{not-admitted, admitted-given}
 use Rattle.call_mkdir.proofs.mkdir.Statement.{statement}
 use Rattle.call_mkdir.proofs.mkdir.Tie as tie
 
-judge-mkdir-requires : tie.Need-judge-mkdir-requires
-judge-mkdir-requires c κs = search needs
+admitted-requires : tie.Need-admitted-requires
+admitted-requires c κs = search needs
 
-enum-known-step : tie.Need-enum-known-step
-enum-known-step c = search needs
+enum-known-admitted : tie.Need-enum-known-admitted
+enum-known-admitted c = search needs
 
 same-length : tie.Need-same-length
 same-length c = search needs
 
 returns : tie.Need-returns
 returns c =
-    let a = c .before .before .before .before .before .before .before .before .before .before .args in
-    let j = c .before .before .before .before .judge-mkdir in
-    step-refused (a .listing .now) (a .table .now) (a .rec) (a .work .now) (a .path .now) (a .parents) (a .exist-ok) (a .mtime) (a .limit)
-    (j .result .step) (j .ensures .0) _ (c .before .step .given .1)
+    let a = c .before .before .before .before .before .before .before .before .before .args in
+    let j = c .before .before .before .admitted in
+    not-admitted (a .listing .now) (requested (mkdir (a .path .now) (a .parents) (a .exist-ok) (a .mtime)) (a .limit) (a .work .now)) (stored (a .table .now) (a .rec)) (j .result) (j .ensures) _ (c .before .admitted2 .given .1)
 
 enum-told : tie.Need-enum-told
 enum-told c = search needs
 
-zero-from-requires : tie.Need-zero-from-requires
-zero-from-requires c κs = search needs
+mkdir-admitted-requires : tie.Need-mkdir-admitted-requires
+mkdir-admitted-requires c κs =
+    let a = c .before .before .before .before .before .before .before .before .before .before .args in
+    let j = c .before .before .before .before .admitted in
+    admitted-given (a .listing .now) (requested (mkdir (a .path .now) (a .parents) (a .exist-ok) (a .mtime)) (a .limit) (a .work .now)) (stored (a .table .now) (a .rec)) (j .result) (j .ensures) (c .before .before .enum-told .given .1)
 
 same-length-2 : tie.Need-same-length-2
 same-length-2 c = search needs
@@ -34,61 +37,18 @@ same-length-3 : tie.Need-same-length-3
 same-length-3 c = search needs
 
 returns-2 : tie.Need-returns-2
-returns-2 c =
-    let a = c .before .before .before .before .before .before .before .before .before .before .before .before .before .args in
-    let j = c .before .before .before .before .before .before .before .judge-mkdir in
-    let g = c .before .before .before .before .enum-told .given .1 in
-    let k = j .ensures .1 .1 g in
-    let z = c .before .before .zero-from in
-    step-there (a .listing .now) (a .table .now) (a .rec) (a .work .now) (a .path .now) (a .parents) (a .exist-ok) (a .mtime) (a .limit)
-    (j .result .step) (j .ensures .0) g (k .0) (k .1) (z .last .0) (z .ensures)
-
-enum-told-2 : tie.Need-enum-told-2
-enum-told-2 c = search needs
-
-insert-all-requires : tie.Need-insert-all-requires
-insert-all-requires c κs =
-    let j = c .before .before .before .before .before .judge-mkdir in
-    let k = j .ensures .1 .0 (c .before .before .enum-told2 .given .1) in
-    (k .0, (k .2, (k .3 .count, k .3 .climb, k .1)))
-
-answered-requires : tie.Need-answered-requires
-answered-requires c κs = search needs
-
-same-length-4 : tie.Need-same-length-4
-same-length-4 c = search needs
-
-same-length-5 : tie.Need-same-length-5
-same-length-5 c = search needs
-
-returns-3 : tie.Need-returns-3
-returns-3 c =
-    let a = c .before .before .before .before .before .before .before .before .before .before .before .before .before .before .before .before .before .args in
-    let j = c .before .before .before .before .before .before .before .before .before .before .before .judge-mkdir in
-    let g = c .before .before .before .before .before .before .before .before .enum-told2 .given .1 in
-    let k = j .ensures .1 .0 g in
-    let x = c .before .before .before .before .before .insert-all in
-    let y = c .answered in
-    step-made (a .listing .now) (a .table .now) (a .rec) (a .work .now) (a .path .now) (a .parents) (a .exist-ok) (a .mtime) (a .limit)
-    (j .result .step) (j .ensures .0) g (prefixes (a .path .now) (endsOf (j .result .dirs))) (k .3 .table (a .mtime)) (x .result) (x .ensures .0) (x .last .0)
-    (x .last .1 .0) (x .ensures .1 .0) (x .ensures .1 .1) (y .result) (y .ensures)
+returns-2 c = search needs
 
 pub mkdir-spec : {M : Type 1} → statement M
 mkdir-spec =
     tie.close
     (tie.spec
-    judge-mkdir-requires
-    enum-known-step
+    admitted-requires
+    enum-known-admitted
     same-length
     returns
     enum-told
-    zero-from-requires
+    mkdir-admitted-requires
     same-length-2
     same-length-3
-    returns-2
-    enum-told-2
-    insert-all-requires
-    answered-requires
-    same-length-4
-    same-length-5
-    returns-3)
+    returns-2)

@@ -3,9 +3,7 @@ use mathlib.Core.Path.{refl}
 use native.Mathlib.Omega.{arith}
 use borrow.Author.Needs.{needs}
 use lib.ListN.{length}
-use Rattle.model.specs.Tree.{shown}
-use Rattle.model.specs.Listing.{treeIn}
-use Rattle.model.specs.Table.{tableIn}
+use Rattle.model.specs.Outcome.{shownIn}
 use Rattle.check_judged.specs.Judged.{checkOf}
 use Rattle.base_paths.specs.Dirs.{endsOf}
 use Rattle.call_mkdir.proofs.Made.{made-all, made-one, one-climbs}
@@ -24,10 +22,10 @@ returns c =
     let s = a .table .now in
     let p = a .path .now in
     let x = c .overlay-dirs-to-create in (
-      parents-made (shown (tableIn s (a .rec)) (treeIn l)) p (a .parents) (checkOf (x .result .judged)) (c .before .if1 .taken) (x .ensures .0),
+      parents-made (shownIn l s (a .rec)) p (a .parents) (checkOf (x .result .judged)) (c .before .if1 .taken) (x .ensures .0),
       (
         x .ensures .1 .1,
-        λ e. made-all l s (a .rec) p (o .pre .1 .0) (endsOf (x .result .dirs)) (x .ensures .1 .0 e),
+        λ e. made-all l s (a .rec) p (o .pre .0 .is-table) (endsOf (x .result .dirs)) (x .ensures .1 .0 e),
       ),
     )
 
@@ -45,9 +43,9 @@ returns-2 c =
     let s = a .table .now in
     let p = a .path .now in
     let x = c .ensure-parent-exists in (
-      parents-there (shown (tableIn s (a .rec)) (treeIn l)) p (a .parents) (checkOf (x .result)) (c .before .if1 .left) (x .ensures),
+      parents-there (shownIn l s (a .rec)) p (a .parents) (checkOf (x .result)) (c .before .if1 .left) (x .ensures),
       (
-        (omega arith, one-climbs (length p) _ refl (o .pre .1 .1 .1)),
+        (omega arith, one-climbs (length p) _ refl (o .pre .1 .1)),
         made-one l s (a .rec) p _ refl (checkOf (x .result)) (x .ensures),
       ),
     )
