@@ -1,6 +1,6 @@
 -- From rename's checks, in groups, to its outcome: refused by the first that refuses, or done.
 use mathlib.Core.Path.{_≡_, refl, ap, sym, _∙_}
-use mathlib.Core.Bool.{Bool, true, false, cond, _&&_}
+use mathlib.Core.Bool.{Bool, true, false, cond}
 use Prim.Native.Nat.{ℕ, _≤_}
 use lib.Dec.{leb}
 use lib.ListN.{length, replicate}
@@ -9,13 +9,13 @@ use Rattle.model.specs.Bytes.{Bytes, every}
 use Rattle.model.specs.Path.{Path, isPath, short}
 use Rattle.model.specs.Map.{keys, rekey}
 use Rattle.model.specs.Tree.{Table, Tree, Kind, isDirectory}
-use Rattle.model.specs.Listing.{isListing, treeIn}
-use Rattle.model.specs.Table.{encode, padded, charge, recordOf, isTable, tableIn}
-use Rattle.model.specs.Checks.{Check, pass, refuse, _then_, unless, form, Memory, limited, charged}
+use Rattle.model.specs.Listing.{treeIn}
+use Rattle.model.specs.Table.{encode, padded, charge, recordOf, tableIn}
+use Rattle.model.specs.Checks.{Check, pass, refuse, _then_, unless, Memory, limited, charged}
 use Rattle.model.specs.Rename.{ifDirectory, carried, moved, keysFit, directoryMemory}
-use Rattle.model.specs.Calls.{rename}
+use Rattle.model.specs.Calls.{rename, forms}
 use Rattle.model.specs.Answer.{toldRefusal}
-use Rattle.model.specs.Outcome.{Request, Outcome, room, verdict, settle, outcome}
+use Rattle.model.specs.Outcome.{Given, Request, Outcome, room, verdict, settle, outcome}
 use Rattle.model.specs.declared.Record.{Record}
 use Rattle.model.specs.declared.Refusal.{Refusal}
 use Rattle.model.specs.declared.Answer.the-variants.{Accepted, Refused}
@@ -27,12 +27,12 @@ use Rattle.check_judged.specs.Judged.{asCheck, checkOf, refuses}
 use Rattle.check_judged.proofs.Checked.{refusal-refuses, refused-stops}
 use Rattle.call_answer.specs.Meets.{requested, stored, Meets}
 use Rattle.call_answer.proofs.Settles.{told-so}
+use Rattle.call_answer.proofs.Admits.{given-verdict}
 use Rattle.rename_checks.specs.Early.{earlyChecks}
 use Rattle.rename_checks.proofs.Early.{early-first}
 use Rattle.rename_settle.specs.declared.Settled.{Settled}
 use Rattle.rename_settle.specs.declared.Settled.the-variants as settled
 use Rattle.rename_settle.specs.Settled.{lastChecks, settledCheck}
-use Rattle.call_rename.specs.First.{firstChecks}
 
 -- a check of directories, by whether k is one
 pub is-planned : (k m : Kind) (b : Bool) (c j : Check) → k ≡ m → b ≡ isDirectory k → b ≡ true → j ≡ c → j ≡ ifDirectory m c
@@ -41,34 +41,26 @@ is-planned k m b c j e f h g = g ∙ sym (ap (λ (x : Bool). cond x c pass) (sym
 pub not-planned : (k m : Kind) (b : Bool) (c : Check) → k ≡ m → b ≡ isDirectory k → b ≡ false → pass ≡ ifDirectory m c
 not-planned k m b c e f h = sym (ap (λ (x : Bool). cond x c pass) (sym (ap isDirectory e) ∙ sym f ∙ h))
 
--- the order of document 01, and the same checks in the three groups in which they are made
-regroup :
-    (a b c d e f g h i : Check)
-    → (a then b then (c then d) then (e then f then g then h) then i) ≡ (((a then b then c then d) then e then f) then g then h then i)
-regroup (refuse n w k) b c d e f g h i = refl
-regroup pass (refuse n w k) c d e f g h i = refl
-regroup pass pass (refuse n w k) d e f g h i = refl
-regroup pass pass pass (refuse n w k) e f g h i = refl
-regroup pass pass pass pass (refuse n w k) f g h i = refl
-regroup pass pass pass pass pass (refuse n w k) g h i = refl
-regroup pass pass pass pass pass pass (refuse n w k) h i = refl
-regroup pass pass pass pass pass pass pass h i = refl
+-- the order of document 01 from 3 on, and the same checks in the groups in which they are made
+regroup : (a b c d e f : Check) → (a then (b then c then d then e) then f) ≡ ((a then b then c) then d then e then f)
+regroup (refuse n w k) b c d e f = refl
+regroup pass (refuse n w k) c d e f = refl
+regroup pass pass (refuse n w k) d e f = refl
+regroup pass pass pass (refuse n w k) e f = refl
+regroup pass pass pass pass e f = refl
 
--- 1, 2 and 3 passed: t whether the table is one, w whether the work buffer is long enough, l whether the listing is one, p and q whether the paths are
-all-five : (t w l p q : Bool) → (unless 1 (t && w) then unless 2 l then cond p pass (refuse 3 0 0) then cond q pass (refuse 3 1 0)) ≡ pass
-    → (t ≡ true) × (w ≡ true) × (l ≡ true) × (p ≡ true) × (q ≡ true)
-all-five true true true true true h = (refl, refl, refl, refl, refl)
-all-five true true true true false h = absurd (bot (cc))
-all-five true true true false q h = absurd (bot (cc))
-all-five true true false p q h = absurd (bot (cc))
-all-five true false l p q h = absurd (bot (cc))
-all-five false w l p q h = absurd (bot (cc))
+-- 3 passed: both are paths
+pub both-paths : (a b : Path) → forms (rename a b) ≡ pass → (isPath a ≡ true) × (isPath b ≡ true)
+both-paths a b h = go (isPath a) (isPath b) h
+  where
+    go : (p q : Bool) → (cond p pass (refuse 3 0 0) then cond q pass (refuse 3 1 0)) ≡ pass → (p ≡ true) × (q ≡ true)
+    go true true h = (refl, refl)
+    go true false h = absurd (bot (cc))
+    go false q h = absurd (bot (cc))
 
--- j is what 1, 2 and 3 gave, and y whether that refuses
-pub ready-known : (l s : Bytes) (r : Record) (n : ℕ) (a b : Path) (j : Check) (y : Bool) → j ≡ firstChecks l s r n a b → y ≡ refuses j → y ≡ false
-    → (isTable s r ≡ true) × (leb (length s) n ≡ true) × (isListing l ≡ true) × (isPath a ≡ true) × (isPath b ≡ true)
-ready-known l s r n a b j y e i h =
-    all-five (isTable s r) (leb (length s) n) (isListing l) (isPath a) (isPath b) (sym e ∙ passes j (sym i ∙ h))
+-- 3 gave the check j, and y is whether that refuses
+pub forms-known : (a b : Path) (j : Check) (y : Bool) → j ≡ forms (rename a b) → y ≡ refuses j → y ≡ false → (isPath a ≡ true) × (isPath b ≡ true)
+forms-known a b j y e i h = both-paths a b (sym e ∙ passes j (sym i ∙ h))
   where
     passes : (c : Check) → refuses c ≡ false → c ≡ pass
     passes pass g = refl
@@ -81,7 +73,8 @@ all-three true true false h = absurd (bot (cc))
 all-three true false u h = absurd (bot (cc))
 all-three false k u h = absurd (bot (cc))
 
-module _ (l s : Bytes) (r : Record) (w : Bytes) (a b : Path) (limit : ℕ) where
+-- rename behind 1 and 2, with the work buffer w
+module _ (l s : Bytes) (r : Record) (w : Bytes) (a b : Path) (limit : ℕ) (given : Given l s r) (long : length s ≤ length w) where
   abbrev q : Request
   q = requested (rename a b) limit w
 
@@ -99,18 +92,17 @@ module _ (l s : Bytes) (r : Record) (w : Bytes) (a b : Path) (limit : ℕ) where
 
   -- the checks before 11, and those from 11 on
   abbrev judgement : Check
-  judgement = firstChecks l s r (length w) a b then earlyChecks t g a b then directoryMemory m t g a b
+  judgement = forms (rename a b) then earlyChecks t g a b then directoryMemory m t g a b
 
   abbrev rest : Check
   rest = lastChecks m (length s) t g a b
 
   verdict-is : verdict l q (stored s r) ≡ (judgement then rest)
   verdict-is =
-      let one = unless 1 (isTable s r && leb (length s) (length w)) in
-      let two = unless 2 (isListing l) in
       let thirteen = unless 13 (room l q (stored s r)) in
-      ap (λ (c : Check). one then two then (form 0 a then form 1 b) then c then thirteen) (early-first m t g a b)
-      ∙ regroup one two (form 0 a) (form 1 b) (earlyChecks t g a b) (directoryMemory m t g a b) (charged m new) (keysFit m (rekey a b (carried t g a))) thirteen
+      given-verdict l q (stored s r) given long
+      ∙ ap (λ (c : Check). forms (rename a b) then c then thirteen) (early-first m t g a b)
+      ∙ regroup (forms (rename a b)) (earlyChecks t g a b) (directoryMemory m t g a b) (charged m new) (keysFit m (rekey a b (carried t g a))) thirteen
 
   -- j is what the checks before 11 gave
   module _ (j : Judged) (e : checkOf j ≡ judgement) where
@@ -123,16 +115,14 @@ module _ (l s : Bytes) (r : Record) (w : Bytes) (a b : Path) (limit : ℕ) where
       passed : judgement ≡ pass
       passed = sym e ∙ ap checkOf h
 
-      -- what they have shown of what was given
-      pub known : (isTable s r ≡ true) × (leb (length s) (length w) ≡ true) × (isListing l ≡ true) × (isPath a ≡ true) × (isPath b ≡ true)
-      known =
-          all-five (isTable s r) (leb (length s) (length w)) (isListing l) (isPath a) (isPath b)
-          (then-pass (firstChecks l s r (length w) a b) (earlyChecks t g a b then directoryMemory m t g a b) passed .0)
+      -- what they have shown of the paths
+      pub paths : (isPath a ≡ true) × (isPath b ≡ true)
+      paths = both-paths a b (then-pass (forms (rename a b)) (earlyChecks t g a b then directoryMemory m t g a b) passed .0)
 
       pub early : earlyChecks t g a b ≡ pass
       early =
           then-pass (earlyChecks t g a b) (directoryMemory m t g a b)
-          (then-pass (firstChecks l s r (length w) a b) (earlyChecks t g a b then directoryMemory m t g a b) passed .1) .0
+          (then-pass (forms (rename a b)) (earlyChecks t g a b then directoryMemory m t g a b) passed .1) .0
 
       -- x is what 11, 12 and 13 settled
       module _ (x : Settled) (f : settledCheck x ≡ rest) where

@@ -1,40 +1,34 @@
 // rename of overlay.rs: a file, or a directory with all that is below it, from one path to another. Any bytes can be
-// given as listing, table, work buffer and paths, and any numbers as record and limit. A refused call leaves all as it
-// was: nothing is written before 13 is decided. An accepted one leaves the work buffer all 0. It is a constant number
-// of passes over what it is lent, but where it is refused for a link below the source or for the walk's budget, both
-// being there (rename_walk).
+// given as listing, table, work buffer and paths, and any numbers as record and limit. `rename_admitted` is its inner
+// form: it assumes a listing and a table that were checked and a work buffer that is not shorter than the table, and
+// does not ask 1 and 2 again. A refused call leaves all as it was: nothing is written before 13 is decided. An accepted
+// one leaves the work buffer all 0. It is a constant number of passes over what it is lent, but for the walk
+// (rename_walk).
 ghost use mathlib.Core.Path.{_≡_};
 ghost use mathlib.Core.Bool.{true};
+ghost use Prim.Native.Nat.{_≤_};
+ghost use lib.ListN.{length};
 ghost use Rattle.model.specs.Path.{isPath};
-ghost use Rattle.model.specs.Listing.{treeIn, isListing};
-ghost use Rattle.model.specs.Table.{tableIn, isTable};
+ghost use Rattle.model.specs.Listing.{treeIn};
+ghost use Rattle.model.specs.Table.{tableIn};
 ghost use Rattle.model.specs.Checks.{_then_, limited};
 ghost use Rattle.model.specs.Rename.{directoryMemory};
 ghost use Rattle.model.specs.Calls as calls;
-ghost use Rattle.model.specs.Outcome.{outcome};
+ghost use Rattle.model.specs.Outcome.{Given, outcome};
 ghost use Rattle.check_judged.specs.Judged.{checkOf};
 ghost use Rattle.rename_checks.specs.Early.{earlyChecks};
 ghost use Rattle.call_answer.specs.Meets.{requested, stored, Meets};
-ghost use Rattle.call_rename.specs.First.{firstChecks};
 use check_judged::Judged;
 use model::Answer;
 use model::Answered;
 use model::Record;
 use rename_settle::Settled;
 
-// 1, 2 and 3, for any bytes.
-fn ready(
-    listing: &[u8],
-    table: &[u8],
-    rec: Record,
-    room: usize,
-    source: &[u8],
-    destination: &[u8],
-) -> Judged
-    ensures { λ r. ⌜ checkOf r ≡ firstChecks (now (listing .entry)) (now (table .entry)) rec room (now (source .entry))
-        (now (destination .entry)) ⌝ }
+// 3, source before destination.
+fn check_forms(source: &[u8], destination: &[u8]) -> Judged
+    ensures { λ r. ⌜ checkOf r ≡ calls.forms (calls.rename (now (source .entry)) (now (destination .entry))) ⌝ }
 {
-    let from = check_lent::ready(listing, table, rec, room, source);
+    let from = check_lent::check_path(source, 0);
     if check_judged::is_refused(from) {
         return from;
     }
@@ -50,8 +44,7 @@ fn plan_directory(
     destination: &[u8],
     limit: u64,
 ) -> Judged
-    requires { ⌜ isListing (now listing) ≡ true ⌝ }
-    requires { ⌜ isTable (now table) rec ≡ true ⌝ }
+    requires { ⌜ Given (now listing) (now table) rec ⌝ }
     requires { ⌜ (isPath (now source) ≡ true) × (isPath (now destination) ≡ true) ⌝ }
     ensures { λ r. ⌜ checkOf r ≡ directoryMemory (limited (rec .«entry_size») limit) (tableIn (now (table .entry)) rec)
         (treeIn (now (listing .entry))) (now (source .entry)) (now (destination .entry)) ⌝ }
@@ -63,25 +56,25 @@ fn plan_directory(
     Judged::Pass
 }
 
-// All checks before 11 to 13, for any bytes.
+// 3, and all checks before 11 to 13.
 fn judge(
     listing: &[u8],
     table: &[u8],
     rec: Record,
-    room: usize,
     source: &[u8],
     destination: &[u8],
     limit: u64,
 ) -> Judged
-    ensures { λ r. ⌜ checkOf r ≡ (firstChecks (now (listing .entry)) (now (table .entry)) rec room (now (source .entry))
-        (now (destination .entry)) then earlyChecks (tableIn (now (table .entry)) rec) (treeIn (now (listing .entry)))
-        (now (source .entry)) (now (destination .entry)) then directoryMemory (limited (rec .«entry_size») limit)
+    requires { ⌜ Given (now listing) (now table) rec ⌝ }
+    ensures { λ r. ⌜ checkOf r ≡ (calls.forms (calls.rename (now (source .entry)) (now (destination .entry)))
+        then earlyChecks (tableIn (now (table .entry)) rec) (treeIn (now (listing .entry))) (now (source .entry))
+        (now (destination .entry)) then directoryMemory (limited (rec .«entry_size») limit)
         (tableIn (now (table .entry)) rec) (treeIn (now (listing .entry))) (now (source .entry))
         (now (destination .entry))) ⌝ }
 {
-    let ready = ready(listing, table, rec, room, source, destination);
-    if check_judged::is_refused(ready) {
-        return ready;
+    let forms = check_forms(source, destination);
+    if check_judged::is_refused(forms) {
+        return forms;
     }
     let early = rename_checks::early_checks(listing, table, rec, source, destination);
     if check_judged::is_refused(early) {
@@ -105,7 +98,37 @@ pub fn rename(
         (now (destination .entry))) limit (now (work .entry))) (stored (now (table .entry)) rec)) r (now (table .exit))
         (now (work .exit)) ⌝ }
 {
-    let judged = judge(listing, table, rec, work.len(), source, destination, limit);
+    let admitted = check_lent::admitted(listing, table, rec, work.len());
+    match admitted {
+        Judged::Refused(refusal) => {
+            return Answered {
+                answer: Answer::Refused(refusal),
+                record: rec,
+            };
+        }
+        Judged::Pass => {
+            return rename_admitted(listing, table, rec, work, source, destination, limit);
+        }
+    }
+}
+
+// rename behind 1 and 2.
+pub fn rename_admitted(
+    listing: &[u8],
+    table: &mut [u8],
+    rec: Record,
+    work: &mut [u8],
+    source: &[u8],
+    destination: &[u8],
+    limit: u64,
+) -> Answered
+    requires { ⌜ Given (now listing) (now table) rec ⌝ }
+    requires { ⌜ length (now table) ≤ length (now work) ⌝ }
+    ensures { λ r. ⌜ Meets (outcome (now (listing .entry)) (requested (calls.rename (now (source .entry))
+        (now (destination .entry))) limit (now (work .entry))) (stored (now (table .entry)) rec)) r (now (table .exit))
+        (now (work .exit)) ⌝ }
+{
+    let judged = judge(listing, table, rec, source, destination, limit);
     match judged {
         Judged::Refused(refusal) => {
             return Answered {

@@ -1,19 +1,19 @@
--- `judge` meets its contract: 1, 2 and 3, then the checks before the plan, then the plan of a directory.
+-- `judge` meets its contract: 3, then the checks before the plan, then the plan of a directory.
 use borrow.Author.Needs.{needs}
 use Rattle.model.specs.Listing.{treeIn}
 use Rattle.model.specs.Table.{tableIn}
 use Rattle.model.specs.Checks.{_then_, limited}
 use Rattle.model.specs.Rename.{directoryMemory}
+use Rattle.model.specs.Calls.{rename, forms}
 use Rattle.check_judged.specs.Judged.{checkOf}
 use Rattle.check_judged.proofs.Thens.{ends, goes-on}
 use Rattle.rename_checks.specs.Early.{earlyChecks}
-use Rattle.call_rename.specs.First.{firstChecks}
-use Rattle.call_rename.proofs.Verdicts.{ready-known}
+use Rattle.call_rename.proofs.Verdicts.{forms-known}
 use Rattle.call_rename.proofs.judge.Statement.{statement}
 use Rattle.call_rename.proofs.judge.Tie as tie
 
-ready-requires : tie.Need-ready-requires
-ready-requires c κs = search needs
+check-forms-requires : tie.Need-check-forms-requires
+check-forms-requires c κs = search needs
 
 is-refused-requires : tie.Need-is-refused-requires
 is-refused-requires c κs = search needs
@@ -25,20 +25,20 @@ returns c =
     let l = treeIn (a .listing .now) in
     let x = a .source .now in
     let y = a .destination .now in
-    let f = firstChecks (a .listing .now) (a .table .now) (a .rec) (a .room) x y in
+    let f = forms (rename x y) in
     let d = directoryMemory (limited (a .rec .«entry_size») (a .limit)) t l x y in
-    let j = c .before .before .ready in
+    let j = c .before .before .check-forms in
     let r = c .before .is-refused in
     ends f (checkOf (j .result)) (r .result) (j .ensures) (r .ensures) (earlyChecks t l x y then d) (c .if1 .taken)
 
 early-checks-requires : tie.Need-early-checks-requires
 early-checks-requires c κs =
-    let a = c .before .before .before .before .before .before .before .args in
-    let j = c .before .before .ready in
+    let o = c .before .before .before .before .before .before .before in
+    let a = o .args in
+    let j = c .before .before .check-forms in
     let r = c .before .is-refused in
-    let k = ready-known (a .listing .now) (a .table .now) (a .rec) (a .room) (a .source .now) (a .destination .now) (checkOf (j .result)) (r .result)
-    (j .ensures) (r .ensures) (c .if1 .left) in
-    (k .2, (k .0, (k .3, k .4)))
+    let g = o .pre in
+    (g .is-listing, (g .is-table, forms-known (a .source .now) (a .destination .now) (checkOf (j .result)) (r .result) (j .ensures) (r .ensures) (c .if1 .left)))
 
 is-refused-requires-2 : tie.Need-is-refused-requires-2
 is-refused-requires-2 c κs = search needs
@@ -50,9 +50,9 @@ returns-2 c =
     let l = treeIn (a .listing .now) in
     let x = a .source .now in
     let y = a .destination .now in
-    let f = firstChecks (a .listing .now) (a .table .now) (a .rec) (a .room) x y in
+    let f = forms (rename x y) in
     let d = directoryMemory (limited (a .rec .«entry_size») (a .limit)) t l x y in
-    let j = c .before .before .before .before .before .ready in
+    let j = c .before .before .before .before .before .check-forms in
     let r = c .before .before .before .before .is-refused in
     let k = c .before .before .early-checks in
     let q = c .before .is-refused2 in
@@ -62,12 +62,11 @@ returns-2 c =
 
 plan-directory-requires : tie.Need-plan-directory-requires
 plan-directory-requires c κs =
-    let a = c .before .before .before .before .before .before .before .before .before .before .args in
-    let j = c .before .before .before .before .before .ready in
+    let o = c .before .before .before .before .before .before .before .before .before .before in
+    let a = o .args in
+    let j = c .before .before .before .before .before .check-forms in
     let r = c .before .before .before .before .is-refused in
-    let k = ready-known (a .listing .now) (a .table .now) (a .rec) (a .room) (a .source .now) (a .destination .now) (checkOf (j .result)) (r .result)
-    (j .ensures) (r .ensures) (c .before .before .before .if1 .left) in
-    (k .2, (k .0, (k .3, k .4)))
+    (o .pre, forms-known (a .source .now) (a .destination .now) (checkOf (j .result)) (r .result) (j .ensures) (r .ensures) (c .before .before .before .if1 .left))
 
 returns-3 : tie.Need-returns-3
 returns-3 c =
@@ -76,9 +75,9 @@ returns-3 c =
     let l = treeIn (a .listing .now) in
     let x = a .source .now in
     let y = a .destination .now in
-    let f = firstChecks (a .listing .now) (a .table .now) (a .rec) (a .room) x y in
+    let f = forms (rename x y) in
     let d = directoryMemory (limited (a .rec .«entry_size») (a .limit)) t l x y in
-    let j = c .before .before .before .before .before .before .ready in
+    let j = c .before .before .before .before .before .before .check-forms in
     let r = c .before .before .before .before .before .is-refused in
     let k = c .before .before .before .early-checks in
     let q = c .before .before .is-refused2 in
@@ -91,7 +90,7 @@ pub judge-spec : {M : Type 1} → statement M
 judge-spec =
     tie.close
     (tie.spec
-    ready-requires
+    check-forms-requires
     is-refused-requires
     returns
     early-checks-requires

@@ -1,20 +1,16 @@
--- `rename` meets its contract: refused by its checks, by 11, 12 or 13, or written anew.
+-- `rename` meets its contract: refused by 1 or 2, or as `rename_admitted` answers.
 use borrow.Author.Needs.{needs}
-use borrow.Author.Tests.{leb-true}
-use lib.ListN.{length}
-use Rattle.model.specs.Listing.{treeIn}
-use Rattle.model.specs.Table.{tableIn}
-use Rattle.view_at.specs.Sight.{visibleKind}
-use Rattle.rename_checks.proofs.Passed.{kind-whole}
-use Rattle.call_rename.proofs.Verdicts.{judged-refused, known, early, settled-refused, settled-fits, settled-done}
+use Rattle.model.specs.Calls.{rename}
+use Rattle.call_answer.specs.Meets.{requested, stored}
+use Rattle.call_answer.proofs.Admits.{not-admitted, admitted-given}
 use Rattle.call_rename.proofs.rename.Statement.{statement}
 use Rattle.call_rename.proofs.rename.Tie as tie
 
-judge-requires : tie.Need-judge-requires
-judge-requires c κs = search needs
+admitted-requires : tie.Need-admitted-requires
+admitted-requires c κs = search needs
 
-enum-known-judged : tie.Need-enum-known-judged
-enum-known-judged c = search needs
+enum-known-admitted : tie.Need-enum-known-admitted
+enum-known-admitted c = search needs
 
 same-length : tie.Need-same-length
 same-length c = search needs
@@ -22,128 +18,37 @@ same-length c = search needs
 returns : tie.Need-returns
 returns c =
     let a = c .before .before .before .before .before .before .before .before .before .before .args in
-    let s = a .table .now in
-    let w = a .work .now in
-    let l = a .listing .now in
-    let x = a .source .now in
-    let y = a .destination .now in
-    let j = c .before .before .before .judge in
-    judged-refused l s (a .rec) w x y (a .limit) (j .result) (j .ensures) _ (c .before .judged .given .1)
+    let j = c .before .before .before .admitted in
+    not-admitted (a .listing .now) (requested (rename (a .source .now) (a .destination .now)) (a .limit) (a .work .now)) (stored (a .table .now) (a .rec)) (j .result) (j .ensures) _ (c .before .admitted2 .given .1)
 
 enum-told : tie.Need-enum-told
 enum-told c = search needs
 
-visible-at-requires : tie.Need-visible-at-requires
-visible-at-requires c κs =
-    let a = c .before .before .before .before .before .before .before .before .before .before .args in
-    let s = a .table .now in
-    let w = a .work .now in
-    let l = a .listing .now in
-    let x = a .source .now in
-    let y = a .destination .now in
-    let j = c .before .before .before .judge in
-    let k = known l s (a .rec) w x y (a .limit) (j .result) (j .ensures) (c .before .enum-told .given .1) in
-    (k .2, k .0)
-
-is-directory-requires : tie.Need-is-directory-requires
-is-directory-requires c κs = search needs
-
-last-checks-requires : tie.Need-last-checks-requires
-last-checks-requires c κs =
-    let a = c .before .before .before .before .before .before .before .before .before .before .before .before .before .args in
-    let s = a .table .now in
-    let w = a .work .now in
-    let l = a .listing .now in
-    let x = a .source .now in
-    let y = a .destination .now in
-    let j = c .before .before .before .before .before .before .judge in
-    let g = c .before .before .before .before .enum-told .given .1 in
-    let k = known l s (a .rec) w x y (a .limit) (j .result) (j .ensures) g in
-    let e = early l s (a .rec) w x y (a .limit) (j .result) (j .ensures) g in
-    let v = c .before .before .visible-at in
-    let d = c .before .is-directory in
-    (k .2, (k .0, ((k .3, k .4), (e, kind-whole (tableIn s (a .rec)) (treeIn l) x y e (visibleKind (v .result)) (v .ensures) (d .result) (d .ensures)))))
-
-enum-known-settled : tie.Need-enum-known-settled
-enum-known-settled c = search needs
+rename-admitted-requires : tie.Need-rename-admitted-requires
+rename-admitted-requires c κs =
+    let a = c .before .before .before .before .before .before .before .before .before .before .before .args in
+    let j = c .before .before .before .before .admitted in
+    admitted-given (a .listing .now) (requested (rename (a .source .now) (a .destination .now)) (a .limit) (a .work .now)) (stored (a .table .now) (a .rec)) (j .result) (j .ensures) (c .before .before .enum-told .given .1)
 
 same-length-2 : tie.Need-same-length-2
 same-length-2 c = search needs
 
-returns-2 : tie.Need-returns-2
-returns-2 c =
-    let a = c .before .before .before .before .before .before .before .before .before .before .before .before .before .before .before .before .before .args in
-    let s = a .table .now in
-    let w = a .work .now in
-    let l = a .listing .now in
-    let x = a .source .now in
-    let y = a .destination .now in
-    let j = c .before .before .before .before .before .before .before .before .before .before .judge in
-    let g = c .before .before .before .before .before .before .before .before .enum-told .given .1 in
-    let m = c .before .before .before .last-checks in
-    settled-refused l s (a .rec) w x y (a .limit) (j .result) (j .ensures) g (m .result) (m .ensures .0) _ (c .before .settled .given .1)
-
-enum-known-settled-2 : tie.Need-enum-known-settled-2
-enum-known-settled-2 c = search needs
-
-write-move-requires : tie.Need-write-move-requires
-write-move-requires c κs =
-    let a = c .before .before .before .before .before .before .before .before .before .before .before .before .before .before .before .before .before .before .before .args in
-    let s = a .table .now in
-    let w = a .work .now in
-    let l = a .listing .now in
-    let x = a .source .now in
-    let y = a .destination .now in
-    let j = c .before .before .before .before .before .before .before .before .before .before .before .before .judge in
-    let g = c .before .before .before .before .before .before .before .before .before .before .enum-told .given .1 in
-    let k = known l s (a .rec) w x y (a .limit) (j .result) (j .ensures) g in
-    let e = early l s (a .rec) w x y (a .limit) (j .result) (j .ensures) g in
-    let v = c .before .before .before .before .before .before .before .before .visible-at in
-    let d = c .before .before .before .before .before .before .before .is-directory in
-    let m = c .before .before .before .before .before .last-checks in
-    let f = settled-fits l s (a .rec) w x y (a .limit) (j .result) (j .ensures) g (m .result) (m .ensures .0) _ (c .before .before .before .settled2 .given .1) in
-    let n = kind-whole (tableIn s (a .rec)) (treeIn l) x y e (visibleKind (v .result)) (v .ensures) (d .result) (d .ensures) in
-    (k .0, (k .2, (e, (n, (f .0, (f .1, leb-true (length s) (length w) (k .1)))))))
-
 same-length-3 : tie.Need-same-length-3
 same-length-3 c = search needs
 
-same-length-4 : tie.Need-same-length-4
-same-length-4 c = search needs
-
-returns-3 : tie.Need-returns-3
-returns-3 c =
-    let a = c .before .before .before .before .before .before .before .before .before .before .before .before .before .before .before .before .before .before .before .before .before .before .before .before .args in
-    let s = a .table .now in
-    let w = a .work .now in
-    let l = a .listing .now in
-    let x = a .source .now in
-    let y = a .destination .now in
-    let j = c .before .before .before .before .before .before .before .before .before .before .before .before .before .before .before .before .before .judge in
-    let g = c .before .before .before .before .before .before .before .before .before .before .before .before .before .before .before .enum-told .given .1 in
-    let m = c .before .before .before .before .before .before .before .before .before .before .last-checks in
-    let h = c .before .before .before .before .before .before .before .before .settled2 .given .1 in
-    let z = c .before .before .before .before .write-move in
-    settled-done l s (a .rec) w x y (a .limit) (j .result) (j .ensures) g (m .result) (m .ensures .0) _ h (m .ensures .1 _ h) (z .last .0)
-    (z .last .1 .0) (z .ensures .0) (z .ensures .1)
+returns-2 : tie.Need-returns-2
+returns-2 c = search needs
 
 pub rename-spec : {M : Type 1} → statement M
 rename-spec =
     tie.close
     (tie.spec
-    judge-requires
-    enum-known-judged
+    admitted-requires
+    enum-known-admitted
     same-length
     returns
     enum-told
-    visible-at-requires
-    is-directory-requires
-    last-checks-requires
-    enum-known-settled
+    rename-admitted-requires
     same-length-2
-    returns-2
-    enum-known-settled-2
-    write-move-requires
     same-length-3
-    same-length-4
-    returns-3)
+    returns-2)
