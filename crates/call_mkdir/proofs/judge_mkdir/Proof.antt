@@ -1,7 +1,7 @@
 -- `judge_mkdir` meets its contract: 3, then 4 to 8.
 use mathlib.Core.Path.{_∙_}
 use borrow.Author.Needs.{needs}
-use Rattle.model.specs.Checks.{Check, form}
+use Rattle.model.specs.Checks.{form}
 use Rattle.model.specs.Outcome.{shownIn}
 use Rattle.call_mkdir.specs.Step.{mkdirChecks}
 use Rattle.call_mkdir.proofs.Steps.{on-refused, on-passed, path-known, refused-not-make, refused-not-there}
