@@ -8,7 +8,7 @@ use borrow.Author.Tests.{leb-true, le-leb}
 use Rattle.model.specs.Bytes.{Bytes}
 use Rattle.model.specs.Listing.{isListing, treeIn}
 use Rattle.model.specs.Table.{isTable, tableIn}
-use Rattle.model.specs.Checks.{Check, pass, refuse, _then_, unless, limited}
+use Rattle.model.specs.Checks.{Check, pass, _then_, unless, limited}
 use Rattle.model.specs.Calls.{forms, rules}
 use Rattle.model.specs.Answer.{toldRefusal}
 use Rattle.model.specs.Outcome.{Store, Given, Request, lent, room, verdict, outcome}

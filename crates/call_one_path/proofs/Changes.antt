@@ -1,6 +1,6 @@
 -- The calls that change one entry: their checks from 3 to 10, the root that none of them passes, and then the insertion.
 use mathlib.Core.Path.{_≡_, refl, sym, ap, subst, _∙_}
-use mathlib.Core.Bool.{Bool, true, false, cond}
+use mathlib.Core.Bool.{Bool, true, false}
 use mathlib.Core.List.{[], _∷_}
 use mathlib.Core.Option.{Option, none}
 use Prim.Native.Nat.{ℕ, zero, suc, _≤_}
@@ -29,6 +29,7 @@ use Rattle.check_judged.specs.declared.Judged.the-variants as judge
 use Rattle.check_judged.specs.Judged.{checkOf, refuses}
 use Rattle.check_judged.proofs.Checked.{refused-not-passed}
 use Rattle.check_judged.proofs.Thens.{ends, goes-on}
+use Rattle.check_lent.proofs.Firsts.{formed}
 use Rattle.check_one_path.specs.Change.{changeChecks}
 use Rattle.check_one_path.specs.declared.Change.{Change}
 use Rattle.check_one_path.specs.declared.Change.the-variants as change
@@ -37,15 +38,10 @@ use Rattle.call_answer.proofs.Settles.{refused-meets, inserted-meets}
 use Rattle.call_answer.proofs.Admits.{given-verdict}
 use Rattle.call_one_path.specs.Called.{callOf, brings, kindPut}
 
--- a form that did not refuse
-formed : (b : Bool) → refuses (cond b pass (refuse 3 0 0)) ≡ false → b ≡ true
-formed true h = refl
-formed false h = absurd (bot (cc))
-
 -- both of two checks pass
-both-passed : (b : Bool) (d : Check) → pass ≡ (cond b pass (refuse 3 0 0) then d) → (b ≡ true) × (d ≡ pass)
-both-passed true d h = (refl, sym h)
-both-passed false d h = absurd (bot (cc))
+both-passed : (c d : Check) → pass ≡ (c then d) → (refuses c ≡ false) × (d ≡ pass)
+both-passed pass d h = (refl, sym h)
+both-passed (refuse n w k) d h = absurd (bot (cc))
 
 -- a call with the path p, by its checks from 3 to 10
 module _ (l s : Bytes) (r : Record) (p : Path) (x : Change) where
@@ -68,8 +64,8 @@ module _ (l s : Bytes) (r : Record) (p : Path) (x : Change) where
   -- so a path that passes is a key
   may : Given l s r → (c : Check) → c ≡ judged → c ≡ pass → (before [] p ≡ true) × (length p ≤ 512)
   may g c e h =
-      let k = both-passed (isPath p) (changeChecks x (tableIn s r) (treeIn l) p) (sym h ∙ e) in
-      (not-root p (k .1), path-short p (k .0))
+      let k = both-passed (form 0 p) (changeChecks x (tableIn s r) (treeIn l) p) (sym h ∙ e) in
+      (not-root p (k .1), path-short p (formed 0 p (form 0 p) refl (k .0)))
     where
       not-root : (p : Path) → changeChecks x (tableIn s r) (treeIn l) p ≡ pass → before [] p ≡ true
       not-root [] e = absurd (refused-not-passed (changeChecks x (tableIn s r) (treeIn l) []) (root g) e)
@@ -78,7 +74,7 @@ module _ (l s : Bytes) (r : Record) (p : Path) (x : Change) where
   -- 3 gave j, and b is whether that refuses
   module _ (g : Given l s r) (j : Check) (b : Bool) (e : j ≡ form 0 p) (i : b ≡ refuses j) where
     pub is-path : b ≡ false → isPath p ≡ true
-    is-path h = formed (isPath p) (ap refuses (sym e) ∙ sym i ∙ h)
+    is-path h = formed 0 p j e (sym i ∙ h)
 
     pub by-form : b ≡ true → (j ≡ judged) × (j ≡ pass → (before [] p ≡ true) × (length p ≤ 512))
     by-form h = let k = ends (form 0 p) j b e i (changeChecks x (tableIn s r) (treeIn l) p) h in (k, may g j k)

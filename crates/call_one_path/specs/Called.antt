@@ -8,12 +8,13 @@ use Rattle.model.specs.Calls.{Call, write, unlink, rmdir}
 use Rattle.check_one_path.specs.declared.Change.{Change}
 use Rattle.check_one_path.specs.declared.Change.the-variants.{Write, Unlink, Rmdir}
 
+-- the call at its path p; only a write has an mtime and data
 abbrev pub callOf : Change → Path → ℕ → Bytes → Call
 callOf Write p m d = write p m d
 callOf Unlink p m d = unlink p
 callOf Rmdir p m d = rmdir p
 
--- what it brings beside its path: a write any mtime and any data, unlink and rmdir neither
+-- so these are what it brings: any mtime and data with a write, 0 and none with unlink and rmdir
 abbrev neither : ℕ → Bytes → Bool
 neither zero [] = true
 neither zero (b ∷ d) = false

@@ -1,10 +1,10 @@
 -- `judge_mkdir` meets its contract: 3, then 4 to 8.
 use mathlib.Core.Path.{_∙_}
 use borrow.Author.Needs.{needs}
-use Rattle.model.specs.Checks.{Check, form}
+use Rattle.model.specs.Checks.{form}
 use Rattle.model.specs.Outcome.{shownIn}
 use Rattle.call_mkdir.specs.Step.{mkdirChecks}
-use Rattle.call_mkdir.proofs.Steps.{on-refused, on-passed, formed, refused-not-make, refused-not-there}
+use Rattle.call_mkdir.proofs.Steps.{on-refused, on-passed, path-known, refused-not-make, refused-not-there}
 use Rattle.call_mkdir.proofs.judge_mkdir.Statement.{statement}
 use Rattle.call_mkdir.proofs.judge_mkdir.Tie as tie
 
@@ -37,7 +37,7 @@ judge-at-requires : tie.Need-judge-at-requires
 judge-at-requires c κs =
     let o = c .before .before .before .before .before .before in
     let j = c .before .before .check-path in
-    (o .pre, formed (o .args .path .now) (j .result) (j .ensures) (c .enum-told .given .1))
+    (o .pre, path-known (o .args .path .now) (j .result) (j .ensures) (c .enum-told .given .1))
 
 returns-2 : tie.Need-returns-2
 returns-2 c =
@@ -49,7 +49,7 @@ returns-2 c =
     let x = c .judge-at in (
       λ later. on-passed (form 0 p) (j .result) (j .ensures) g (mkdirChecks f p (a .parents) (a .exist-ok) later) ∙ x .ensures .0 later,
       (
-        λ e. (formed p (j .result) (j .ensures) g, x .ensures .1 .0 e),
+        λ e. (path-known p (j .result) (j .ensures) g, x .ensures .1 .0 e),
         x .ensures .1 .1,
       ),
     )
