@@ -11,7 +11,7 @@ use Rattle.model.specs.Map.{keys, rekey}
 use Rattle.model.specs.Tree.{Table, Tree, Kind, isDirectory}
 use Rattle.model.specs.Listing.{treeIn}
 use Rattle.model.specs.Table.{encode, padded, charge, recordOf, tableIn}
-use Rattle.model.specs.Checks.{Check, pass, refuse, _then_, unless, Memory, limited, charged}
+use Rattle.model.specs.Checks.{Check, pass, refuse, _then_, unless, form, Memory, limited, charged}
 use Rattle.model.specs.Rename.{ifDirectory, carried, moved, keysFit, directoryMemory}
 use Rattle.model.specs.Calls.{rename, forms}
 use Rattle.model.specs.Answer.{toldRefusal}
@@ -24,6 +24,7 @@ use Rattle.model.proofs.Invariant.{then-pass}
 use Rattle.check_judged.specs.declared.Judged.{Judged}
 use Rattle.check_judged.specs.declared.Judged.the-variants as judge
 use Rattle.check_judged.specs.Judged.{asCheck, checkOf, refuses}
+use Rattle.check_lent.proofs.Firsts.{formed}
 use Rattle.check_judged.proofs.Checked.{refusal-refuses, refused-stops}
 use Rattle.call_answer.specs.Meets.{requested, stored, Meets}
 use Rattle.call_answer.proofs.Settles.{told-so}
@@ -51,12 +52,9 @@ regroup pass pass pass pass e f = refl
 
 -- 3 passed: both are paths
 pub both-paths : (a b : Path) → forms (rename a b) ≡ pass → (isPath a ≡ true) × (isPath b ≡ true)
-both-paths a b h = go (isPath a) (isPath b) h
-  where
-    go : (p q : Bool) → (cond p pass (refuse 3 0 0) then cond q pass (refuse 3 1 0)) ≡ pass → (p ≡ true) × (q ≡ true)
-    go true true h = (refl, refl)
-    go true false h = absurd (bot (cc))
-    go false q h = absurd (bot (cc))
+both-paths a b h =
+    let e = then-pass (form 0 a) (form 1 b) h in
+    (formed 0 a (form 0 a) refl (ap refuses (e .0)), formed 1 b (form 1 b) refl (ap refuses (e .1)))
 
 -- 3 gave the check j, and y is whether that refuses
 pub forms-known : (a b : Path) (j : Check) (y : Bool) → j ≡ forms (rename a b) → y ≡ refuses j → y ≡ false → (isPath a ≡ true) × (isPath b ≡ true)
