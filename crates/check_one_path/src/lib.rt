@@ -4,8 +4,8 @@
 ghost use mathlib.Core.Path.{_≡_};
 ghost use mathlib.Core.Bool.{true};
 ghost use Rattle.model.specs.Path.{isPath};
-ghost use Rattle.model.specs.Listing.{treeIn, isListing};
-ghost use Rattle.model.specs.Table.{tableIn, isTable};
+ghost use Rattle.model.specs.Listing.{treeIn};
+ghost use Rattle.model.specs.Table.{tableIn};
 ghost use Rattle.model.specs.Checks.{writeAt, unlinkAt, rmdirAt, rmdirChecks, noVisibleChild};
 ghost use Rattle.model.specs.Outcome.{Given, shownIn};
 ghost use Rattle.view_at.specs.Sight.{visibleKind};
@@ -151,8 +151,7 @@ fn entry_checks(change: Change, listing: &[u8], table: &[u8], rec: Record, path:
 
 // 9, for the path `which`: a directory that has a visible child.
 pub fn check_empty(listing: &[u8], table: &[u8], rec: Record, path: &[u8], which: u64) -> Judged
-    requires { ⌜ isListing (now listing) ≡ true ⌝ }
-    requires { ⌜ isTable (now table) rec ≡ true ⌝ }
+    requires { ⌜ Given (now listing) (now table) rec ⌝ }
     ensures { λ r. ⌜ checkOf r ≡ noVisibleChild which (tableIn (now (table .entry)) rec) (treeIn (now (listing .entry)))
         (now (path .entry)) ⌝ }
 {

@@ -8,11 +8,12 @@ ghost use lib.ListN.{length};
 ghost use Rattle.model.specs.Bytes.{Bytes};
 ghost use Rattle.model.specs.Path.{isPath, below};
 ghost use Rattle.model.specs.Map.{lookup};
-ghost use Rattle.model.specs.Tree.{Entry, shown, kind};
-ghost use Rattle.model.specs.Listing.{treeIn, isListing};
-ghost use Rattle.model.specs.Table.{tableIn, isTable};
+ghost use Rattle.model.specs.Tree.{Entry, kind};
+ghost use Rattle.model.specs.Listing.{treeIn};
+ghost use Rattle.model.specs.Table.{tableIn};
 ghost use Rattle.model.specs.Checks.{pass, refuse, _then_, parentChecks, notRoot, noVisibleChild};
 ghost use Rattle.model.specs.Rename.{notLink, notDeleted, noClash, present, ifDirectory, renamePaths, renameTypes};
+ghost use Rattle.model.specs.Outcome.{Given, shownIn};
 ghost use Rattle.table_entries.specs.Said.{said, saidOf};
 ghost use Rattle.view_at.specs.Sight.{visibleKind};
 ghost use Rattle.check_judged.specs.Judged.{checkOf};
@@ -65,12 +66,10 @@ fn reject_link(visible: Visible, which: u64, len: u64) -> Judged
 
 // The destination's parents; a link at it.
 fn check_destination(listing: &[u8], table: &[u8], rec: Record, path: &[u8]) -> Judged
-    requires { ⌜ isListing (now listing) ≡ true ⌝ }
-    requires { ⌜ isTable (now table) rec ≡ true ⌝ }
+    requires { ⌜ Given (now listing) (now table) rec ⌝ }
     requires { ⌜ isPath (now path) ≡ true ⌝ }
-    ensures { λ r. ⌜ checkOf r ≡ (parentChecks 1 (shown (tableIn (now (table .entry)) rec)
-        (treeIn (now (listing .entry)))) (now (path .entry)) then notLink 1 (length (now (path .entry)))
-        (kind (shown (tableIn (now (table .entry)) rec) (treeIn (now (listing .entry)))) (now (path .entry)))) ⌝ }
+    ensures { λ r. ⌜ checkOf r ≡ (parentChecks 1 (shownIn (now (listing .entry)) (now (table .entry)) rec) (now (path .entry)) then notLink 1 (length (now (path .entry)))
+        (kind (shownIn (now (listing .entry)) (now (table .entry)) rec) (now (path .entry)))) ⌝ }
 {
     let parents = check_parents::ensure_parent_exists(listing, table, rec, path, 1);
     if check_judged::is_refused(parents) {
@@ -110,13 +109,11 @@ fn reject_deleted(entry: OverlayEntry, bytes: u64) -> Judged
 
 // The source's parents; a deleted entry or a link at it.
 fn check_source(listing: &[u8], table: &[u8], rec: Record, path: &[u8]) -> Judged
-    requires { ⌜ isListing (now listing) ≡ true ⌝ }
-    requires { ⌜ isTable (now table) rec ≡ true ⌝ }
+    requires { ⌜ Given (now listing) (now table) rec ⌝ }
     requires { ⌜ isPath (now path) ≡ true ⌝ }
-    ensures { λ r. ⌜ checkOf r ≡ (parentChecks 0 (shown (tableIn (now (table .entry)) rec)
-        (treeIn (now (listing .entry)))) (now (path .entry)) then notDeleted (length (now (path .entry)))
+    ensures { λ r. ⌜ checkOf r ≡ (parentChecks 0 (shownIn (now (listing .entry)) (now (table .entry)) rec) (now (path .entry)) then notDeleted (length (now (path .entry)))
         (lookup (tableIn (now (table .entry)) rec) (now (path .entry))) then notLink 0 (length (now (path .entry)))
-        (kind (shown (tableIn (now (table .entry)) rec) (treeIn (now (listing .entry)))) (now (path .entry)))) ⌝ }
+        (kind (shownIn (now (listing .entry)) (now (table .entry)) rec) (now (path .entry)))) ⌝ }
 {
     let parents = check_parents::ensure_parent_exists(listing, table, rec, path, 0);
     if check_judged::is_refused(parents) {
@@ -139,8 +136,7 @@ fn check_paths(
     source: &[u8],
     destination: &[u8],
 ) -> Judged
-    requires { ⌜ isListing (now listing) ≡ true ⌝ }
-    requires { ⌜ isTable (now table) rec ≡ true ⌝ }
+    requires { ⌜ Given (now listing) (now table) rec ⌝ }
     requires { ⌜ (isPath (now source) ≡ true) × (isPath (now destination) ≡ true) ⌝ }
     ensures { λ r. ⌜ checkOf r ≡ renamePaths (tableIn (now (table .entry)) rec) (treeIn (now (listing .entry)))
         (now (source .entry)) (now (destination .entry)) ⌝ }
@@ -192,8 +188,7 @@ fn reject_rename_onto_nonempty_dir(
     destination: Visible,
     path: &[u8],
 ) -> Judged
-    requires { ⌜ isListing (now listing) ≡ true ⌝ }
-    requires { ⌜ isTable (now table) rec ≡ true ⌝ }
+    requires { ⌜ Given (now listing) (now table) rec ⌝ }
     ensures { λ r. ⌜ checkOf r ≡ ifDirectory (visibleKind source) (ifDirectory (visibleKind destination)
         (noVisibleChild 1 (tableIn (now (table .entry)) rec) (treeIn (now (listing .entry))) (now (path .entry)))) ⌝ }
 {
@@ -245,8 +240,7 @@ fn check_types(
     source: &[u8],
     destination: &[u8],
 ) -> Judged
-    requires { ⌜ isListing (now listing) ≡ true ⌝ }
-    requires { ⌜ isTable (now table) rec ≡ true ⌝ }
+    requires { ⌜ Given (now listing) (now table) rec ⌝ }
     ensures { λ r. ⌜ checkOf r ≡ renameTypes (tableIn (now (table .entry)) rec) (treeIn (now (listing .entry)))
         (now (source .entry)) (now (destination .entry)) ⌝ }
 {
@@ -275,8 +269,7 @@ pub fn early_checks(
     source: &[u8],
     destination: &[u8],
 ) -> Judged
-    requires { ⌜ isListing (now listing) ≡ true ⌝ }
-    requires { ⌜ isTable (now table) rec ≡ true ⌝ }
+    requires { ⌜ Given (now listing) (now table) rec ⌝ }
     requires { ⌜ (isPath (now source) ≡ true) × (isPath (now destination) ≡ true) ⌝ }
     ensures { λ r. ⌜ checkOf r ≡ earlyChecks (tableIn (now (table .entry)) rec) (treeIn (now (listing .entry)))
         (now (source .entry)) (now (destination .entry)) ⌝ }

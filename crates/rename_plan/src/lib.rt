@@ -14,6 +14,7 @@ ghost use Rattle.model.specs.Table.{tableIn, isTable};
 ghost use Rattle.model.specs.Checks.{limited};
 ghost use Rattle.model.specs.Rename.{ifDirectory, planned, walkFrom, planAndWalk};
 ghost use Rattle.model.specs.Rename as rename;
+ghost use Rattle.model.specs.Outcome.{Given};
 ghost use Rattle.check_judged.specs.Judged.{checkOf};
 ghost use Rattle.rename_walk.specs.Walked.{walkOf};
 use base_budget::MemoryBudget;
@@ -73,8 +74,7 @@ fn walk_checks(
     source: &[u8],
     budget: MemoryBudget,
 ) -> Judged
-    requires { ⌜ isListing (now listing) ≡ true ⌝ }
-    requires { ⌜ isTable (now table) rec ≡ true ⌝ }
+    requires { ⌜ Given (now listing) (now table) rec ⌝ }
     requires { ⌜ isPath (now source) ≡ true ⌝ }
     ensures { λ r. ⌜ checkOf r ≡ ifDirectory (kind (lookup (treeIn (now (listing .entry)))) (now (source .entry)))
         (rename.walked (length (now (source .entry))) (walkFrom (tableIn (now (table .entry)) rec)
@@ -97,8 +97,7 @@ pub fn plan_checks(
     destination: &[u8],
     limit: u64,
 ) -> Judged
-    requires { ⌜ isListing (now listing) ≡ true ⌝ }
-    requires { ⌜ isTable (now table) rec ≡ true ⌝ }
+    requires { ⌜ Given (now listing) (now table) rec ⌝ }
     requires { ⌜ (isPath (now source) ≡ true) × (isPath (now destination) ≡ true) ⌝ }
     ensures { λ r. ⌜ checkOf r ≡ planAndWalk (limited (rec .«entry_size») limit) (tableIn (now (table .entry)) rec)
         (treeIn (now (listing .entry))) (now (source .entry)) (now (destination .entry)) ⌝ }

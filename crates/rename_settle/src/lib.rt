@@ -7,11 +7,12 @@ ghost use mathlib.Core.Option.{none};
 ghost use lib.ListN.{length};
 ghost use Rattle.model.specs.Path.{isPath};
 ghost use Rattle.model.specs.Map.{lookup};
-ghost use Rattle.model.specs.Tree.{shown, aDirectory, aFile, kind};
+ghost use Rattle.model.specs.Tree.{aDirectory, aFile, kind};
 ghost use Rattle.model.specs.Listing.{treeIn, isListing};
-ghost use Rattle.model.specs.Table.{bodyOf, recordOf, tableIn, isTable};
+ghost use Rattle.model.specs.Table.{bodyOf, recordOf, tableIn};
 ghost use Rattle.model.specs.Checks.{pass, limited};
 ghost use Rattle.model.specs.Rename.{moved};
+ghost use Rattle.model.specs.Outcome.{Given, shownIn};
 ghost use Rattle.rename_checks.specs.Early.{earlyChecks};
 ghost use Rattle.rename_write.specs.Sequence.{topOf, top};
 ghost use Rattle.rename_settle.specs.Settled.{lastChecks, settledOf, settledCheck};
@@ -52,8 +53,7 @@ fn listed_len(listing: &[u8], source: &[u8]) -> u64
 
 // The same, wherever it is carried from: the table's entry comes first.
 fn first_len(listing: &[u8], table: &[u8], rec: Record, source: &[u8]) -> u64
-    requires { ⌜ isListing (now listing) ≡ true ⌝ }
-    requires { ⌜ isTable (now table) rec ≡ true ⌝ }
+    requires { ⌜ Given (now listing) (now table) rec ⌝ }
     ensures { λ r. ⌜ r ≡ length (bodyOf (top (tableIn (now (table .entry)) rec) (treeIn (now (listing .entry)))
         (now (source .entry)))) ⌝ }
 {
@@ -96,11 +96,10 @@ pub fn last_checks<'a>(
     whole: bool,
     limit: u64,
 ) -> Settled
-    requires { ⌜ isListing (now listing) ≡ true ⌝ }
-    requires { ⌜ isTable (now table) rec ≡ true ⌝ }
+    requires { ⌜ Given (now listing) (now table) rec ⌝ }
     requires { ⌜ (isPath (now source) ≡ true) × (isPath (now destination) ≡ true) ⌝ }
     requires { ⌜ earlyChecks (tableIn (now table) rec) (treeIn (now listing)) (now source) (now destination) ≡ pass ⌝ }
-    requires { ⌜ kind (shown (tableIn (now table) rec) (treeIn (now listing))) (now source) ≡ cond whole aDirectory
+    requires { ⌜ kind (shownIn (now listing) (now table) rec) (now source) ≡ cond whole aDirectory
         aFile ⌝ }
     ensures { λ r. ⌜ settledCheck r ≡ lastChecks (limited (rec .«entry_size») limit) (length (now (table .entry)))
         (tableIn (now (table .entry)) rec) (treeIn (now (listing .entry))) (now (source .entry))

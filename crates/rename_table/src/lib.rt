@@ -8,11 +8,12 @@ ghost use lib.ListN.{length, replicate};
 ghost use Rattle.model.specs.Bytes.{every};
 ghost use Rattle.model.specs.Path.{short};
 ghost use Rattle.model.specs.Map.{keys, rekey};
-ghost use Rattle.model.specs.Tree.{shown, aDirectory, aFile, kind};
-ghost use Rattle.model.specs.Listing.{treeIn, isListing};
-ghost use Rattle.model.specs.Table.{encode, padded, tableIn, isTable};
+ghost use Rattle.model.specs.Tree.{aDirectory, aFile, kind};
+ghost use Rattle.model.specs.Listing.{treeIn};
+ghost use Rattle.model.specs.Table.{encode, padded, tableIn};
 ghost use Rattle.model.specs.Checks.{pass};
 ghost use Rattle.model.specs.Rename.{carried, moved};
+ghost use Rattle.model.specs.Outcome.{Given, shownIn};
 ghost use Rattle.rename_checks.specs.Early.{earlyChecks};
 
 // The table anew with what rename moves; `whole` tells whether the source is a directory.
@@ -25,10 +26,9 @@ pub fn write_move(
     destination: &[u8],
     whole: bool,
 )
-    requires { ⌜ isTable (now table) rec ≡ true ⌝ }
-    requires { ⌜ isListing (now listing) ≡ true ⌝ }
+    requires { ⌜ Given (now listing) (now table) rec ⌝ }
     requires { ⌜ earlyChecks (tableIn (now table) rec) (treeIn (now listing)) (now source) (now destination) ≡ pass ⌝ }
-    requires { ⌜ kind (shown (tableIn (now table) rec) (treeIn (now listing))) (now source) ≡ cond whole aDirectory
+    requires { ⌜ kind (shownIn (now listing) (now table) rec) (now source) ≡ cond whole aDirectory
         aFile ⌝ }
     requires { ⌜ every short (keys (rekey (now source) (now destination) (carried (tableIn (now table) rec)
         (treeIn (now listing)) (now source)))) ≡ true ⌝ }

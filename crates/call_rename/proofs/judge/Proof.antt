@@ -37,8 +37,7 @@ early-checks-requires c κs =
     let a = o .args in
     let j = c .before .before .check-forms in
     let r = c .before .is-refused in
-    let g = o .pre in
-    (g .is-listing, (g .is-table, forms-known (a .source .now) (a .destination .now) (checkOf (j .result)) (r .result) (j .ensures) (r .ensures) (c .if1 .left)))
+    (o .pre, forms-known (a .source .now) (a .destination .now) (checkOf (j .result)) (r .result) (j .ensures) (r .ensures) (c .if1 .left))
 
 is-refused-requires-2 : tie.Need-is-refused-requires-2
 is-refused-requires-2 c κs = search needs

@@ -55,7 +55,7 @@ last-checks-requires c κs =
     let e = early l s (a .rec) w x y (a .limit) (o .pre .0) (o .pre .1) (j .result) (j .ensures) g in
     let v = c .before .before .visible-at in
     let d = c .before .is-directory in
-    (o .pre .0 .is-listing, (o .pre .0 .is-table, (k, (e, kind-whole (tableIn s (a .rec)) (treeIn l) x y e (visibleKind (v .result)) (v .ensures) (d .result) (d .ensures)))))
+    (o .pre .0, (k, (e, kind-whole (tableIn s (a .rec)) (treeIn l) x y e (visibleKind (v .result)) (v .ensures) (d .result) (d .ensures))))
 
 enum-known-settled : tie.Need-enum-known-settled
 enum-known-settled c = search needs
@@ -97,7 +97,7 @@ write-move-requires c κs =
     let m = c .before .before .before .before .before .last-checks in
     let f = settled-fits l s (a .rec) w x y (a .limit) (o .pre .0) (o .pre .1) (j .result) (j .ensures) g (m .result) (m .ensures .0) _ (c .before .before .before .settled2 .given .1) in
     let n = kind-whole (tableIn s (a .rec)) (treeIn l) x y e (visibleKind (v .result)) (v .ensures) (d .result) (d .ensures) in
-    (o .pre .0 .is-table, (o .pre .0 .is-listing, (e, (n, (f .0, (f .1, o .pre .1))))))
+    (o .pre .0, (e, (n, (f .0, (f .1, o .pre .1)))))
 
 same-length-3 : tie.Need-same-length-3
 same-length-3 c = search needs

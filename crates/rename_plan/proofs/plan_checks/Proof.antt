@@ -30,7 +30,7 @@ returns c =
     let i = m .before .before .before .before .before in
     let a = i .args in
     let t = tableIn (a .table .now) (a .rec) in
-    let e = charge-is (a .table .now) (a .rec) (i .pre .1 .0) in
+    let e = charge-is (a .table .now) (a .rec) (i .pre .0 .is-table) in
     over-charge (a .rec .«entry_size») (a .limit) t (a .source .now) (a .destination .now) (a .rec .charge) e _ _
     (sym (m .available-memory .ensures) ∙ c .enum-told .given .1)
 
@@ -55,7 +55,7 @@ returns-2 c =
     let i = m .before .before .before .before .before in
     let a = i .args in
     let t = tableIn (a .table .now) (a .rec) in
-    let e = charge-is (a .table .now) (a .rec) (i .pre .1 .0) in
+    let e = charge-is (a .table .now) (a .rec) (i .pre .0 .is-table) in
     over-sum (a .rec .«entry_size») (a .limit) t (a .source .now) (a .destination .now) (a .rec .charge) e
     (p .planned-sum .result) (p .planned-sum .ensures) _ (sym (m .available-memory .ensures) ∙ f .free .given .1) _ _
     (sym (k .shrink .ensures) ∙ c .enum-told2 .given .1)
@@ -75,7 +75,7 @@ returns-3 c =
     let t = tableIn (a .table .now) (a .rec) in
     let l = treeIn (a .listing .now) in
     let x = a .source .now in
-    let e = charge-is (a .table .now) (a .rec) (i .pre .1 .0) in
+    let e = charge-is (a .table .now) (a .rec) (i .pre .0 .is-table) in
     let w = c .walk-checks in
     within (a .rec .«entry_size») (a .limit) t x (a .destination .now) (a .rec .charge) e
     (p .planned-sum .result) (p .planned-sum .ensures) _ (sym (m .available-memory .ensures) ∙ f .free .given .1)

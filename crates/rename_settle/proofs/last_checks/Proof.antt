@@ -22,18 +22,18 @@ projected-move-requires c κs =
     let l = treeIn (a .listing .now) in
     let x = a .source .now in
     let y = a .destination .now in
-    let h = p .1 .1 .1 .0 in
+    let h = p .1 .1 .0 in
     let o = not-roots t l x y h in
     let f = c .first-len in (
-      p .0,
+      p .0 .is-listing,
       (
-        p .1 .0,
+        p .0 .is-table,
         (
-          (o .0, path-short x (p .1 .1 .0 .0)),
+          (o .0, path-short x (p .1 .0 .0)),
           (
-            (o .1, path-short y (p .1 .1 .0 .1)),
+            (o .1, path-short y (p .1 .0 .1)),
             (
-              source-of t l x y h (a .whole) (p .1 .1 .1 .1),
+              source-of t l x y h (a .whole) (p .1 .1 .1),
               (top-length t l x (f .result) (f .ensures), λ s. apart-paths t l x y h (not-same x y s)),
             ),
           ),

@@ -18,20 +18,20 @@ write-ordered-requires c κs =
     let l = treeIn (x .listing .now) in
     let a = x .source .now in
     let b = x .destination .now in
-    let tu = decoded (x .table .now) (x .rec) (p .0) .ascending in
-    let lu = checked (x .listing .now) (p .1 .0) .up in
-    let early = p .1 .1 .0 in
-    let is = p .1 .1 .1 .0 in (
-      p .0,
+    let tu = decoded (x .table .now) (x .rec) (p .0 .is-table) .ascending in
+    let lu = checked (x .listing .now) (p .0 .is-listing) .up in
+    let early = p .1 .0 in
+    let is = p .1 .1 .0 in (
+      p .0 .is-table,
       (
-        p .1 .0,
+        p .0 .is-listing,
         (
-          ordered-movable t l a b (x .whole) tu lu early is (p .1 .1 .1 .1 .0),
+          ordered-movable t l a b (x .whole) tu lu early is (p .1 .1 .1 .0),
           (
             ordered-ascends t l a b (x .whole) tu lu early is,
             (
-              ordered-fits t l a b (x .whole) tu lu early is (length (x .table .now)) (p .1 .1 .1 .1 .1 .0),
-              p .1 .1 .1 .1 .1 .1,
+              ordered-fits t l a b (x .whole) tu lu early is (length (x .table .now)) (p .1 .1 .1 .1 .0),
+              p .1 .1 .1 .1 .1,
             ),
           ),
         ),
@@ -51,7 +51,7 @@ returns c =
     let p = e .pre in
     let w = c .before .before .before .before .write-ordered in (
       ordered-written (tableIn (x .table .now) (x .rec)) (treeIn (x .listing .now)) (x .source .now) (x .destination .now) (x .whole)
-          (decoded (x .table .now) (x .rec) (p .0) .ascending) (checked (x .listing .now) (p .1 .0) .up) (p .1 .1 .0) (p .1 .1 .1 .0)
+          (decoded (x .table .now) (x .rec) (p .0 .is-table) .ascending) (checked (x .listing .now) (p .0 .is-listing) .up) (p .1 .0) (p .1 .1 .0)
           (length (x .table .now)) (w .last .0) (w .ensures .0),
       w .ensures .1,
     )
