@@ -68,7 +68,8 @@ fn reject_link(visible: Visible, which: u64, len: u64) -> Judged
 fn check_destination(listing: &[u8], table: &[u8], rec: Record, path: &[u8]) -> Judged
     requires { ⌜ Given (now listing) (now table) rec ⌝ }
     requires { ⌜ isPath (now path) ≡ true ⌝ }
-    ensures { λ r. ⌜ checkOf r ≡ (parentChecks 1 (shownIn (now (listing .entry)) (now (table .entry)) rec) (now (path .entry)) then notLink 1 (length (now (path .entry)))
+    ensures { λ r. ⌜ checkOf r ≡ (parentChecks 1 (shownIn (now (listing .entry)) (now (table .entry)) rec)
+        (now (path .entry)) then notLink 1 (length (now (path .entry)))
         (kind (shownIn (now (listing .entry)) (now (table .entry)) rec) (now (path .entry)))) ⌝ }
 {
     let parents = check_parents::ensure_parent_exists(listing, table, rec, path, 1);
@@ -111,7 +112,8 @@ fn reject_deleted(entry: OverlayEntry, bytes: u64) -> Judged
 fn check_source(listing: &[u8], table: &[u8], rec: Record, path: &[u8]) -> Judged
     requires { ⌜ Given (now listing) (now table) rec ⌝ }
     requires { ⌜ isPath (now path) ≡ true ⌝ }
-    ensures { λ r. ⌜ checkOf r ≡ (parentChecks 0 (shownIn (now (listing .entry)) (now (table .entry)) rec) (now (path .entry)) then notDeleted (length (now (path .entry)))
+    ensures { λ r. ⌜ checkOf r ≡ (parentChecks 0 (shownIn (now (listing .entry)) (now (table .entry)) rec)
+        (now (path .entry)) then notDeleted (length (now (path .entry)))
         (lookup (tableIn (now (table .entry)) rec) (now (path .entry))) then notLink 0 (length (now (path .entry)))
         (kind (shownIn (now (listing .entry)) (now (table .entry)) rec) (now (path .entry)))) ⌝ }
 {
