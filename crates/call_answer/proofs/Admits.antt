@@ -1,6 +1,6 @@
 -- A call as an outer and an inner function: 1 and 2 refuse and decide, or listing, table and work buffer are as the inner one asks, and the verdict is that of 3 on.
-use mathlib.Core.Path.{_≡_, refl, ap, sym, _∙_}
-use mathlib.Core.Bool.{Bool, true, false, _&&_}
+use mathlib.Core.Path.{_≡_, ap, sym, _∙_}
+use mathlib.Core.Bool.{Bool, true, _&&_}
 use Prim.Native.Nat.{_≤_}
 use lib.Dec.{leb}
 use lib.ListN.{length}
@@ -14,7 +14,8 @@ use Rattle.model.specs.Answer.{toldRefusal}
 use Rattle.model.specs.Outcome.{Store, Given, Request, lent, room, verdict, outcome}
 use Rattle.model.specs.declared.Refusal.{Refusal}
 use Rattle.model.specs.declared.Answer.the-variants.{Refused}
-use Rattle.model.proofs.Orders.{bot}
+use Rattle.model.proofs.Orders.{and-true}
+use Rattle.model.proofs.Invariant.{then-pass, unless-pass}
 use Rattle.check_judged.specs.declared.Judged.{Judged}
 use Rattle.check_judged.specs.declared.Judged.the-variants as judge
 use Rattle.check_judged.specs.Judged.{asCheck, checkOf}
@@ -25,10 +26,10 @@ use Rattle.call_answer.proofs.Settles.{told-so}
 
 -- t whether the table is one, w whether the work buffer is long enough, l whether the listing is one
 all-passed : (t w l : Bool) → pass ≡ (unless 1 (t && w) then unless 2 l) → (t ≡ true) × (w ≡ true) × (l ≡ true)
-all-passed true true true h = (refl, refl, refl)
-all-passed true true false h = absurd (bot (cc))
-all-passed true false l h = absurd (bot (cc))
-all-passed false w l h = absurd (bot (cc))
+all-passed t w l h =
+    let both = then-pass (unless 1 (t && w)) (unless 2 l) (sym h) in
+    let first = and-true t w (unless-pass 1 (t && w) (both .0)) in
+    (first .0, first .1, unless-pass 2 l (both .1))
 
 module _ (listing : Bytes) (q : Request) (s : Store) where
   -- from 3 on

@@ -15,9 +15,9 @@ use Rattle.view_at.specs.declared.Visible.{Visible}
 use Rattle.view_at.specs.Sight.{visibleKind}
 use Rattle.check_judged.specs.declared.Judged.{Judged}
 use Rattle.check_judged.specs.declared.Judged.the-variants as judge
-use Rattle.check_judged.specs.Judged.{asCheck, checkOf, refuses}
+use Rattle.check_judged.specs.Judged.{asCheck, checkOf}
 use Rattle.check_judged.proofs.Checked.{refusal-refuses, refused-stops}
-use Rattle.check_lent.proofs.Firsts.{formed}
+use Rattle.model.proofs.Invariant.{form-is}
 use Rattle.call_mkdir.specs.Step.{afterStep}
 use Rattle.call_mkdir.specs.declared.Step.{Step}
 use Rattle.call_mkdir.specs.declared.Step.the-variants as step
@@ -115,4 +115,4 @@ never-there c x h e = stuck c (h (refuse 1 0 0) ∙ ap (λ (z : Step). afterStep
 
 -- 3 gave j: once it passes, the path is one
 pub path-known : (p : Path) (j : Judged) → checkOf j ≡ form 0 p → j ≡ judge.Pass → isPath p ≡ true
-path-known p j e h = formed 0 p (checkOf j) e (ap (λ (y : Judged). refuses (checkOf y)) h)
+path-known p j e h = form-is 0 p (sym e ∙ ap checkOf h)

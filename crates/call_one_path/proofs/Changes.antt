@@ -20,6 +20,7 @@ use Rattle.model.specs.declared.Answered.{Answered}
 use Rattle.model.specs.declared.Answer.the-variants.{Refused}
 use Rattle.model.proofs.Orders.{bot}
 use Rattle.model.proofs.Maps.{ascends-is, lookup-low}
+use Rattle.model.proofs.Invariant.{then-pass, form-is}
 use Rattle.model.proofs.Codec.{decoded, path-short}
 use Rattle.table_write.specs.Merge.{Written}
 use Rattle.table_insert.specs.declared.Inserted.{Inserted}
@@ -27,9 +28,8 @@ use Rattle.table_insert.specs.Insert.{insertion, ifDone}
 use Rattle.check_judged.specs.declared.Judged.{Judged}
 use Rattle.check_judged.specs.declared.Judged.the-variants as judge
 use Rattle.check_judged.specs.Judged.{checkOf, refuses}
-use Rattle.check_judged.proofs.Checked.{refused-not-passed}
+use Rattle.check_judged.proofs.Checked.{not-refused-passes, refused-not-passed}
 use Rattle.check_judged.proofs.Thens.{ends, goes-on}
-use Rattle.check_lent.proofs.Firsts.{formed}
 use Rattle.check_one_path.specs.Change.{changeChecks}
 use Rattle.check_one_path.specs.declared.Change.{Change}
 use Rattle.check_one_path.specs.declared.Change.the-variants as change
@@ -37,11 +37,6 @@ use Rattle.call_answer.specs.Meets.{requested, stored, last, Meets, answeredOf}
 use Rattle.call_answer.proofs.Settles.{refused-meets, inserted-meets}
 use Rattle.call_answer.proofs.Admits.{given-verdict}
 use Rattle.call_one_path.specs.Called.{callOf, brings, kindPut}
-
--- both of two checks pass
-both-passed : (c d : Check) → pass ≡ (c then d) → (refuses c ≡ false) × (d ≡ pass)
-both-passed pass d h = (refl, sym h)
-both-passed (refuse n w k) d h = absurd (bot (cc))
 
 -- a call with the path p, by its checks from 3 to 10
 module _ (l s : Bytes) (r : Record) (p : Path) (x : Change) where
@@ -64,8 +59,8 @@ module _ (l s : Bytes) (r : Record) (p : Path) (x : Change) where
   -- so a path that passes is a key
   may : Given l s r → (c : Check) → c ≡ judged → c ≡ pass → (before [] p ≡ true) × (length p ≤ 512)
   may g c e h =
-      let k = both-passed (form 0 p) (changeChecks x (tableIn s r) (treeIn l) p) (sym h ∙ e) in
-      (not-root p (k .1), path-short p (formed 0 p (form 0 p) refl (k .0)))
+      let k = then-pass (form 0 p) (changeChecks x (tableIn s r) (treeIn l) p) (sym e ∙ h) in
+      (not-root p (k .1), path-short p (form-is 0 p (k .0)))
     where
       not-root : (p : Path) → changeChecks x (tableIn s r) (treeIn l) p ≡ pass → before [] p ≡ true
       not-root [] e = absurd (refused-not-passed (changeChecks x (tableIn s r) (treeIn l) []) (root g) e)
@@ -74,7 +69,7 @@ module _ (l s : Bytes) (r : Record) (p : Path) (x : Change) where
   -- 3 gave j, and b is whether that refuses
   module _ (g : Given l s r) (j : Check) (b : Bool) (e : j ≡ form 0 p) (i : b ≡ refuses j) where
     pub is-path : b ≡ false → isPath p ≡ true
-    is-path h = formed 0 p j e (sym i ∙ h)
+    is-path h = form-is 0 p (sym e ∙ not-refused-passes j (sym i ∙ h))
 
     pub by-form : b ≡ true → (j ≡ judged) × (j ≡ pass → (before [] p ≡ true) × (length p ≤ 512))
     by-form h = let k = ends (form 0 p) j b e i (changeChecks x (tableIn s r) (treeIn l) p) h in (k, may g j k)

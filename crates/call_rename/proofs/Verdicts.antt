@@ -19,13 +19,11 @@ use Rattle.model.specs.Outcome.{Given, Request, Outcome, room, verdict, settle,
 use Rattle.model.specs.declared.Record.{Record}
 use Rattle.model.specs.declared.Refusal.{Refusal}
 use Rattle.model.specs.declared.Answer.the-variants.{Accepted, Refused}
-use Rattle.model.proofs.Orders.{bot}
-use Rattle.model.proofs.Invariant.{then-pass}
+use Rattle.model.proofs.Invariant.{then-pass, unless-pass, form-is}
 use Rattle.check_judged.specs.declared.Judged.{Judged}
 use Rattle.check_judged.specs.declared.Judged.the-variants as judge
 use Rattle.check_judged.specs.Judged.{asCheck, checkOf, refuses}
-use Rattle.check_lent.proofs.Firsts.{formed}
-use Rattle.check_judged.proofs.Checked.{refusal-refuses, refused-stops}
+use Rattle.check_judged.proofs.Checked.{not-refused-passes, refusal-refuses, refused-stops}
 use Rattle.call_answer.specs.Meets.{requested, stored, Meets}
 use Rattle.call_answer.proofs.Settles.{told-so}
 use Rattle.call_answer.proofs.Admits.{given-verdict}
@@ -54,22 +52,18 @@ regroup pass pass pass pass e f = refl
 pub both-paths : (a b : Path) → forms (rename a b) ≡ pass → (isPath a ≡ true) × (isPath b ≡ true)
 both-paths a b h =
     let e = then-pass (form 0 a) (form 1 b) h in
-    (formed 0 a (form 0 a) refl (ap refuses (e .0)), formed 1 b (form 1 b) refl (ap refuses (e .1)))
+    (form-is 0 a (e .0), form-is 1 b (e .1))
 
 -- 3 gave the check j, and y is whether that refuses
 pub forms-known : (a b : Path) (j : Check) (y : Bool) → j ≡ forms (rename a b) → y ≡ refuses j → y ≡ false → (isPath a ≡ true) × (isPath b ≡ true)
-forms-known a b j y e i h = both-paths a b (sym e ∙ passes j (sym i ∙ h))
-  where
-    passes : (c : Check) → refuses c ≡ false → c ≡ pass
-    passes pass g = refl
-    passes (refuse m w k) g = absurd (bot (cc))
+forms-known a b j y e i h = both-paths a b (sym e ∙ not-refused-passes j (sym i ∙ h))
 
 -- 11, 12 and 13 passed: the keys are short, and there is room
 all-three : (c k u : Bool) → (unless 11 c then unless 12 k then unless 13 u) ≡ pass → (k ≡ true) × (u ≡ true)
-all-three true true true h = (refl, refl)
-all-three true true false h = absurd (bot (cc))
-all-three true false u h = absurd (bot (cc))
-all-three false k u h = absurd (bot (cc))
+all-three c k u h =
+    let charge = then-pass (unless 11 c) (unless 12 k then unless 13 u) h in
+    let last = then-pass (unless 12 k) (unless 13 u) (charge .1) in
+    (unless-pass 12 k (last .0), unless-pass 13 u (last .1))
 
 -- rename behind 1 and 2, with the work buffer w
 module _ (l s : Bytes) (r : Record) (w : Bytes) (a b : Path) (limit : ℕ) (given : Given l s r) (long : length s ≤ length w) where

@@ -32,5 +32,10 @@ pub passed-on : (c d : Check) → refuses c ≡ false → (c then d) ≡ d
 passed-on pass d h = refl
 passed-on (refuse n w k) d h = absurd (bot (cc))
 
+-- what does not refuse passes
+pub not-refused-passes : (c : Check) → refuses c ≡ false → c ≡ pass
+not-refused-passes pass h = refl
+not-refused-passes (refuse n w k) h = absurd (bot (cc))
+
 pub refused-not-passed : (c : Check) → refuses c ≡ true → c ≡ pass → ⊥
 refused-not-passed c h e = bot (cc)

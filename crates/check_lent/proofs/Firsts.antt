@@ -8,7 +8,7 @@ use Rattle.model.specs.Bytes.{Bytes}
 use Rattle.model.specs.Path.{Path, isPath}
 use Rattle.model.specs.Listing.{isListing}
 use Rattle.model.specs.Table.{isTable}
-use Rattle.model.specs.Checks.{Check, pass, refuse, _then_, unless, form}
+use Rattle.model.specs.Checks.{Check, pass, refuse, _then_, unless}
 use Rattle.model.specs.declared.Record.{Record}
 use Rattle.model.proofs.Orders.{bot}
 use Rattle.check_judged.specs.declared.Judged.{Judged}
@@ -30,11 +30,3 @@ module _ (listing table : Bytes) (r : Record) (n : ℕ) (path : Path) (j : Judge
     (e : checkOf j ≡ firsts (isTable table r) (leb (length table) n) (isListing listing) (isPath path)) (i : b ≡ refuses (checkOf j)) where
   pub known : b ≡ false → (isTable table r ≡ true) × (leb (length table) n ≡ true) × (isListing listing ≡ true) × (isPath path ≡ true)
   known h = all-four (isTable table r) (leb (length table) n) (isListing listing) (isPath path) (ap refuses (sym e) ∙ sym i ∙ h)
-
--- 3 for the path w gave c: where that does not refuse, the path is one
-pub formed : (w : ℕ) (p : Path) (c : Check) → c ≡ form w p → refuses c ≡ false → isPath p ≡ true
-formed w p c e h = passed (isPath p) (ap refuses (sym e) ∙ h)
-  where
-    passed : (b : Bool) → refuses (cond b pass (refuse 3 w 0)) ≡ false → b ≡ true
-    passed true h = refl
-    passed false h = absurd (bot (cc))

@@ -26,7 +26,7 @@ module _ (listing : Bytes) (E : ℕ) where
 
     -- #112: "A table that our calls made over that listing passes."
     pub built-rules : (x : State) → Built listing E x → isListing listing ≡ true → Rules (entriesOf (x .store)) (treeIn listing)
-    built-rules x b = reached-rules listing bytes E x (built-reached x b)
+    built-rules x b = reached-rules listing E x (built-reached x b)
 
     -- demand 3 and POSIX from a built table on
     pub built-runs : (x : State) → Built listing E x → (calls : List Request) → WordedCalls calls → RunFrom listing x calls

@@ -20,7 +20,7 @@ use Rattle.model.specs.Tree.{Kind, nothing, aDirectory, aFile, aLink, ki
 use Rattle.model.specs.Listing.{ListingRecord, recordAt, recordEnd, recordCount, filled, recordsFrom, records, headed, ruled, nodeOf}
 use Rattle.model.specs.Listing.{treeFrom, treeIn, placed, formedRecord, isListing}
 use Rattle.model.specs.Table.{formedBody, formedEntry}
-use Rattle.model.specs.Checks.{pass, unless, form, writeChecks, missing, makes, unlinkChecks, notRoot, rmdirChecks}
+use Rattle.model.specs.Checks.{pass, form, writeChecks, missing, makes, unlinkChecks, notRoot, rmdirChecks}
 use Rattle.model.specs.Checks.{limited, charged}
 use Rattle.model.specs.Rename.{asEntry, uncovered, along, carried, moved, renameChecks}
 use Rattle.model.specs.Calls.{Call, write, mkdir, unlink, rmdir, rename, changed, forms, rules}
@@ -28,7 +28,7 @@ use Rattle.model.proofs.Orders.{bot, yea, nay, test, and-true, is-none,
 use Rattle.model.proofs.Orders.{Lt, mem, mem-ancestors, rest-is}
 use Rattle.model.proofs.Maps.{Above, Ascending, lookup-low, ascends-is, is-ascends, ascending-put, ascending-puts}
 use Rattle.model.proofs.Maps.{orElse, mapO, lookup-put, lookup-puts, lookup-each, lookup-keys, lookup-mapped, lookup-only, lookup-rekey}
-use Rattle.model.proofs.Invariant.{Closed, then-pass}
+use Rattle.model.proofs.Invariant.{Closed, then-pass, unless-pass, form-is}
 use Rattle.model.proofs.Moves.{Held}
 use Rattle.model.proofs.Passed.{rename-passed}
 use Rattle.model.specs.Runs.{Word, WordedCall}
@@ -292,9 +292,6 @@ fine-puts xs t f g = record {
   ];
 }
 
-form-is : (w : ℕ) (p : Path) → form w p ≡ pass → isPath p ≡ true
-form-is w p h = elim (test (isPath p)) [ yea e ↦ e | nay e ↦ absurd (bot (cc)) ]
-
 -- the directories that mkdir makes are the path or above it, and nothing was there
 missing-mem : (g : Path → Kind) (ks : List Path) (q : Path) → mem q (missing g ks) ≡ true → (mem q ks ≡ true) × (isNothing (g q) ≡ true)
 missing-mem g [] q h = (cc, cc)
@@ -408,12 +405,8 @@ module _ (E limit : ℕ) (t : Table) (l : Tree) (a b : Path) where
   rename-says h = let p = rename-passed (limited E limit) t l a b h in (
     root-refused 0 a (p .paths .source-not-root),
     root-refused 1 b (p .paths .destination-not-root),
-    unless-true 12 (every short (keys (rekey a b (carried t l a)))) (p .memory .keys-fit),
+    unless-pass 12 (every short (keys (rekey a b (carried t l a)))) (p .memory .keys-fit),
   )
-    where
-      unless-true : (n : ℕ) (x : Bool) → unless n x ≡ pass → x ≡ true
-      unless-true n true g = refl
-      unless-true n false g = cc
 
 -- an accepted call keeps the form; rename's new keys are short by 12, which is asked only where memory is limited
 pub changed-fine : (t : Table) (l : Tree) (c : Call) (E limit : ℕ) → FineTable t → Listing l → WordedCall c

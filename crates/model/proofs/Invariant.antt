@@ -5,10 +5,10 @@ use mathlib.Core.Bool.{Bool, true, false, cond}
 use mathlib.Core.Option.{Option, none, some}
 use Prim.Native.Nat.{ℕ}
 use lib.Dec.{eqb}
-use Rattle.model.specs.Path.{Path, below, ancestors}
+use Rattle.model.specs.Path.{Path, isPath, below, ancestors}
 use Rattle.model.specs.Map.{lookup, put}
 use Rattle.model.specs.Tree.{Body, listed, Node, dir, file, link, Entry, own, reference, directory, deleted, Table, Tree, View, view, over, shown, Kind, nothing, aDirectory, aFile, aLink, kindOf, kind}
-use Rattle.model.specs.Checks.{Check, pass, refuse, _then_, parentAt, parentsIn}
+use Rattle.model.specs.Checks.{Check, pass, refuse, _then_, unless, form, parentAt, parentsIn}
 use Rattle.model.proofs.Orders.{split, Split, below-irrefl, eqb-eq, eqb-true, same-no, and-true, bot, is-none, is-some, opt}
 use Rattle.model.proofs.Maps.{upd, lookup-put, orElse}
 
@@ -71,6 +71,18 @@ then-pass (refuse k w n) b h = (cc, cc)
 -- two checks that pass, one after the other
 pub then-both : (a b : Check) → a ≡ pass → b ≡ pass → (a then b) ≡ pass
 then-both a b h k = cc
+
+-- what it says that a test passed, and that a path was found in form
+pub unless-pass : (n : ℕ) (b : Bool) → unless n b ≡ pass → b ≡ true
+unless-pass n true h = refl
+unless-pass n false h = cc
+
+pub form-is : (w : ℕ) (p : Path) → form w p ≡ pass → isPath p ≡ true
+form-is w p h = go (isPath p) h
+  where
+    go : (b : Bool) → cond b pass (refuse 3 w 0) ≡ pass → b ≡ true
+    go true h = refl
+    go false h = cc
 
 parent-dir : (w n : ℕ) (k : Kind) → parentAt w n k ≡ pass → k ≡ aDirectory
 parent-dir w n nothing h = cc

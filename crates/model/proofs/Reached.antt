@@ -25,7 +25,7 @@ use Rattle.model.specs.Runs.{AcceptedByRules, RefusedWithCause, LeavesOt
 use Rattle.model.proofs.Orders.{bot}
 use Rattle.model.proofs.Words.{IsBytes}
 use Rattle.model.proofs.Codec.{decoded, encoded, opened-table}
-use Rattle.model.proofs.Invariant.{then-pass}
+use Rattle.model.proofs.Invariant.{then-pass, unless-pass}
 use Rattle.model.proofs.Agree.{Sound, sound-empty, accepts, allows, keeps, Caused, passed, because}
 use Rattle.model.proofs.Effects.{stays, in-limit, posix}
 use Rattle.model.proofs.Shapes.{not-refused, untouched}
@@ -60,10 +60,6 @@ module _ (listing : Bytes) (E : ℕ) where
     pub form : forms (q .call) ≡ pass
     pub rule : rules (limited (s .rec .«entry_size») (q .limit)) (entriesOf s) (treeIn listing) (q .call) ≡ pass
     pub fits : length (encode (tableAfter listing q s)) ≤ length (s .table)
-
-  unless-pass : (n : ℕ) (b : Bool) → unless n b ≡ pass → b ≡ true
-  unless-pass n true h = refl
-  unless-pass n false h = cc
 
   both : (b : Bool) → b ≡ true → b ≡ false → ⊥
   both b h g = bot (cc)

@@ -63,6 +63,10 @@ words-read s b (suc n) at = (
   words-read s b n (entryEnd s at),
 )
 
+-- the table of a reached state has the rules
+pub reached-rules : (listing : Bytes) (E : ℕ) (x : State) → Reached listing E x → isListing listing ≡ true → Rules (entriesOf (x .store)) (treeIn listing)
+reached-rules listing E x r h = inv-rules (entriesOf (x .store)) (treeIn listing) (r .sound h .inv)
+
 module _ (listing : Bytes) (bytes : IsBytes listing) where
   -- from any reached state
   pub run-from : (E : ℕ) (x : State) → Reached listing E x → (calls : List Request) → WordedCalls calls → RunFrom listing x calls
@@ -78,10 +82,6 @@ module _ (listing : Bytes) (bytes : IsBytes listing) where
           same-tree = λ h p n. ap (λ (f : View). f p) (end .sound h .tree);
         };
       }
-
-  -- there the table has the rules
-  pub reached-rules : (E : ℕ) (x : State) → Reached listing E x → isListing listing ≡ true → Rules (entriesOf (x .store)) (treeIn listing)
-  reached-rules E x r h = inv-rules (entriesOf (x .store)) (treeIn listing) (r .sound h .inv)
 
   -- a table in form that keeps the rules over its listing is such a state, with the tree that it shows
   pub reached-resume : (s : Store) → IsBytes (s .table) → isTable (s .table) (s .rec) ≡ true
@@ -109,5 +109,5 @@ module _ (listing : Bytes) (bytes : IsBytes listing) where
 
     -- and the table that they leave passes again
     pub rules-after : isListing listing ≡ true → Rules (entriesOf (after listing calls (resume listing s) .store)) (treeIn listing)
-    rules-after = reached-rules (s .rec .«entry_size») (after listing calls (resume listing s))
+    rules-after = reached-rules listing (s .rec .«entry_size») (after listing calls (resume listing s))
         (reached-after listing (s .rec .«entry_size») bytes calls (resume listing s) words (reached-resume s b h r))

@@ -153,7 +153,9 @@ pub record Demand3 (listing : Bytes) (start : State) (calls : List Request) : Ty
 -- Demand 3 and POSIX from any state on: what a table, its record and its plain tree have in common,
 pub record Agrees (listing : Bytes) (E : ℕ) (x : State) : Type 0 where
   pub well-formed : isTable (x .store .table) (x .store .rec) ≡ true
+  -- "the charge equals the sum worked out afresh from the entries"
   pub charge-afresh : x .store .rec .charge ≡ charge E (entriesOf (x .store))
+  -- "the visible tree equals document 01's plain tree", "at every path but the root"
   pub same-tree : isListing listing ≡ true → (p : Path) → (p ≡ [] → ⊥)
       → shown (entriesOf (x .store)) (treeIn listing) p ≡ lookup (x .plain) p
 

@@ -18,7 +18,7 @@ use Rattle.model.specs.Answer.{accepted, refused}
 use Rattle.model.specs.Outcome.{Store, Request, lent, room, verdict, settle, outcome, answered, ask, opened}
 use Rattle.model.proofs.Orders.{bot, yea, nay, test, and-true}
 use Rattle.model.proofs.Codec.{decoded, path-short}
-use Rattle.model.proofs.Invariant.{then-pass}
+use Rattle.model.proofs.Invariant.{then-pass, form-is}
 use Rattle.model.proofs.Rules.{below-length}
 use Rattle.model.proofs.Shapes.{Names, written, made, unlinked, removed, source, destination, Shaped, table, listing, malformed, at-path, at-ancestor, below-source, limit, key-too-long, no-room, shaped}
 use Rattle.model.proofs.Shapes.{bad-table-refused, bad-listing-refused, bad-path-refused}
@@ -46,7 +46,7 @@ names-few (source a b) = omega arith
 names-few (destination a b) = omega arith
 
 formed : (w : ℕ) (p : Path) → form w p ≡ pass → length p ≤ 512
-formed w p h = elim (test (isPath p)) [ yea e ↦ path-short p e | nay e ↦ absurd (bot (cc)) ]
+formed w p h = path-short p (form-is w p h)
 
 names-short : {c : Call} {w : ℕ} {p : Path} → forms c ≡ pass → Names c w p → length p ≤ 512
 names-short h (written p m d) = formed 0 p h
