@@ -8,9 +8,9 @@ use Rattle.model.specs.Bytes.{Bytes}
 use Rattle.model.specs.Listing.{isListing, treeIn}
 use Rattle.model.specs.Outcome.{Request}
 use Rattle.model.specs.Rules.{Rules}
-use Rattle.model.specs.Runs.{State, step, after, entriesOf, WordedCalls, Built, by-opening, by-call, RunFrom}
+use Rattle.model.specs.Runs.{State, step, after, entriesOf, WordedCalls, Built, by-opening, by-call, by-reading, RunFrom}
 use Rattle.model.proofs.Words.{IsBytes}
-use Rattle.model.proofs.Reached.{Reached, opening-sized, reached-begin, reached-step}
+use Rattle.model.proofs.Reached.{Reached, opening-sized, reached-begin, reached-step, reached-moved}
 use Rattle.model.proofs.Resumed.{run-from, reached-rules}
 
 module _ (listing : Bytes) (E : ℕ) where
@@ -23,6 +23,7 @@ module _ (listing : Bytes) (E : ℕ) where
     pub built-reached : (x : State) → Built listing E x → Reached listing E x
     built-reached _ (by-opening buffer v h) = reached-begin listing E bytes buffer (opening-sized E buffer v h)
     built-reached _ (by-call x q w b) = reached-step listing E bytes q x w (built-reached x b)
+    built-reached _ (by-reading x n u m b) = reached-moved listing E n x u m (built-reached x b)
 
     -- #112: "A table that our calls made over that listing passes."
     pub built-rules : (x : State) → Built listing E x → isListing listing ≡ true → Rules (entriesOf (x .store)) (treeIn listing)

@@ -7,12 +7,13 @@ use mathlib.Core.Bool.{Bool, true, false, cond, _&&_}
 use Prim.Native.Nat.{ℕ, _≤_}
 use lib.Dec.{leb}
 use lib.ListN.{length, replicate}
-use borrow.Author.Tests.{leb-true, leb-false}
+use borrow.Author.Tests.{leb-true, leb-false, le-leb}
 use Rattle.model.specs.Bytes.{Bytes}
 use Rattle.model.specs.Map.{lookup}
 use Rattle.model.specs.Tree.{Table, shown}
 use Rattle.model.specs.Listing.{isListing, treeIn}
-use Rattle.model.specs.Table.{encode, padded, charge, recordOf, sized, isTable}
+use Rattle.model.specs.Table.{encode, padded, charge, recordOf, sized, isTable, tableIn}
+use Rattle.model.specs.declared.Record.{Record}
 use Rattle.model.specs.Checks.{Check, pass, refuse, _then_, unless, limited, unlimited}
 use Rattle.model.specs.Calls.{forms, rules, valueOf}
 use Rattle.model.specs.Answer.{accepted, refused}
@@ -20,9 +21,9 @@ use Rattle.model.specs.Outcome.{Store, Request, tableAfter, lent, room, 
 use Rattle.model.specs.Plain.{plainEffect}
 use Rattle.model.specs.Cause.{Cause, short-work, malformed-listing, exceeds, no-room}
 use Rattle.model.specs.Posix.{Posix}
-use Rattle.model.specs.Runs.{State, fed, step, after, begin, WordedCall, WordedCalls, Throughout, entriesOf, keptBytes}
+use Rattle.model.specs.Runs.{State, fed, step, after, begin, movedTo, WordedCall, WordedCalls, Throughout, entriesOf, keptBytes}
 use Rattle.model.specs.Runs.{AcceptedByRules, RefusedWithCause, LeavesOthers, WithinLimit, DoesAsPosix, DoesAsSaid}
-use Rattle.model.proofs.Orders.{bot}
+use Rattle.model.proofs.Orders.{bot, and-true}
 use Rattle.model.proofs.Words.{IsBytes}
 use Rattle.model.proofs.Codec.{decoded, encoded, opened-table}
 use Rattle.model.proofs.Invariant.{then-pass, unless-pass}
@@ -81,6 +82,25 @@ module _ (listing : Bytes) (E : ℕ) where
         form = c .0;
         rule = d .0;
         fits = leb-true (length (encode (tableAfter listing q s))) (length (s .table)) (unless-pass 13 (room listing q s) (d .1));
+      }
+
+  -- the same entries and record in another buffer that they fit
+  pub reached-moved : (n : ℕ) (x : State) → x .store .rec .used ≤ n → n ≤ 16777216 → Reached x → Reached (movedTo n x)
+  reached-moved n x u m r =
+      let s = x .store in
+      let t : Table = entriesOf s in
+      let i = fine-is t (r .fine) in
+      let d = decoded (s .table) (s .rec) (r .table) in
+      let l : length (encode t) ≤ n = subst (λ (q : Record). q .used ≤ n) (d .rec) u in
+      let z = and-true (leb (s .rec .«entry_size») 4096) (leb (length (s .table)) 16777216) (d .size) in
+      let e = encoded (s .rec .«entry_size») n t (i .0) (i .1) (i .2) l (rw (z .0, le-leb n 16777216 m)) in
+      let read : tableIn (padded n (encode t)) (s .rec) ≡ t =
+      ap (tableIn (padded n (encode t))) (d .rec) ∙ e .0 in
+      record {
+        table = ap (isTable (padded n (encode t))) (d .rec) ∙ e .1;
+        size-kept = r .size-kept;
+        fine = subst⁻¹ FineTable read (r .fine);
+        sound = λ h. subst⁻¹ (λ (u : Table). Sound u (treeIn listing) (x .plain)) read (r .sound h);
       }
 
   -- the state after a call with a given verdict

@@ -10,7 +10,7 @@ use Rattle.model.specs.Path.{Path, below}
 use Rattle.model.specs.Map.{lookup}
 use Rattle.model.specs.Tree.{Entry, Table, Tree, View, shown, kind, isNothing}
 use Rattle.model.specs.Listing.{isListing, treeIn}
-use Rattle.model.specs.Table.{entryBytes, charge, isTable, tableIn}
+use Rattle.model.specs.Table.{entryBytes, encode, padded, charge, isTable, tableIn}
 use Rattle.model.specs.Checks.{pass}
 use Rattle.model.specs.Calls.{Call, write, mkdir, unlink, rmdir, rename}
 use Rattle.model.specs.Answer.{Reply, accepted, refused}
@@ -62,11 +62,20 @@ abbrev pub WordedCalls : List Request → Type 0
 WordedCalls [] = Unit {0}
 WordedCalls (q ∷ qs) = WordedCall (q .call) × WordedCalls qs
 
--- #108, #111: "tables that our calls built": what an accepted opening gave, and what a call, accepted or refused, left
--- of such a table
+-- the same entries and record in a table buffer of n bytes, beside the same plain tree
+abbrev pub movedTo : ℕ → State → State
+movedTo n x = record {
+  store = record { table = padded n (encode (tableIn (x .store .table) (x .store .rec))); rec = x .store .rec };
+  plain = x .plain;
+}
+
+-- #108, #111: "tables that our calls built": what an accepted opening gave, what a call, accepted or refused, left of
+-- such a table, and (#101) such a table written to a file and read again, into a buffer that it fits
 pub data Built (listing : Bytes) (E : ℕ) : State → Type 0 where
   by-opening : (buffer : Bytes) (v : ℕ) → opened E buffer .reply ≡ accepted v → Built listing E (begin listing E buffer)
   by-call : (x : State) (q : Request) → WordedCall (q .call) → Built listing E x → Built listing E (step listing q x)
+  by-reading : (x : State) (n : ℕ) → x .store .rec .used ≤ n → n ≤ 16777216 → Built listing E x
+      → Built listing E (movedTo n x)
 
 -- of every call of the list, with the state that it meets
 abbrev pub Throughout : (State → Request → Type 0) → Bytes → State → List Request → Type 0
