@@ -1,8 +1,8 @@
--- What is packed of a reply, and when its parts fit; the record stored where a call is accepted; a run by its case.
+-- What is packed of a reply, and when its parts fit; the record stored where a call is accepted; a run, a writing and a reading by their cases.
 use mathlib.Core.Path.{_≡_, refl, ap, sym, _∙_, subst}
 use mathlib.Core.Bool.{Bool, true, false}
 use mathlib.Core.List.{List, [], _∷_}
-use Prim.Native.Nat.{ℕ}
+use Prim.Native.Nat.{ℕ, _*_, _<_}
 use native.Mathlib.Omega.{arith}
 use lib.ListN.{length, set}
 use Rattle.model.specs.Answer.{Reply, accepted, refused, told, toldRefusal, toldFinding}
@@ -16,7 +16,11 @@ use Rattle.call_answer.proofs.Settles.{told-as}
 use Rattle.call_values.specs.declared.Row.{Row}
 use Rattle.call_values.specs.Values.{rowOf}
 use Rattle.run_calls.specs.declared.RanNew.{RanNew}
-use Rattle.overlay_packed.specs.Packed.{packed, Fits, ifAccepted, ranNumber, ranNumbers}
+use Rattle.kept_file.specs.Kept.{toldWriting, toldReading, toldContent}
+use Rattle.kept_file.specs.declared.Writing.{Writing}
+use Rattle.kept_file.specs.declared.Writing.the-variants as writing
+use Rattle.kept_file.specs.declared.Reading.{Reading}
+use Rattle.overlay_packed.specs.Packed.{packed, Fits, ifAccepted, ranNumber, ranNumbers, contentNumbers, contentPlace}
 
 -- a reply's row fits where the reply does, and is packed as the reply is
 pub row-fits : (a : Reply) (w : Row) → w ≡ rowOf a → Fits a → Fits (refused (w .number) (w .path) (w .len))
@@ -61,3 +65,26 @@ four-stored (x ∷ y ∷ []) h a b c d = absurd (omega arith)
 four-stored (x ∷ y ∷ z ∷ []) h a b c d = absurd (omega arith)
 four-stored (x ∷ y ∷ z ∷ u ∷ []) h a b c d = refl
 four-stored (x ∷ y ∷ z ∷ u ∷ v ∷ s) h a b c d = absurd (omega arith)
+
+-- two numbers
+pub two-stored : (s : List ℕ) → length s ≡ 2 → (a b : ℕ) → set (set s 0 a) 1 b ≡ a ∷ b ∷ []
+two-stored [] h a b = absurd (omega arith)
+two-stored (x ∷ []) h a b = absurd (omega arith)
+two-stored (x ∷ y ∷ []) h a b = refl
+two-stored (x ∷ y ∷ z ∷ s) h a b = absurd (omega arith)
+
+-- a writing that is done, with a file of n bytes
+module _ (w : Writing) (n : ℕ) (e : w ≡ writing.Done n) where
+  pub writing-fits : Fits (toldWriting w) → n < 0x1_0000_0000_0000
+  writing-fits h = subst (λ (x : Writing). Fits (toldWriting x)) e h
+
+  pub writing-packed : 65536 * n ≡ packed (toldWriting w)
+  writing-packed = sym (ap (λ (x : Writing). packed (toldWriting x)) e)
+
+-- a reading that is the case b, where the numbers of record and place are now x and y
+pub read-stored : (a b : Reading) → a ≡ b → (m p x y : List ℕ) → x ≡ contentNumbers (toldContent b) m → y ≡ contentPlace (toldContent b) p
+    → (packed (toldReading b) ≡ packed (toldReading a)) × ((x ≡ contentNumbers (toldContent a) m) × (y ≡ contentPlace (toldContent a) p))
+read-stored a b e m p x y f g = (
+  sym (ap (λ (r : Reading). packed (toldReading r)) e),
+  (f ∙ sym (ap (λ (r : Reading). contentNumbers (toldContent r) m) e), g ∙ sym (ap (λ (r : Reading). contentPlace (toldContent r) p) e)),
+)

@@ -1,9 +1,11 @@
 -- An answer in one number, and a record as four numbers.
 use mathlib.Core.List.{List, [], _∷_}
+use mathlib.Core.Option.{Option, none, some}
 use Prim.Native.Nat.{ℕ, _+_, _*_, _<_}
 use lib.ListN.{getD}
 use Rattle.model.specs.Answer.{Reply, accepted, refused}
 use Rattle.model.specs.declared.Record.{Record}
+use Rattle.kept_file.specs.declared.Content.{Content}
 use Rattle.run_calls.specs.declared.RanNew.{RanNew}
 use Rattle.run_calls.specs.declared.RanNew.the-variants as new
 
@@ -45,3 +47,17 @@ ranNumbers (new.Done r) m s = numbers r
 ranNumbers new.MalformedTable m s = s
 ranNumbers new.MalformedScript m s = m
 ranNumbers new.ShortReport m s = m
+
+-- where the listing stands in a kept file, and its length: two numbers
+abbrev pub placeOf : Content → List ℕ
+placeOf c = c .«listing_start» ∷ c .«listing_len» ∷ []
+
+-- the four numbers of the record and the two of the place after a reading: of what the file holds; else s, what they
+-- were
+abbrev pub contentNumbers : Option Content → List ℕ → List ℕ
+contentNumbers none s = s
+contentNumbers (some c) s = numbers (c .«record»)
+
+abbrev pub contentPlace : Option Content → List ℕ → List ℕ
+contentPlace none s = s
+contentPlace (some c) s = placeOf c

@@ -4,9 +4,13 @@ ghost use mathlib.Core.Path.{_≡_};
 ghost use mathlib.Core.Bool.{true, false};
 ghost use lib.ListN.{length};
 ghost use Rattle.model.specs.Answer.{refused, told, toldFinding};
+ghost use Rattle.kept_file.specs.Kept.{toldWriting, toldReading, toldContent};
 ghost use Rattle.overlay_packed.specs.Packed.{packed, Fits, ifAccepted, numbers, recordIn};
-ghost use Rattle.overlay_packed.specs.Packed.{ranNumber, ranNumbers};
+ghost use Rattle.overlay_packed.specs.Packed.{ranNumber, ranNumbers, placeOf, contentNumbers, contentPlace};
 use call_values::Row;
+use kept_file::Content;
+use kept_file::Reading;
+use kept_file::Writing;
 use model::Answer;
 use model::Answered;
 use model::Finding;
@@ -21,6 +25,17 @@ const VALUE_UNIT: u64 = 65_536;
 
 // Document 01's 1, packed: also the answer where a record is not four numbers.
 pub const MALFORMED_TABLE: u64 = 1;
+
+// The other numbers of the writer and the reader of kept files, packed.
+const MALFORMED_LISTING: u64 = 2;
+
+const NO_ROOM: u64 = 13;
+
+const NOT_KEPT: u64 = 14;
+
+const DAMAGED: u64 = 15;
+
+const OTHER_ENTRY_SIZE: u64 = 16;
 
 // What a run answers besides where it is not done. No call answers one of these, and later numbers of calls come from
 // below.
@@ -127,5 +142,50 @@ pub fn store_and_pack_run(rec: &mut [u64], ran: RanNew, first: Record) -> u64
             store(rec, first);
             return SHORT_REPORT;
         }
+    }
+}
+
+// A writing's answer in one number.
+pub fn pack_writing(writing: Writing) -> u64
+    requires { ⌜ Fits (toldWriting writing) ⌝ }
+    ensures { λ r. ⌜ r ≡ packed (toldWriting writing) ⌝ }
+{
+    match writing {
+        Writing::Done(len) => return VALUE_UNIT * len,
+        Writing::MalformedTable => return MALFORMED_TABLE,
+        Writing::MalformedListing => return MALFORMED_LISTING,
+        Writing::OtherEntrySize => return OTHER_ENTRY_SIZE,
+        Writing::NoRoom => return NO_ROOM,
+    }
+}
+
+// What a file holds, in four numbers and two.
+fn store_content(rec: &mut [u64], place: &mut [u64], content: Content)
+    requires { ⌜ (length (now rec) ≡ 4) × (length (now place) ≡ 2) ⌝ }
+    ensures { λ _. ⌜ now (rec .exit) ≡ numbers (content .«record») ⌝ }
+    ensures { λ _. ⌜ now (place .exit) ≡ placeOf content ⌝ }
+{
+    store(rec, content.record);
+    place[0] = content.listing_start as u64;
+    place[1] = content.listing_len as u64;
+}
+
+// A reading's answer in one number. The record and the listing's place are stored where the reading is accepted, and
+// nowhere else.
+pub fn store_and_pack_reading(rec: &mut [u64], place: &mut [u64], reading: Reading) -> u64
+    requires { ⌜ (length (now rec) ≡ 4) × (length (now place) ≡ 2) ⌝ }
+    ensures { λ r. ⌜ r ≡ packed (toldReading reading) ⌝ }
+    ensures { λ _. ⌜ now (rec .exit) ≡ contentNumbers (toldContent reading) (now (rec .entry)) ⌝ }
+    ensures { λ _. ⌜ now (place .exit) ≡ contentPlace (toldContent reading) (now (place .entry)) ⌝ }
+{
+    match reading {
+        Reading::Done(content) => {
+            store_content(rec, place, content);
+            return 0;
+        }
+        Reading::LongTable => return MALFORMED_TABLE,
+        Reading::NotKept => return NOT_KEPT,
+        Reading::Damaged => return DAMAGED,
+        Reading::NoRoom => return NO_ROOM,
     }
 }
