@@ -1,6 +1,6 @@
 // The writer of kept overlay files, change request #101.
 // Any bytes are taken as listing, table and output, and any numbers as record. All is judged before the first byte is
-// written. What a file of version 1 begins with stands in `put_head`; the rest takes it as it is.
+// written. What a file begins with, mark and version, is written by `put_head` alone.
 ghost use mathlib.Core.Path.{_≡_};
 ghost use mathlib.Core.List.{_++_};
 ghost use Prim.Native.Nat.{_+_, _≤_};
