@@ -7,7 +7,7 @@ use mathlib.Core.Bool.{Bool, true, _&&_}
 use Prim.Native.Nat.{ℕ, _+_, _<_, _≤_}
 use native.Mathlib.Omega.{arith}
 use lib.Dec.{leb, eqb}
-use lib.ListN.{length, take, drop, take-append-drop}
+use lib.ListN.{length, take, drop, take-append-drop, length-append}
 use lib.Seq.{drop-drop, take-append-seam, drop-append-seam}
 use borrow.Author.Tests.{leb-true}
 use Rattle.model.specs.Bytes.{Bytes, every, number, numberAt, bytes, same}
@@ -31,6 +31,9 @@ listing-short l h =
     leb-true (length l) 16777216 (and-true (leb 9 (length l)) (leb (length l) 16777216) (e .0) .1)
 
 module _ (l e : Bytes) where
+  pub kept-size : length (kept 1 l e) ≡ 13 + length l + length e
+  kept-size = let n = length-append l (bytes 4 (length e) ++ e) in omega arith
+
   -- the head of version 1 and where it ends
   pub kept-version : versionIn (kept 1 l e) ≡ 1
   kept-version = refl

@@ -2,3 +2,4 @@ pub mod Cases
 pub mod Entries
 pub mod Files
 pub mod RoundTrip
+pub mod Sessions

@@ -17,9 +17,9 @@ use Rattle.model.specs.Table.{encode, padded, tableIn, isTable}
 use Rattle.model.specs.Checks.{Check, pass, refuse, _then_, unless}
 use Rattle.model.specs.Answer.{accepted}
 use Rattle.model.specs.declared.Record.{Record}
-use Rattle.model.proofs.Orders.{eqb-eq, and-true}
+use Rattle.model.proofs.Orders.{eqb-eq}
 use Rattle.model.proofs.Words.{Words, IsBytes}
-use Rattle.model.proofs.Codec.{decoded, encoded}
+use Rattle.model.proofs.Codec.{decoded, moved-table}
 use Rattle.model.proofs.Invariant.{then-pass, unless-pass}
 use Rattle.model.proofs.Formed.{bytes-drop}
 use Rattle.model.proofs.Resumed.{words-read}
@@ -33,11 +33,11 @@ use Rattle.kept_file.proofs.Files.{kept-undamaged, parts}
 
 -- four checks, one after the other, pass where each of the tests does
 module _ (i j k m : ℕ) (a b c d : Bool) where
-  all-pass : a ≡ true → b ≡ true → c ≡ true → d ≡ true
+  pub all-pass : a ≡ true → b ≡ true → c ≡ true → d ≡ true
       → (unless i a then unless j b then unless k c then unless m d) ≡ pass
   all-pass x y z w = rw (x, y, z, w)
 
-  all-passed : (unless i a then unless j b then unless k c then unless m d) ≡ pass
+  pub all-passed : (unless i a then unless j b then unless k c then unless m d) ≡ pass
       → (a ≡ true) × (b ≡ true) × (c ≡ true) × (d ≡ true)
   all-passed h =
       let x = then-pass (unless i a) (unless j b then unless k c then unless m d) h in
@@ -89,18 +89,6 @@ written-file listing table rec output n h =
       length-is = x .1;
       file = x .2;
     }
-
--- a table's entries in another buffer that they fit are a table with the same record and the same entries
-moved : (s : Bytes) (r : Record) → isTable s r ≡ true → Words (tableIn s r) → (n : ℕ)
-    → length (encode (tableIn s r)) ≤ n → n ≤ 16777216
-    → (tableIn (padded n (encode (tableIn s r))) r ≡ tableIn s r)
-    × (isTable (padded n (encode (tableIn s r))) r ≡ true)
-moved s r h w n l m =
-    let t : Table = tableIn s r in
-    let d = decoded s r h in
-    let z = and-true (leb (r .«entry_size») 4096) (leb (length s) 16777216) (d .size) in
-    let e = encoded (r .«entry_size») n t (d .ascending) (d .formed) w l (rw (z .0, le-leb n 16777216 m)) in
-    (ap (tableIn (padded n (encode t))) (d .rec) ∙ e .0, ap (isTable (padded n (encode t))) (d .rec) ∙ e .1)
 
 -- "Reading a written file returns the same listing (as its part of the file, not a copy), table and record"
 pub record SameRead (listing table : Bytes) (rec : Record) (buffer : Bytes) : Type 0 where
@@ -158,7 +146,7 @@ module _ (listing table : Bytes) (rec : Record) (l : isListing listing ≡ true)
       let i = entries-of 40 (tableIn table rec) (d .ascending) (d .formed) w (omega arith) (omega arith) in
       let m = listing-short listing l in
       let short : length listing < 0x1_0000_0000 = omega arith in
-      let n = moved table rec t w (length buffer) fits small in
+      let n = moved-table table rec t w (length buffer) fits small in
       record {
         answer = read-whole listing entries rec buffer l (i .1) (rw (i .0, ← e) (sym (d .rec))) fits small;
         listing-part = kept-listing listing entries short;
@@ -199,7 +187,7 @@ kept-written file b buffer v h =
     let e : encode t ≡ part = ap encode (a .entries) ∙ sym (a .bytes) in
     let w = words-read part (bytes-drop (listingStart file + listingLength file + 4) file b) (rec .count) 0 in
     let fits : length (encode t) ≤ length buffer = rw e (leb-true (length part) (length buffer) (q .3)) in
-    let n = moved part rec (a .table) w (length buffer) fits (leb-true (length buffer) 16777216 (q .0)) in
+    let n = moved-table part rec (a .table) w (length buffer) fits (leb-true (length buffer) 16777216 (q .0)) in
     let buf : readBack file buffer .table ≡ padded (length buffer) (encode t)
     = ap (λ (c : Check). readBy c file buffer .table) p ∙ ap (padded (length buffer)) (sym e) in
     let well : isTable (readBack file buffer .table) rec ≡ true = ap (λ (s : Bytes). isTable s rec) buf ∙ n .1 in

@@ -11,7 +11,7 @@ use Rattle.model.specs.Bytes.{Bytes}
 use Rattle.model.specs.Tree.{Tree}
 use Rattle.model.specs.Listing.{isListing}
 use Rattle.model.specs.Answer.{Reply, accepted, refused}
-use Rattle.model.specs.Outcome.{Store, Request}
+use Rattle.model.specs.Outcome.{Request}
 use Rattle.model.specs.Runs.{State, step, WordedCall, Built, Agrees, DoesAsSaid}
 use Rattle.kept_file.specs.Kept.{entriesIn, fileOf, Written, written, readBack}
 use Rattle.kept_file.specs.declared.Content.{Content}

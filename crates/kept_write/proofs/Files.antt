@@ -1,10 +1,10 @@
--- The bytes of a kept file: its length, and its parts written in a row with zeros behind them.
+-- The bytes of a kept file: its parts written in a row with zeros behind them; and the entries of a table among its bytes.
 use mathlib.Core.Path.{_≡_, ap, sym, _∙_}
 use mathlib.Core.List.{_++_}
 use mathlib.Core.Bool.{true}
 use Prim.Native.Nat.{ℕ, _+_, _-_, _≤_}
 use native.Mathlib.Omega.{arith}
-use lib.ListN.{length, take, replicate, length-append}
+use lib.ListN.{length, take, replicate}
 use lib.Seq.{take-at}
 use Rattle.model.specs.Bytes.{Bytes, bytes}
 use Rattle.model.specs.Table.{encode, padded, tableIn, isTable}
@@ -14,9 +14,7 @@ use Rattle.base_fields.specs.Write.{overwritten}
 use Rattle.base_fields.proofs.Writes.{three-writes}
 use Rattle.base_fields.proofs.Zeros.{zeroed-behind}
 use Rattle.kept_file.specs.Kept.{head, kept}
-
-pub kept-length : (l e : Bytes) → length (kept 1 l e) ≡ 13 + length l + length e
-kept-length l e = let n = length-append l (bytes 4 (length e) ++ e) in omega arith
+use Rattle.kept_file.proofs.Files.{kept-size}
 
 -- head, listing and entries, each right behind the one before, then zeros
 pub file-put : (t t₁ t₂ t₃ t₄ l e : Bytes) (a b c : ℕ) → length (kept 1 l e) ≤ length t
@@ -25,7 +23,7 @@ pub file-put : (t t₁ t₂ t₃ t₄ l e : Bytes) (a b c : ℕ) → length (kep
     → t₃ ≡ overwritten t₂ b (bytes 4 (length e) ++ e) → c ≡ b + 4 + length e
     → t₄ ≡ take c t₃ ++ replicate (length t₃ - c) 0 → t₄ ≡ padded (length t) (kept 1 l e)
 file-put t t₁ t₂ t₃ t₄ l e a b c h e₁ ea e₂ eb e₃ ec e₄ =
-    let n = kept-length l e in
+    let n = kept-size l e in
     let f : t₃ ≡ overwritten t 0 (kept 1 l e) =
     three-writes t t₁ t₂ t₃ (head 1) (bytes 4 (length l) ++ l) (bytes 4 (length e) ++ e) 0 a b (omega arith) (omega arith) (omega arith) e₁ e₂ e₃ in
     e₄

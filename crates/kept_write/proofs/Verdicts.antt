@@ -16,14 +16,15 @@ use Rattle.model.specs.Checks.{Check, pass, refuse, _then_, unless}
 use Rattle.model.specs.Answer.{Reply, accepted, refused}
 use Rattle.model.specs.declared.Record.{Record}
 use Rattle.model.proofs.Orders.{bot}
-use Rattle.model.proofs.Invariant.{then-pass, unless-pass}
 use Rattle.listing_records.proofs.Places.{checked}
 use Rattle.table_entries.proofs.Entries.{table-stands}
 use Rattle.kept_file.specs.Kept.{kept, fileOf, mayWrite, writtenBy, written, toldWriting}
 use Rattle.kept_file.specs.declared.Writing.{Writing}
 use Rattle.kept_file.specs.declared.Writing.the-variants as writing
 use Rattle.kept_file.proofs.Writing.{the-type}
-use Rattle.kept_write.proofs.Files.{kept-length, used-is, used-bytes, used-within}
+use Rattle.kept_file.proofs.Files.{kept-size}
+use Rattle.kept_file.proofs.RoundTrip.{all-passed}
+use Rattle.kept_write.proofs.Files.{used-is, used-bytes, used-within}
 
 -- listing and entries together: no sum wraps
 pub small : (l s : Bytes) (r : Record) → isTable s r ≡ true → isListing l ≡ true → length l + r .used ≤ 33554432
@@ -56,7 +57,7 @@ module _ (l s : Bytes) (r : Record) (o : Bytes) where
     size = eq-eqb (r .«entry_size») 40 d
 
     file-length : length (fileOf l s r) ≡ 9 + length l + 4 + r .used
-    file-length = let u = used-is s r t in let k = kept-length l (encode (tableIn s r)) in omega arith
+    file-length = let u = used-is s r t in let k = kept-size l (encode (tableIn s r)) in omega arith
 
     pub no-room : length o < 9 + length l + 4 + r .used → refused 13 0 0 ≡ written l s r o .reply
     no-room h =
@@ -97,8 +98,14 @@ module _ (l s : Bytes) (r : Record) (o : Bytes) (a : Writing) (h : toldWriting a
     passes : mayWrite l s r o ≡ pass
     passes = accepted-passes (mayWrite l s r o) (fileOf l s r) o n (sym (ap toldWriting d) ∙ h)
 
+    abbrev fits : Bool
+    fits = leb (length (fileOf l s r)) (length o)
+
+    tests : (isTable s r ≡ true) × (isListing l ≡ true) × (eqb (r .«entry_size») 40 ≡ true) × (fits ≡ true)
+    tests = all-passed 1 2 16 13 (isTable s r) (isListing l) (eqb (r .«entry_size») 40) fits passes
+
     is-table : isTable s r ≡ true
-    is-table = unless-pass 1 (isTable s r) (then-pass (unless 1 (isTable s r)) _ passes .0)
+    is-table = tests .0
 
     pub entries-within : r .used ≤ length s
     entries-within = used-within s r is-table
@@ -108,12 +115,7 @@ module _ (l s : Bytes) (r : Record) (o : Bytes) (a : Writing) (h : toldWriting a
     file-is = ap (kept 1 l) (used-bytes s r is-table)
 
     pub file-within : length (kept 1 l (take (r .used) s)) ≤ length o
-    file-within =
-        let n = length (fileOf l s r) in
-        let two = then-pass (unless 1 (isTable s r)) _ passes .1 in
-        let sixteen = then-pass (unless 2 (isListing l)) _ two .1 in
-        let thirteen = then-pass (unless 16 (eqb (r .«entry_size») 40)) (unless 13 (leb n (length o))) sixteen .1 in
-        subst⁻¹ (λ (f : Bytes). length f ≤ length o) file-is (leb-true n (length o) (unless-pass 13 (leb n (length o)) thirteen))
+    file-within = subst⁻¹ (λ (f : Bytes). length f ≤ length o) file-is (leb-true (length (fileOf l s r)) (length o) (tests .3))
 
     pub now-written : (u : Bytes) → u ≡ padded (length o) (kept 1 l (take (r .used) s)) → u ≡ written l s r o .output
     now-written u e =

@@ -9,7 +9,7 @@ use native.Mathlib.Nat.{pow-succ'}
 use lib.Dec.{leb, ltb, eqb}
 use lib.ListN.{length, take, drop, replicate, length-append, length-replicate}
 use lib.Seq.{drop-drop, drop-append-add, drop-append-seam, take-append-seam}
-use borrow.Author.Tests.{ltb-true, leb-true}
+use borrow.Author.Tests.{ltb-true, leb-true, le-leb}
 use Rattle.model.specs.Bytes.{Bytes, every, number, numberAt, bytes, same}
 use Rattle.model.specs.Path.{Path, isPath, isRoot, short, component, components}
 use Rattle.model.specs.Utf8.{utf8}
@@ -197,6 +197,18 @@ encoded E n t a f w l z =
     let m : n ≤ 16777216 = leb-true n 16777216 (and-true (leb E 4096) (leb n 16777216) z .1) in
     let e : tableIn s (recordOf E t) ≡ t = read-table t [] (replicate (n - length (encode t)) 0) f w (omega arith) in
     (e, rw (e, padded-length n (encode t) l, z, a, f, same-refl s, same-record (recordOf E t)))
+
+-- a table's entries in another buffer that they fit are a table with the same record and the same entries
+pub moved-table : (s : Bytes) (r : Record) → isTable s r ≡ true → Words (tableIn s r) → (n : ℕ)
+    → length (encode (tableIn s r)) ≤ n → n ≤ 16777216
+    → (tableIn (padded n (encode (tableIn s r))) r ≡ tableIn s r)
+    × (isTable (padded n (encode (tableIn s r))) r ≡ true)
+moved-table s r h w n l m =
+    let t : Table = tableIn s r in
+    let d = decoded s r h in
+    let z = and-true (leb (r .«entry_size») 4096) (leb (length s) 16777216) (d .size) in
+    let e = encoded (r .«entry_size») n t (d .ascending) (d .formed) w l (rw (z .0, le-leb n 16777216 m)) in
+    (ap (tableIn (padded n (encode t))) (d .rec) ∙ e .0, ap (isTable (padded n (encode t))) (d .rec) ∙ e .1)
 
 -- the buffer of zeros is the empty table
 pub opened-table : (E n : ℕ) → sized E n ≡ true → (tableIn (replicate n 0) (recordOf E []) ≡ []) × (isTable (replicate n 0) (recordOf E []) ≡ true)

@@ -7,12 +7,12 @@ use mathlib.Core.Bool.{Bool, true, false, cond, _&&_}
 use Prim.Native.Nat.{ℕ, _≤_}
 use lib.Dec.{leb}
 use lib.ListN.{length, replicate}
-use borrow.Author.Tests.{leb-true, leb-false, le-leb}
+use borrow.Author.Tests.{leb-true, leb-false}
 use Rattle.model.specs.Bytes.{Bytes}
 use Rattle.model.specs.Map.{lookup}
 use Rattle.model.specs.Tree.{Table, shown}
 use Rattle.model.specs.Listing.{isListing, treeIn}
-use Rattle.model.specs.Table.{encode, padded, charge, recordOf, sized, isTable, tableIn}
+use Rattle.model.specs.Table.{encode, padded, charge, recordOf, sized, isTable}
 use Rattle.model.specs.declared.Record.{Record}
 use Rattle.model.specs.Checks.{Check, pass, refuse, _then_, unless, limited, unlimited}
 use Rattle.model.specs.Calls.{forms, rules, valueOf}
@@ -23,9 +23,9 @@ use Rattle.model.specs.Cause.{Cause, short-work, malformed-listing, exce
 use Rattle.model.specs.Posix.{Posix}
 use Rattle.model.specs.Runs.{State, fed, step, after, begin, movedTo, WordedCall, WordedCalls, Throughout, entriesOf, keptBytes}
 use Rattle.model.specs.Runs.{AcceptedByRules, RefusedWithCause, LeavesOthers, WithinLimit, DoesAsPosix, DoesAsSaid}
-use Rattle.model.proofs.Orders.{bot, and-true}
+use Rattle.model.proofs.Orders.{bot}
 use Rattle.model.proofs.Words.{IsBytes}
-use Rattle.model.proofs.Codec.{decoded, encoded, opened-table}
+use Rattle.model.proofs.Codec.{decoded, encoded, moved-table, opened-table}
 use Rattle.model.proofs.Invariant.{then-pass, unless-pass}
 use Rattle.model.proofs.Agree.{Sound, sound-empty, accepts, allows, keeps, Caused, passed, because}
 use Rattle.model.proofs.Effects.{stays, in-limit, posix}
@@ -88,19 +88,13 @@ module _ (listing : Bytes) (E : ℕ) where
   pub reached-moved : (n : ℕ) (x : State) → x .store .rec .used ≤ n → n ≤ 16777216 → Reached x → Reached (movedTo n x)
   reached-moved n x u m r =
       let s = x .store in
-      let t : Table = entriesOf s in
-      let i = fine-is t (r .fine) in
-      let d = decoded (s .table) (s .rec) (r .table) in
-      let l : length (encode t) ≤ n = subst (λ (q : Record). q .used ≤ n) (d .rec) u in
-      let z = and-true (leb (s .rec .«entry_size») 4096) (leb (length (s .table)) 16777216) (d .size) in
-      let e = encoded (s .rec .«entry_size») n t (i .0) (i .1) (i .2) l (rw (z .0, le-leb n 16777216 m)) in
-      let read : tableIn (padded n (encode t)) (s .rec) ≡ t =
-      ap (tableIn (padded n (encode t))) (d .rec) ∙ e .0 in
+      let l = subst (λ (q : Record). q .used ≤ n) (decoded (s .table) (s .rec) (r .table) .rec) u in
+      let e = moved-table (s .table) (s .rec) (r .table) (fine-is (entriesOf s) (r .fine) .2) n l m in
       record {
-        table = ap (isTable (padded n (encode t))) (d .rec) ∙ e .1;
+        table = e .1;
         size-kept = r .size-kept;
-        fine = subst⁻¹ FineTable read (r .fine);
-        sound = λ h. subst⁻¹ (λ (u : Table). Sound u (treeIn listing) (x .plain)) read (r .sound h);
+        fine = subst⁻¹ FineTable (e .0) (r .fine);
+        sound = λ h. subst⁻¹ (λ (t : Table). Sound t (treeIn listing) (x .plain)) (e .0) (r .sound h);
       }
 
   -- the state after a call with a given verdict

@@ -1,6 +1,7 @@
 -- `put_file` meets its contract: head, listing and entries in a row, and zeros behind.
 use borrow.Author.Needs.{needs}
-use Rattle.kept_write.proofs.Files.{kept-length, file-put}
+use Rattle.kept_file.proofs.Files.{kept-size}
+use Rattle.kept_write.proofs.Files.{file-put}
 use Rattle.kept_write.proofs.put_file.Statement.{statement}
 use Rattle.kept_write.proofs.put_file.Tie as tie
 
@@ -11,7 +12,7 @@ put-part-requires : tie.Need-put-part-requires
 put-part-requires c κs =
     let head = c .before .before .before in
     let a = head .before .before .before .before .before .args in
-    let n = kept-length (a .listing .now) (a .entries .now) in
+    let n = kept-size (a .listing .now) (a .entries .now) in
     search needs
 
 put-part-requires-2 : tie.Need-put-part-requires-2
@@ -19,7 +20,7 @@ put-part-requires-2 c κs =
     let first = c .before .before .before in
     let head = first .before .before .before .before in
     let a = head .before .before .before .before .before .args in
-    let n = kept-length (a .listing .now) (a .entries .now) in
+    let n = kept-size (a .listing .now) (a .entries .now) in
     search needs
 
 zero-from-requires : tie.Need-zero-from-requires
@@ -28,7 +29,7 @@ zero-from-requires c κs =
     let first = second .before .before .before .before in
     let head = first .before .before .before .before in
     let a = head .before .before .before .before .before .args in
-    let n = kept-length (a .listing .now) (a .entries .now) in
+    let n = kept-size (a .listing .now) (a .entries .now) in
     search needs
 
 same-length : tie.Need-same-length
