@@ -143,7 +143,7 @@ module _ (p : Bytes) (k : Path) (e : Entry) (q : Bytes) (hk : length k < 0x1_000
   read-body-length : numberAt whole (length p + 4) 4 ≡ length (bodyOf e)
   read-body-length = ap (λ (l : Bytes). number (take 4 l)) (from 4) ∙ number-bytes 4 (length (bodyOf e)) (f .body)
 
-  read-key : keyAt whole (length p) ≡ k
+  pub read-key : keyAt whole (length p) ≡ k
   read-key = ap₂ take read-length behind ∙ take-append-seam k (bodyOf e ++ q)
 
   behind-key : drop (length p + 24 + length k) whole ≡ bodyOf e ++ q
@@ -153,14 +153,14 @@ module _ (p : Bytes) (k : Path) (e : Entry) (q : Bytes) (hk : length k < 0x1_000
   read-body =
       ap₂ take read-body-length (ap (λ (n : ℕ). drop (length p + 24 + n) whole) read-length ∙ behind-key) ∙ take-append-seam (bodyOf e) q
 
-  read-entry : entryAt whole (length p) ≡ e
+  pub read-entry : entryAt whole (length p) ≡ e
   read-entry =
       let t : numberAt whole (length p + 2) 2 ≡ typeOf e = ap (λ (l : Bytes). number (take 2 l)) (from 2) ∙ number-bytes 2 (typeOf e) (f .type) in
       let m : numberAt whole (length p + 8) 8 ≡ mtimeOf e = ap (λ (l : Bytes). number (take 8 l)) (from 8) ∙ number-bytes 8 (mtimeOf e) (f .mtime) in
       let z : numberAt whole (length p + 16) 8 ≡ sizeOf e = ap (λ (l : Bytes). number (take 8 l)) (from 16) ∙ number-bytes 8 (sizeOf e) (f .size) in
       (λ i. entryOf (t i) (m i) (z i) (read-body i)) ∙ same-entry e
 
-  read-end : entryEnd whole (length p) ≡ length (p ++ entryBytes k e)
+  pub read-end : entryEnd whole (length p) ≡ length (p ++ entryBytes k e)
   read-end =
       let l = length-append p (entryBytes k e) in
       let n = entry-length k e in
