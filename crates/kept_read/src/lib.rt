@@ -176,10 +176,22 @@ pub fn read(file: &[u8], table: &mut [u8]) -> Reading
     ensures { λ r. ⌜ toldContent r ≡ readBack (now (file .entry)) (now (table .entry)) .content ⌝ }
     ensures { λ _. ⌜ now (table .exit) ≡ readBack (now (file .entry)) (now (table .entry)) .table ⌝ }
 {
-    let answer = judge(file, table.len());
-    let Reading::Done(content) = answer else {
-        return answer;
-    };
-    fill(table, entries_part(file));
-    Reading::Done(content)
+    match judge(file, table.len()) {
+        Reading::Done(content) => {
+            fill(table, entries_part(file));
+            return Reading::Done(content);
+        }
+        Reading::LongTable => {
+            return Reading::LongTable;
+        }
+        Reading::NotKept => {
+            return Reading::NotKept;
+        }
+        Reading::Damaged => {
+            return Reading::Damaged;
+        }
+        Reading::NoRoom => {
+            return Reading::NoRoom;
+        }
+    }
 }

@@ -1,33 +1,35 @@
+-- `kept_read::entries_part` meets its contract: the entries stand behind their length, up to the end.
+use native.Mathlib.Omega.{arith}
 use borrow.Author.Needs.{needs}
+use Rattle.kept_read.proofs.Frames.{framed-is, entries-rest}
 use Rattle.kept_read.proofs.entries_part.Statement.{statement}
 use Rattle.kept_read.proofs.entries_part.Tie as tie
-use Rattle.kept_read.proofs.entries_part.Reads as reads
-use Rattle.kept_read.proofs.entries_part.Lts as lts
-use Rattle.kept_read.proofs.listing_end.Reads as listing-end-reads
 
--- src/lib.rt:128:16
 listing-end-requires : tie.Need-listing-end-requires
-listing-end-requires c κs = ?
+listing-end-requires c κs = framed-is (c .before .args .file .now) (c .before .pre) .long
 
--- src/lib.rt:128:16
 add-from : tie.Need-add-from
 add-from c = search needs
 
--- src/lib.rt:129:5
 sub-result : tie.Need-sub-result
-sub-result c = ?
+sub-result c =
+    let p = c .before .before in
+    omega (arith, c .listing-end .ensures .0, framed-is (p .args .file .now) (p .pre) .inside)
 
--- src/lib.rt:129:5
 part-result-start : tie.Need-part-result-start
-part-result-start c = ?
+part-result-start c =
+    let p = c .before .before in
+    let i = framed-is (p .args .file .now) (p .pre) .inside in
+    let e = c .listing-end .ensures .0 in
+    search needs
 
--- src/lib.rt:129:5
 part-result-end : tie.Need-part-result-end
 part-result-end c = search needs
 
--- src/lib.rt:124:1
 returns : tie.Need-returns
-returns c = ?
+returns c =
+    let p = c .before in
+    entries-rest (p .before .before .args .file .now) (p .listing-end .ensures .0)
 
 pub entries-part-spec : {M : Type 1} → statement M
 entries-part-spec =

@@ -1,61 +1,51 @@
+-- `kept_read::listing_part` meets its contract: one law for each exit.
 use borrow.Author.Needs.{needs}
+use Rattle.kept_read.proofs.Frames.{no-listing, listing-rest, listing-up-to}
 use Rattle.kept_read.proofs.listing_part.Statement.{statement}
 use Rattle.kept_read.proofs.listing_part.Tie as tie
-use Rattle.kept_read.proofs.listing_part.Reads as reads
-use Rattle.kept_read.proofs.listing_part.Lts as lts
-use Rattle.kept_read.proofs.listing_end.Reads as listing-end-reads
 
--- src/lib.rt:114:16
 sub-result : tie.Need-sub-result
 sub-result c = search needs
 
--- src/lib.rt:114:16
 part-result-start : tie.Need-part-result-start
 part-result-start c = search needs
 
--- src/lib.rt:114:16
 part-result-end : tie.Need-part-result-end
 part-result-end c = search needs
 
--- src/lib.rt:114:9
 returns : tie.Need-returns
-returns c = ?
+returns c = no-listing (c .before .before .before .args .file .now) (search needs)
 
--- src/lib.rt:116:9
 listing-end-requires : tie.Need-listing-end-requires
 listing-end-requires c κs = search needs
 
--- src/lib.rt:118:16
 sub-result-2 : tie.Need-sub-result-2
 sub-result-2 c = search needs
 
--- src/lib.rt:118:16
 part-result-start-2 : tie.Need-part-result-start-2
 part-result-start-2 c = search needs
 
--- src/lib.rt:118:16
 part-result-end-2 : tie.Need-part-result-end-2
 part-result-end-2 c = search needs
 
--- src/lib.rt:118:9
 returns-2 : tie.Need-returns-2
-returns-2 c = ?
+returns-2 c =
+    let p = c .before .before in
+    listing-rest (p .before .before .before .args .file .now) (p .listing-end .ensures .0) (search needs)
 
--- src/lib.rt:120:5
 sub-result-3 : tie.Need-sub-result-3
 sub-result-3 c = search needs
 
--- src/lib.rt:120:5
 part-result-start-3 : tie.Need-part-result-start-3
 part-result-start-3 c = search needs
 
--- src/lib.rt:120:5
 part-result-end-3 : tie.Need-part-result-end-3
 part-result-end-3 c = search needs
 
--- src/lib.rt:110:1
 returns-3 : tie.Need-returns-3
-returns-3 c = ?
+returns-3 c =
+    let p = c .before .before in
+    listing-up-to (p .before .before .before .args .file .now) (p .listing-end .ensures .0)
 
 pub listing-part-spec : {M : Type 1} → statement M
 listing-part-spec =

@@ -1,80 +1,83 @@
+-- `kept_read::sum_entries` meets its contract: each turn of the loop is a head of the counting pass, and each exit has
+-- its law.
+use Prim.Native.Nat.{_-_}
+use native.Mathlib.Omega.{arith}
+use borrow.Author.Needs.{needs}
+use lib.ListN.{length}
+use Rattle.kept_read.proofs.Turns.{Kept, started, headless, endless, kept-on, finished}
 use Rattle.kept_read.proofs.sum_entries.Statement.{statement}
 use Rattle.kept_read.proofs.sum_entries.Tie as tie
-use Rattle.kept_read.proofs.sum_entries.Reads as reads
-use Rattle.kept_read.proofs.sum_entries.Lts as lts
-use Rattle.base_fields.proofs.le16.Reads as le16-reads
-use Rattle.base_fields.proofs.le32.Reads as le32-reads
-use Rattle.table_charge.proofs.entry_memory_usage.Reads as entry-memory-usage-reads
 
 abbrev Inv-loop : tie.InvT-loop
-Inv-loop entries entry-size at₀ count₀ charge₀ at count charge = ?
+Inv-loop entries entry-size at₀ count₀ charge₀ at count charge = Kept entry-size entries at count charge
 
 abbrev μ-loop : tie.MeasureT-loop
-μ-loop entries entry-size at₀ count₀ charge₀ at count charge = ?
+μ-loop entries entry-size at₀ count₀ charge₀ at count charge = length entries - at
 
--- src/lib.rt:34:5
 loop-holds : tie.Need-loop-holds Inv-loop μ-loop
-loop-holds c = ?
+loop-holds c =
+    let a = c .before .args in
+    started (a .entry-size) (a .entries .now)
 
--- src/lib.rt:35:28
 add-if1 : tie.Need-add-if1 Inv-loop μ-loop
-add-if1 c = ?
+add-if1 c = omega arith
 
--- src/lib.rt:36:13
 returns : tie.Need-returns Inv-loop μ-loop
-returns c = ?
+returns c =
+    let l = c .before in
+    headless (l .before .loop .inv) (l .loop-test .taken) (c .if1 .taken)
 
--- src/lib.rt:38:13
 le16-requires : tie.Need-le16-requires Inv-loop μ-loop
-le16-requires c κs = ?
+le16-requires c κs = omega arith
 
--- src/lib.rt:39:44
 add-le32 : tie.Need-add-le32 Inv-loop μ-loop
-add-le32 c = ?
+add-le32 c = omega arith
 
--- src/lib.rt:39:13
 le32-requires : tie.Need-le32-requires Inv-loop μ-loop
-le32-requires c κs = ?
+le32-requires c κs = omega arith
 
--- src/lib.rt:40:19
 add-end : tie.Need-add-end Inv-loop μ-loop
-add-end c = ?
+add-end c = omega arith
 
--- src/lib.rt:40:19
 add-end-2 : tie.Need-add-end-2 Inv-loop μ-loop
-add-end-2 c = ?
+add-end-2 c = omega arith
 
--- src/lib.rt:40:19
 add-end-3 : tie.Need-add-end-3 Inv-loop μ-loop
-add-end-3 c = ?
+add-end-3 c = omega arith
 
--- src/lib.rt:42:13
 returns-2 : tie.Need-returns-2 Inv-loop μ-loop
-returns-2 c = ?
+returns-2 c =
+    let m = c .before in
+    let n = m .before in
+    let i = n .before in
+    let l = i .before in
+    endless (l .before .loop .inv) (l .loop-test .taken) (search needs) (n .le16 .ensures .0) (m .le32 .ensures .0)
+    (c .if2 .taken)
 
--- src/lib.rt:44:19
 entry-memory-usage-requires : tie.Need-entry-memory-usage-requires Inv-loop μ-loop
-entry-memory-usage-requires c κs = ?
+entry-memory-usage-requires c κs = search needs
 
--- src/lib.rt:44:9
 add-charge : tie.Need-add-charge Inv-loop μ-loop
-add-charge c = ?
+add-charge c = omega (arith, c .entry-memory-usage .ensures .0)
 
--- src/lib.rt:45:9
 add-count : tie.Need-add-count Inv-loop μ-loop
-add-count c = ?
+add-count c = omega arith
 
--- src/lib.rt:34:5
 loop-less : tie.Need-loop-less Inv-loop μ-loop
-loop-less c = ?
+loop-less c = omega arith
 
--- src/lib.rt:34:5
 loop-again : tie.Need-loop-again Inv-loop μ-loop
-loop-again c = ?
+loop-again c =
+    let e = c .before in
+    let m = e .before in
+    let n = m .before in
+    let i = n .before in
+    let l = i .before in
+    kept-on (l .before .loop .inv) (l .loop-test .taken) (search needs) (n .le16 .ensures .0) (m .le32 .ensures .0)
+    (search needs) (search needs) (c .entry-memory-usage .ensures .0)
 
--- src/lib.rt:27:1
 returns-3 : tie.Need-returns-3 Inv-loop μ-loop
-returns-3 c = ?
+returns-3 c = finished (c .before .loop .inv) (search needs)
 
 pub sum-entries-spec : {M : Type 1} → statement M
 sum-entries-spec =
