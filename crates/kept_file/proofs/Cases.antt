@@ -4,9 +4,9 @@ use mathlib.Core.List.{List, [], _∷_, _++_, map}
 use mathlib.Core.Option.{none, some}
 use mathlib.Core.Path.{_≡_, refl}
 use Prim.Native.Nat.{ℕ}
-use lib.ListN.{length, take, replicate}
+use lib.ListN.{take, replicate}
 use Rattle.model.specs.Bytes.{Bytes, bytes}
-use Rattle.model.specs.Tree.{own, reference, deleted, Table}
+use Rattle.model.specs.Tree.{own, reference, deleted}
 use Rattle.model.specs.Table.{encode, padded, recordOf}
 use Rattle.model.specs.Answer.{Reply, accepted, refused}
 use Rattle.model.specs.declared.Record.{Record}

@@ -3,7 +3,7 @@
 -- mtimes have 64 bits (`Words`).
 use mathlib.Core.Path.{_≡_, refl, ap, _∙_}
 use mathlib.Core.List.{[], _∷_, _++_, append-nil, append-assoc}
-use mathlib.Core.Bool.{Bool, true, false, cond}
+use mathlib.Core.Bool.{Bool, true, false, cond, _&&_}
 use Prim.Native.Nat.{ℕ, zero, suc, _+_, _-_, _<_, _≤_}
 use native.Mathlib.Omega.{arith}
 use lib.Dec.{leb, eqb}
@@ -77,7 +77,9 @@ entries-of E t a f w l m =
     let u : entriesUpTo s (length s) 0 ≡ t = up-to-table t [] (length s) f w (omega arith) (count-within t) in
     let i : isTable s (recordOf E t) ≡ true
     = rw (padded-full (length s) s refl) at (encoded E (length s) t a f w (omega arith) z .1) in
-    (u, rw (u, i, eqb-true (length s)))
+    let r : summed E s ≡ recordOf E t = ap (recordOf E) u in
+    let full : (isTable s (recordOf E t) && eqb (length s) (length s)) ≡ true = rw (i, eqb-true (length s)) in
+    (u, ap (λ (q : Record). isTable s q && eqb (q .used) (length s)) r ∙ full)
 
 -- as many entries as are read up to the end are read by that count
 pub counted : (s : Bytes) (n at : ℕ) → entriesAt s (length (entriesUpTo s n at)) at ≡ entriesUpTo s n at

@@ -1,3 +1,4 @@
 pub mod Cases
 pub mod Entries
 pub mod Files
+pub mod RoundTrip
