@@ -14,13 +14,15 @@ use Rattle.model.specs.Table.{padded}
 use Rattle.model.specs.Checks.{Check, pass, refuse, _then_, unless}
 use Rattle.model.specs.Answer.{Reply, accepted, refused}
 use Rattle.model.specs.declared.Record.{Record}
-use Rattle.model.proofs.Orders.{bot, yea, nay, test}
-use Rattle.model.proofs.Invariant.{then-pass}
+use Rattle.model.proofs.Orders.{bot}
+use Rattle.model.proofs.Invariant.{then-pass, unless-pass}
 use Rattle.model.proofs.Words.{IsBytes}
 use Rattle.base_fields.specs.Write.{overwritten}
 use Rattle.base_fields.proofs.Zeros.{zeroed-behind}
 use Rattle.kept_file.specs.declared.Content.{Content}
+use Rattle.kept_file.specs.declared.Reading.{Reading}
 use Rattle.kept_file.specs.Kept.{listingIn, entriesIn, marked, undamaged, contentOf, mayRead, readBy, readBack}
+use Rattle.kept_file.specs.Kept.{toldReading, toldContent}
 use Rattle.kept_read.specs.declared.Summed.{Summed}
 use Rattle.kept_read.specs.declared.Summed.the-variants.{Whole, Damaged}
 use Rattle.kept_read.specs.Heads.{recordIn}
@@ -121,36 +123,47 @@ kept-as : (s t : Bytes) (c : Check) → none ≡ readBy c s t .content → t ≡
 kept-as s t pass h = absurd (bot (cc))
 kept-as s t (refuse n w k) h = refl
 
-unless-pass : (n : ℕ) (b : Bool) → unless n b ≡ pass → b ≡ true
-unless-pass n true h = refl
-unless-pass n false h = absurd (bot (cc))
-
 content-pass : (s t : Bytes) (x : Content) (c : Check) → some x ≡ readBy c s t .content → c ≡ pass
 content-pass s t x pass h = refl
 content-pass s t x (refuse n w k) h = absurd (bot (cc))
 
-module _ (s t : Bytes) where
-  pub unchanged : none ≡ readBack s t .content → t ≡ readBack s t .table
-  unchanged h = kept-as s t (mayRead s t) h
+-- the judge's answer r, taken for the case x
+module _ (s t : Bytes) {r x : Reading} (e : r ≡ x) (h : Tells s (length t) (toldReading r) (toldContent r)) where
+  reply : toldReading x ≡ readBack s t .reply
+  reply = sym (ap toldReading e) ∙ h .0 t refl
 
-  module _ {x : Content} (h : some x ≡ readBack s t .content) where
+  content : toldContent x ≡ readBack s t .content
+  content = sym (ap toldContent e) ∙ h .1 t refl
+
+  pub unchanged : none ≡ toldContent x
+      → (toldReading x ≡ readBack s t .reply) × ((toldContent x ≡ readBack s t .content) × (t ≡ readBack s t .table))
+  unchanged n = (reply, (content, kept-as s t (mayRead s t) (n ∙ content)))
+
+  module _ {y : Content} (d : some y ≡ toldContent x) where
     passes : mayRead s t ≡ pass
-    passes = content-pass s t x (mayRead s t) h
+    passes = content-pass s t y (mayRead s t) (d ∙ content)
 
-    pub read-frame : framed s ≡ true
-    read-frame =
+    passed : (marked s ≡ true) × (undamaged s ≡ true) × (length (entriesIn s) ≤ length t)
+    passed =
+        let n : ℕ = length (entriesIn s) in
         let a = then-pass (unless 1 (leb (length t) 16777216)) _ passes in
         let b = then-pass (unless 14 (marked s)) _ (a .1) in
-        let c = then-pass (unless 15 (undamaged s)) _ (b .1) in
-        undamaged-framed s (unless-pass 14 (marked s) (b .0)) (unless-pass 15 (undamaged s) (c .0))
+        let c = then-pass (unless 15 (undamaged s)) _ (b .1) in (
+          unless-pass 14 (marked s) (b .0),
+          unless-pass 15 (undamaged s) (c .0),
+          leb-true n (length t) (unless-pass 13 (leb n (length t)) (c .1))
+        )
 
-    pub read-fits : length (entriesIn s) ≤ length t
-    read-fits =
-        let a = then-pass (unless 1 (leb (length t) 16777216)) _ passes in
-        let b = then-pass (unless 14 (marked s)) _ (a .1) in
-        let c = then-pass (unless 15 (undamaged s)) _ (b .1) in
-        let d : Bool = leb (length (entriesIn s)) (length t) in
-        leb-true (length (entriesIn s)) (length t) (unless-pass 13 d (c .1))
+    pub done-framed : framed s ≡ true
+    done-framed = undamaged-framed s (passed .0) (passed .1)
 
-    pub read-table : {e w : Bytes} → e ≡ entriesIn s → w ≡ padded (length t) e → w ≡ readBack s t .table
-    read-table ee ew = ew ∙ ap (padded (length t)) ee ∙ ap (λ (c : Check). readBy c s t .table) (sym passes)
+    module _ {p : Bytes} (ep : p ≡ entriesIn s) where
+      pub done-fits : length p ≤ length t
+      done-fits = rw ep (passed .2)
+
+      -- w is what is left in the buffer
+      pub done : {w : Bytes} → w ≡ padded (length t) p
+          → (toldReading x ≡ readBack s t .reply) × ((toldContent x ≡ readBack s t .content) × (w ≡ readBack s t .table))
+      done ew =
+          let z = ew ∙ ap (padded (length t)) ep ∙ ap (λ (c : Check). readBy c s t .table) (sym passes) in
+          (reply, (content, z))

@@ -1,67 +1,78 @@
+-- `kept_read::read` meets its contract: what the judge answers, and what the table buffer is left as.
+use mathlib.Core.Path.{refl}
 use borrow.Author.Needs.{needs}
+use Rattle.kept_read.proofs.Answers.{unchanged, done-framed, done-fits, done}
 use Rattle.kept_read.proofs.read.Statement.{statement}
 use Rattle.kept_read.proofs.read.Tie as tie
-use Rattle.kept_read.proofs.read.Reads as reads
-use Rattle.kept_read.proofs.read.Lts as lts
-use Rattle.kept_read.proofs.entries_part.Reads as entries-part-reads
-use Rattle.kept_read.proofs.fill.Reads as fill-reads
-use Rattle.kept_read.proofs.judge.Reads as judge-reads
 
--- src/lib.rt:179:11
 judge-requires : tie.Need-judge-requires
 judge-requires c κs = search needs
 
--- src/lib.rt:180:23
 enum-known-content : tie.Need-enum-known-content
 enum-known-content c = search needs
 
--- src/lib.rt:181:25
 entries-part-requires : tie.Need-entries-part-requires
-entries-part-requires c κs = ?
+entries-part-requires c κs =
+    let d = c .before .before in
+    let j = d .before .before in
+    let a = j .before .before .before .args in
+    done-framed (a .file .now) (a .table .now) (d .content .given .1) (j .judge .ensures) refl
 
--- src/lib.rt:181:13
 fill-requires : tie.Need-fill-requires
-fill-requires c κs = ?
+fill-requires c κs =
+    let d = c .before .before .before in
+    let j = d .before .before in
+    let a = j .before .before .before .args in
+    done-fits (a .file .now) (a .table .now) (d .content .given .1) (j .judge .ensures) refl (c .entries-part .ensures)
 
--- src/lib.rt:182:13
 same-length : tie.Need-same-length
 same-length c = search needs
 
--- src/lib.rt:182:13
 returns : tie.Need-returns
-returns c = ?
+returns c =
+    let f = c .before .before in
+    let e = f .before in
+    let d = e .before .before .before in
+    let j = d .before .before in
+    let a = j .before .before .before .args in
+    done (a .file .now) (a .table .now) (d .content .given .1) (j .judge .ensures) refl (e .entries-part .ensures)
+    (f .fill .ensures)
 
--- src/lib.rt:185:13
 enum-told : tie.Need-enum-told
 enum-told c = search needs
 
--- src/lib.rt:185:13
 returns-2 : tie.Need-returns-2
-returns-2 c = ?
+returns-2 c =
+    let j = c .before .before in
+    let a = j .before .before .before .args in
+    unchanged (a .file .now) (a .table .now) (c .enum-told .given .1) (j .judge .ensures) refl
 
--- src/lib.rt:188:13
 enum-told-2 : tie.Need-enum-told-2
 enum-told-2 c = search needs
 
--- src/lib.rt:188:13
 returns-3 : tie.Need-returns-3
-returns-3 c = ?
+returns-3 c =
+    let j = c .before .before in
+    let a = j .before .before .before .args in
+    unchanged (a .file .now) (a .table .now) (c .enum-told2 .given .1) (j .judge .ensures) refl
 
--- src/lib.rt:191:13
 enum-told-3 : tie.Need-enum-told-3
 enum-told-3 c = search needs
 
--- src/lib.rt:191:13
 returns-4 : tie.Need-returns-4
-returns-4 c = ?
+returns-4 c =
+    let j = c .before .before in
+    let a = j .before .before .before .args in
+    unchanged (a .file .now) (a .table .now) (c .enum-told3 .given .1) (j .judge .ensures) refl
 
--- src/lib.rt:194:13
 enum-told-4 : tie.Need-enum-told-4
 enum-told-4 c = search needs
 
--- src/lib.rt:194:13
 returns-5 : tie.Need-returns-5
-returns-5 c = ?
+returns-5 c =
+    let j = c .before .before in
+    let a = j .before .before .before .args in
+    unchanged (a .file .now) (a .table .now) (c .enum-told4 .given .1) (j .judge .ensures) refl
 
 pub read-spec : {M : Type 1} → statement M
 read-spec =
