@@ -4,14 +4,13 @@ use mathlib.Core.Bool.{Bool, true, false, not}
 use mathlib.Core.List.{_++_}
 use mathlib.Core.Option.{Option, none, some}
 use Prim.Native.Nat.{ℕ, _-_, _<_, _≤_}
-use native.Mathlib.Omega.{arith}
 use lib.Dec.{leb}
 use lib.ListN.{length, take, replicate}
 use borrow.Author.Tests.{le-leb, lt-leb, leb-true, not-true, not-false}
 use Rattle.model.specs.Bytes.{Bytes}
 use Rattle.model.specs.Listing.{isListing}
 use Rattle.model.specs.Table.{padded}
-use Rattle.model.specs.Checks.{Check, pass, refuse, _then_, unless}
+use Rattle.model.specs.Checks.{Check, pass, refuse, unless}
 use Rattle.model.specs.Answer.{Reply, accepted, refused}
 use Rattle.model.specs.declared.Record.{Record}
 use Rattle.model.proofs.Orders.{bot}
@@ -30,6 +29,10 @@ use Rattle.kept_read.specs.Frame.{framed}
 use Rattle.kept_read.proofs.Sums.{no-record, own-sum}
 use Rattle.kept_read.proofs.Frames.{framed-is, listing-length, undamaged-framed, not-framed, is-undamaged}
 
+-- what a file holds whose listing has n bytes
+abbrev contentBy : ℕ → Record → Content
+contentBy n r = record { «listing_start» = 9; «listing_len» = n; «record» = r }
+
 -- the same answer for each table buffer of one length
 abbrev Tells : Bytes → ℕ → Reply → Option Content → Type 0
 Tells s len reply content =
@@ -40,7 +43,7 @@ module _ (s : Bytes) (len : ℕ) where
   refuses : (n : ℕ) → ((t : Bytes) → length t ≡ len → mayRead s t ≡ refuse n 0 0) → Tells s len (refused n 0 0) none
   refuses n h = (
     λ t e. ap (λ (c : Check). readBy c s t .reply) (sym (h t e)),
-    λ t e. ap (λ (c : Check). readBy c s t .content) (sym (h t e))
+    λ t e. ap (λ (c : Check). readBy c s t .content) (sym (h t e)),
   )
 
   pub long-table : 16777216 < len → Tells s len (refused 1 0 0) none
@@ -89,23 +92,18 @@ module _ (s : Bytes) (len : ℕ) where
               no-room h =
                   let k : len < length (entriesIn s) = rw ee at h in
                   refuses 13 (λ t i.
-                      rw (i, le-leb len 16777216 small, mark, whole, lt-leb (length (entriesIn s)) len k))
+                  rw (i, le-leb len 16777216 small, mark, whole, lt-leb (length (entriesIn s)) len k))
 
-              pub accepts : length e ≤ len
-                  → Tells s len (accepted 0) (some (record { «listing_start» = 9; «listing_len» = length l; «record» = rec }))
+              pub accepts : length e ≤ len → Tells s len (accepted 0) (some (contentBy (length l) rec))
               accepts h =
                   let k : length (entriesIn s) ≤ len = rw ee at h in
                   let n = ap length el ∙ listing-length s (framed-is s frame) in
                   let o = own-sum 40 (entriesIn s) rec (sym w ∙ summed-in) .1 in
-                  let c : _≡_ {A = Content}
-                  (record { «listing_start» = 9; «listing_len» = length l; «record» = rec })
-                  (contentOf s)
-                  = λ i. record { «listing_start» = 9; «listing_len» = n i; «record» = o i } in
+                  let c : contentBy (length l) rec ≡ contentOf s = λ i. contentBy (n i) (o i) in
                   let p : (t : Bytes) → length t ≡ len → mayRead s t ≡ pass
-                  = λ t i. rw (i, le-leb len 16777216 small, mark, whole, le-leb (length (entriesIn s)) len k) in
-                  (
+                  = λ t i. rw (i, le-leb len 16777216 small, mark, whole, le-leb (length (entriesIn s)) len k) in (
                     λ t i. ap (λ (c : Check). readBy c s t .reply) (sym (p t i)),
-                    λ t i. ap some c ∙ ap (λ (c : Check). readBy c s t .content) (sym (p t i))
+                    λ t i. ap some c ∙ ap (λ (c : Check). readBy c s t .content) (sym (p t i)),
                   )
 
 -- what is left in the table buffer
@@ -127,6 +125,11 @@ content-pass : (s t : Bytes) (x : Content) (c : Check) → some x ≡ readBy c s
 content-pass s t x pass h = refl
 content-pass s t x (refuse n w k) h = absurd (bot (cc))
 
+-- an answer x, with w left in the buffer, is what reading gives
+abbrev Reads : Bytes → Bytes → Reading → Bytes → Type 0
+Reads s t x w =
+    (toldReading x ≡ readBack s t .reply) × ((toldContent x ≡ readBack s t .content) × (w ≡ readBack s t .table))
+
 -- the judge's answer r, taken for the case x
 module _ (s t : Bytes) {r x : Reading} (e : r ≡ x) (h : Tells s (length t) (toldReading r) (toldContent r)) where
   reply : toldReading x ≡ readBack s t .reply
@@ -135,8 +138,7 @@ module _ (s t : Bytes) {r x : Reading} (e : r ≡ x) (h : Tells s (length t) (to
   content : toldContent x ≡ readBack s t .content
   content = sym (ap toldContent e) ∙ h .1 t refl
 
-  pub unchanged : none ≡ toldContent x
-      → (toldReading x ≡ readBack s t .reply) × ((toldContent x ≡ readBack s t .content) × (t ≡ readBack s t .table))
+  pub unchanged : none ≡ toldContent x → Reads s t x t
   unchanged n = (reply, (content, kept-as s t (mayRead s t) (n ∙ content)))
 
   module _ {y : Content} (d : some y ≡ toldContent x) where
@@ -151,7 +153,7 @@ module _ (s t : Bytes) {r x : Reading} (e : r ≡ x) (h : Tells s (length t) (to
         let c = then-pass (unless 15 (undamaged s)) _ (b .1) in (
           unless-pass 14 (marked s) (b .0),
           unless-pass 15 (undamaged s) (c .0),
-          leb-true n (length t) (unless-pass 13 (leb n (length t)) (c .1))
+          leb-true n (length t) (unless-pass 13 (leb n (length t)) (c .1)),
         )
 
     pub done-framed : framed s ≡ true
@@ -161,9 +163,7 @@ module _ (s t : Bytes) {r x : Reading} (e : r ≡ x) (h : Tells s (length t) (to
       pub done-fits : length p ≤ length t
       done-fits = rw ep (passed .2)
 
-      -- w is what is left in the buffer
-      pub done : {w : Bytes} → w ≡ padded (length t) p
-          → (toldReading x ≡ readBack s t .reply) × ((toldContent x ≡ readBack s t .content) × (w ≡ readBack s t .table))
+      pub done : {w : Bytes} → w ≡ padded (length t) p → Reads s t x w
       done ew =
           let z = ew ∙ ap (padded (length t)) ep ∙ ap (λ (c : Check). readBy c s t .table) (sym passes) in
           (reply, (content, z))

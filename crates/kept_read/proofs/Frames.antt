@@ -17,7 +17,7 @@ use Rattle.model.proofs.Orders.{bot, yea, nay, test, same-no, same-refl, eqb-eq
 use Rattle.model.proofs.Words.{IsBytes}
 use Rattle.model.proofs.Codec.{same-is}
 use Rattle.base_fields.proofs.Pieces.{cut, part-length, piece}
-use Rattle.kept_file.specs.Kept.{head, kept, versionIn, listingStart, listingLength, listingIn, entriesIn}
+use Rattle.kept_file.specs.Kept.{head, kept, versionIn, listingLength, listingIn, entriesIn}
 use Rattle.kept_file.specs.Kept.{isEntries, marked, undamaged}
 use Rattle.kept_file.proofs.Entries.{are-entries}
 use Rattle.kept_file.proofs.Files.{listing-short, kept-length, kept-entries-length, marked-version, parts}
@@ -49,13 +49,13 @@ module _ (s : Bytes) where
     pub by-mark : {a : Bool} {v : ℕ} → a ≡ same (take 3 s) mark → v ≡ versionIn s → (a && eqb v 1) ≡ marked s
     by-mark {a} {v} ea ev = elim (test (marked s)) [
       | yea m ↦
-        let x : a ≡ true = ea ∙ ap (λ (t : Bytes). same (take 3 t) mark) (begins m) in
-        rw (m, x, eq-eqb v 1 (ev ∙ marked-version s m))
+          let x : a ≡ true = ea ∙ ap (λ (t : Bytes). same (take 3 t) mark) (begins m) in
+          rw (m, x, eq-eqb v 1 (ev ∙ marked-version s m))
       | nay m ↦ elim (test a) [
         | yea x ↦ elim (test (eqb v 1)) [
           | yea y ↦
-            let z = is-marked (same-is (take 3 s) mark (sym ea ∙ x)) (sym ev ∙ eqb-eq v 1 y) in
-            absurd (bot (cc))
+              let z = is-marked (same-is (take 3 s) mark (sym ea ∙ x)) (sym ev ∙ eqb-eq v 1 y) in
+              absurd (bot (cc))
           | nay y ↦ rw (m, x, y)
         ]
         | nay x ↦ rw (m, x)
@@ -103,7 +103,9 @@ module _ (s : Bytes) where
 
 module _ (s : Bytes) where
   pub no-listing : length s < 9 → [] ≡ listingIn s
-  no-listing h = sym (ap (take (listingLength s)) (drop-of-length-le s {i = 9} (omega arith)) ∙ take-nil (listingLength s))
+  no-listing h =
+      let n : ℕ = listingLength s in
+      sym (ap (take n) (drop-of-length-le s {i = 9} (omega arith)) ∙ take-nil n)
 
   module _ {n : ℕ} (e : n ≡ listingEnd s) where
     pub listing-up-to : take (n - 9) (drop 9 s) ≡ listingIn s

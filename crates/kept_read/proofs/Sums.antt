@@ -1,14 +1,14 @@
 -- The record of the counting pass is the entries' own where they are entries, and only there a table's check agrees
 -- with it.
 use mathlib.Core.Path.{_≡_, refl, ap, ap₂, sym, _∙_}
-use mathlib.Core.Bool.{Bool, true, false, cond}
-use Prim.Native.Nat.{ℕ, zero, suc, _+_, _<_, _≤_}
+use mathlib.Core.Bool.{Bool, true, false}
+use Prim.Native.Nat.{ℕ, zero, suc, _+_, _<_}
 use native.Mathlib.Omega.{arith}
 use lib.Dec.{leb, eqb}
 use lib.ListN.{length}
 use Rattle.model.specs.Bytes.{Bytes, numberAt}
 use Rattle.model.specs.Tree.{Table}
-use Rattle.model.specs.Table.{charge, recordOf, keyAt, entryAt, entryEnd, entriesAt, tableIn, isTable}
+use Rattle.model.specs.Table.{charge, recordOf, entryEnd, entriesAt, tableIn, isTable}
 use Rattle.model.specs.declared.Record.{Record}
 use Rattle.model.proofs.Orders.{bot, yea, nay, test, eqb-eq, eqb-true, and-true}
 use Rattle.model.proofs.Codec.{decoded}
@@ -19,7 +19,6 @@ use Rattle.table_open.specs.Pass.{fits}
 use Rattle.table_open.proofs.Steps.{is-fits}
 use Rattle.kept_file.specs.Kept.{entriesUpTo, summed, isEntries}
 use Rattle.kept_file.proofs.Entries.{counted, are-entries}
-use Rattle.kept_read.specs.declared.Summed.{Summed}
 use Rattle.kept_read.specs.declared.Summed.the-variants.{Whole, Damaged}
 use Rattle.kept_read.specs.Heads.{filledBy, headsFrom, heads, recordIn}
 
@@ -42,11 +41,11 @@ whole E s (suc left) at n c r h = elim (test (leb (length s) at)) [
   | yea a ↦ let z : n + 0 ≡ n = omega arith in rw (a, z) (gives E s n c r (rw a at h))
   | nay a ↦ elim (test (fits s at)) [
     | yea f ↦
-      let v : ℕ = c + chargeBy E (numberAt s at 2) (numberAt s (at + 4) 4) in
-      let more : ℕ = length (entriesUpTo s left (entryEnd s at)) in
-      let ih = whole E s left (entryEnd s at) (n + 1) v r (rw (a, f) at h) in
-      let z : n + suc more ≡ n + 1 + more = omega arith in
-      rw (a, z) ih
+        let v : ℕ = c + chargeBy E (numberAt s at 2) (numberAt s (at + 4) 4) in
+        let more : ℕ = length (entriesUpTo s left (entryEnd s at)) in
+        let ih = whole E s left (entryEnd s at) (n + 1) v r (rw (a, f) at h) in
+        let z : n + suc more ≡ n + 1 + more = omega arith in
+        rw (a, z) ih
     | nay f ↦ absurd (bot (let z : Damaged ≡ Whole r = rw (a, f) at h in cc))
   ]
 ]
@@ -70,15 +69,15 @@ all-counted E s zero at n c st =
 all-counted E s (suc left) at n c st = elim (test (leb (length s) at)) [
   | yea a ↦ rw a (ap₂ (λ (m d : ℕ). Whole (filledBy E s m d)) (omega arith) (omega arith))
   | nay a ↦
-    let t : Table = entriesUpTo s left (entryEnd s at) in
-    let w = stands s (length t) at (rw a at st) in
-    let i = w .inside in
-    let kl = w .key-length in
-    let bl = w .body-length in
-    let f : fits s at ≡ true = is-fits s at (omega arith) i in
-    let v : ℕ = c + chargeBy E (numberAt s at 2) (numberAt s (at + 4) 4) in
-    let ih = all-counted E s left (entryEnd s at) (n + 1) v (w .next) in
-    rw (a, f) (ih ∙ ap₂ (λ (m d : ℕ). Whole (filledBy E s m d)) (omega arith) (omega arith))
+      let t : Table = entriesUpTo s left (entryEnd s at) in
+      let w = stands s (length t) at (rw a at st) in
+      let i = w .inside in
+      let kl = w .key-length in
+      let bl = w .body-length in
+      let f : fits s at ≡ true = is-fits s at (omega arith) i in
+      let v : ℕ = c + chargeBy E (numberAt s at 2) (numberAt s (at + 4) 4) in
+      let ih = all-counted E s left (entryEnd s at) (n + 1) v (w .next) in
+      rw (a, f) (ih ∙ ap₂ (λ (m d : ℕ). Whole (filledBy E s m d)) (omega arith) (omega arith))
 ]
 
 -- so the pass over entries gives their sum

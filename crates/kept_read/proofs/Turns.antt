@@ -1,9 +1,8 @@
 -- One turn of the counting pass: what holds before a head is read, what each exit gives, and what holds after it.
 use mathlib.Core.Path.{_≡_, refl, sym, _∙_}
-use mathlib.Core.Bool.{Bool, true, false, cond}
+use mathlib.Core.Bool.{true, false, cond}
 use Prim.Native.Nat.{ℕ, zero, suc, _+_, _-_, _*_, _<_, _≤_}
 use native.Mathlib.Omega.{arith}
-use lib.Dec.{leb}
 use lib.ListN.{length}
 use borrow.Author.Tests.{le-leb, lt-leb}
 use Rattle.model.specs.Bytes.{Bytes, numberAt}
@@ -11,7 +10,6 @@ use Rattle.model.specs.Table.{entryEnd}
 use Rattle.table_charge.specs.Charge.{chargeBy}
 use Rattle.table_open.specs.Pass.{fits}
 use Rattle.table_open.proofs.Steps.{no-head, by-end}
-use Rattle.kept_read.specs.declared.Summed.{Summed}
 use Rattle.kept_read.specs.declared.Summed.the-variants.{Whole, Damaged}
 use Rattle.kept_read.specs.Heads.{filledBy, headsFrom, heads}
 

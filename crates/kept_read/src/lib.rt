@@ -14,7 +14,7 @@ use kept_file::Content;
 use kept_file::Reading;
 
 // The record of entries, or that they are none.
-pub enum Summed {
+enum Summed {
     Whole(model::Record),
     Damaged,
 }
