@@ -52,9 +52,11 @@ module _ (listing table : Bytes) (rec : Record) (output : Bytes) (n v w : ℕ) w
 
   pub refused-writing : written listing table rec output .reply ≡ refused n v w → Numbered 1 2 16 13 n v w × (written listing table rec output .output ≡ output)
   refused-writing h =
-      let e = written-refused (mayWrite listing table rec output) h in
-      (numbered 1 2 16 13 (isTable table rec) (isListing listing) (eqb (rec .«entry_size») 40)
-      (leb (length (fileOf listing table rec)) (length output)) n v w (e .0), e .1)
+      let e = written-refused (mayWrite listing table rec output) h in (
+        numbered 1 2 16 13 (isTable table rec) (isListing listing) (eqb (rec .«entry_size») 40)
+            (leb (length (fileOf listing table rec)) (length output)) n v w (e .0),
+        e .1,
+      )
 
 -- the reader: 1, 14, 15 or 13, nothing is told of the file, and the table buffer is as it was
 module _ (file buffer : Bytes) (n v w : ℕ) where
