@@ -3,3 +3,4 @@ pub mod Leaving
 pub mod Running
 pub mod Handing
 pub mod Keeping
+pub mod Resuming
