@@ -1,10 +1,11 @@
 //! Replays the vectors of calls.jsonl, worked.jsonl and kept.jsonl against the library: every answer, record, table, work
 //! buffer, output and place must be as they say. The rows of docs/WORKED-CALLS.md must be those of worked.jsonl, and
-//! docs/DEFINITION.md may cite no other. With the name of a file it replays that one alone; with `--rows` it prints the
-//! rows of worked.jsonl. It says what it compared, and ends with status 1 at the first difference, and where a file has
-//! nothing of a kind that it is there for.
+//! docs/DEFINITION.md may cite no other; the kept files that docs/FORMATS.md shows must be read as it says. With the
+//! name of a file it replays that one alone; with `--rows` it prints the rows of worked.jsonl. It says what it compared,
+//! and ends with status 1 at the first difference, and where a file has nothing of a kind that it is there for.
 mod json;
 mod kept;
+mod page;
 mod sha256;
 mod worked;
 
@@ -216,6 +217,9 @@ fn compare() -> Result<(), String> {
             rows.stand_in(&read(&page)?).map_err(|error| format!("{page}: {error}"))?;
             rows.cited_in(&read(&definition)?).map_err(|error| format!("{definition}: {error}"))?;
             println!("worked calls: {} rows, in the page as in the vectors", rows.len());
+            let formats = beside("../../docs/FORMATS.md");
+            let (refused, length) = page::compare(&read(&formats)?).map_err(|error| format!("{formats}: {error}"))?;
+            println!("kept files in the page: {refused} refused as it says, one of {length} bytes read as it says");
         }
     }
     Ok(())
