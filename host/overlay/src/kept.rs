@@ -22,7 +22,8 @@ const LONGEST: usize = KEPT_OVERHEAD + 2 * MAX_BUFFER;
 
 impl OverlayRef<'_> {
     /// Writes table and listing as a kept file to the start of the output, with zeros behind. The answer is the file's
-    /// length. Refused with 1, 2, 16 (another entry size than 40) or 13 (the output is too short), the first that holds.
+    /// length. Refused with 1, 2, 16 (another entry size than 40) or 13 (the output is too short), the first that
+    /// holds.
     ///
     /// ```
     /// use overlay::{EMPTY_LISTING, KEPT_OVERHEAD, OverlayRef, Record, Refusal};
@@ -158,8 +159,8 @@ impl Overlay {
     }
 }
 
-/// The listing of a kept file that was loaded: the part of the file's bytes that it is, with these bytes. A reference to
-/// it is one to the listing.
+/// The listing of a kept file that was loaded. It owns the bytes of the whole file and dereferences to the part of them
+/// that is the listing.
 #[derive(Clone, Debug)]
 pub struct KeptListing {
     file: Vec<u8>,

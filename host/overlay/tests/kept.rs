@@ -131,14 +131,14 @@ fn the_numbers_of_the_reader() {
     let good = plan.keep(&small()).unwrap();
     let damaged = &good[..good.len() - 1];
     let other_mark = [b"OVU", &damaged[3..]].concat();
-    let other_version = [b"OVT\x02\x00", &good[5..]].concat();
-    for file in [&good[..], damaged, &other_mark, &other_version, b""] {
+    let [version_2, version_257] = [b"OVT\x02\x00", b"OVT\x01\x01"].map(|head| [head, &good[5..]].concat());
+    for file in [&good[..], damaged, &other_mark, &version_2, &version_257, b""] {
         assert_eq!(read(file, BOUND + 1, 4, 2), 1);
         for (numbers, place) in [(0, 2), (3, 2), (5, 2), (4, 0), (4, 1), (4, 3)] {
             assert_eq!(read(file, used - 1, numbers, place), 1);
         }
     }
-    for file in [&other_mark[..], &other_version, b"", &good[..4]] {
+    for file in [&other_mark[..], &version_2, &version_257, b"", &good[..4]] {
         assert_eq!(read(file, used - 1, 4, 2), 14);
         assert_eq!(read(file, used, 4, 2), 14);
     }
@@ -150,6 +150,18 @@ fn the_numbers_of_the_reader() {
     assert_eq!(read(&good, used - 1, 4, 2), 13);
     assert_eq!(read(&good, used, 4, 2), 0);
     assert_eq!(read(&good, BOUND, 4, 2), 0);
+}
+
+/// The listing of an empty tree and no entry make the shortest file, which any table buffer takes.
+#[test]
+fn the_shortest_file() {
+    let kept = Overlay::open(9, 40).unwrap().keep(overlay::EMPTY_LISTING).unwrap();
+    assert_eq!(kept, file(overlay::EMPTY_LISTING, b""));
+    for room in [0, 1, 100] {
+        let (plan, part) = Overlay::read_kept(&kept, room).unwrap();
+        assert_eq!((part, plan.table()), (overlay::EMPTY_LISTING, &vec![0; room][..]));
+        assert_eq!(plan.record(), Record { entry_size: 40, ..Record::default() });
+    }
 }
 
 #[test]

@@ -21,19 +21,21 @@ pub fn keep(state: &State, listing: &[u8], call: &Json) -> Result<(), String> {
     Ok(())
 }
 
-/// A kept file as the vector's `file`, read into a buffer of its `room` bytes that is filled with 0xAA: what is answered
-/// and left must be as it says. A vector without an answer has one that is accepted. The state after it.
+/// Reads the vector's `file` into a buffer of `room` bytes filled with 0xAA, and compares what is answered and left; a
+/// vector without an answer is accepted. The state after it.
 pub fn read(vector: &Json) -> Result<State, String> {
     let file = vector.get("file").bytes();
     let mut table = vec![0xaa; vector.get("room").number() as usize];
-    let (mut record, mut place) = ([9; 4], [9; 2]);
+    // Numbers that no reading gives.
+    let old = ([u64::MAX; 4], [u64::MAX; 2]);
+    let (mut record, mut place) = old;
     let answer = four(unpack(raw::read_kept(&file, &mut table, &mut record, &mut place)));
     let told = || format!("{vector:?}\ngives {answer:?} {place:?} {record:?}");
     if answer != vector.find("answer").map_or([0; 4], Json::four) {
         return Err(told());
     }
     if answer[0] != 0 {
-        let unchanged = record == [9; 4] && place == [9; 2] && table.iter().all(|byte| *byte == 0xaa);
+        let unchanged = (record, place) == old && table.iter().all(|byte| *byte == 0xaa);
         return if unchanged { Ok(State { table, record: record.into() }) } else { Err(told()) };
     }
     let sha = sha256::hex(&table);
