@@ -1,0 +1,4 @@
+pub mod Turns
+pub mod Sums
+pub mod Frames
+pub mod Answers
