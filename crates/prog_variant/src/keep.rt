@@ -1,4 +1,5 @@
-// The kept file of what a run left (#101), made in the work buffer and written to a new file.
+// The kept file of what a run left (#101), made in the work buffer, which is free by then, and written to a new file.
+// A file that is there already is left as it is.
 ghost use Prim.Native.Nat.{_<_};
 ghost use lib.ListN.{length};
 use crate::files;

@@ -18,19 +18,11 @@ slice-reshare-prefix-write-file c =
     let w = d .before .before .before .before in
     let a = w .before .before .before .before .before .args in
     let e = w .write .ensures in
-    let m = made-within (a .listing .now) (a .table .now) (a .rec) (a .output .now) _ (w .write .result) _ (e .0) (e .1)
-    (d .writing .given .1) in
-    m
+    made-within (a .listing .now) (a .table .now) (a .rec) (a .output .now) _ (w .write .result) _ (e .0) (e .1)
+    (d .writing .given .1)
 
 slice-aggregate-write-file : tie.Need-slice-aggregate-write-file
-slice-aggregate-write-file c =
-    let d = c .before .before in
-    let w = d .before .before .before .before in
-    let a = w .before .before .before .before .before .args in
-    let e = w .write .ensures in
-    let m = made-within (a .listing .now) (a .table .now) (a .rec) (a .output .now) _ (w .write .result) _ (e .0) (e .1)
-    (d .writing .given .1) in
-    sym (length-take-le _ _ m)
+slice-aggregate-write-file c = sym (length-take-le _ _ (slice-reshare-prefix-write-file (c .before)))
 
 write-file-requires : tie.Need-write-file-requires
 write-file-requires c κs = search needs
