@@ -1,5 +1,5 @@
 /* A table over a listing, from C: directories and files are made, moved and deleted, by one call after the other and
- * by a script, and each answer is printed. */
+ * by a script; table and listing are kept in a file's bytes and read again; and each answer is printed. */
 #include <stdio.h>
 #include <string.h>
 
@@ -17,6 +17,7 @@ struct plan {
 #define TABLE(plan) (plan)->table, sizeof(plan)->table, (plan)->record, OVERLAY_RECORD_LENGTH
 #define LENT(plan) TABLE(plan), (plan)->work, sizeof(plan)->work
 #define PATH(text) (const uint8_t *)(text), strlen(text)
+#define PLACE place, OVERLAY_PLACE_LENGTH
 
 /* A published tree of one directory `a` with a file `a/f` of 5 bytes. */
 static const uint8_t listing[] = {'R', 'D', 'L', 1, 0, 2, 0, 0, 0,
@@ -85,6 +86,34 @@ static void run_scripts(struct plan *plan) {
         differences++;
 }
 
+/* Keeps the table with the listing in a file's bytes, reads them into another table, and goes on with a call over the
+ * listing where it stands in the file. */
+static void keep_and_read(const struct plan *plan) {
+    static struct plan other;
+    static uint8_t file[OVERLAY_KEPT_OVERHEAD + sizeof listing + sizeof plan->table];
+    uint64_t place[OVERLAY_PLACE_LENGTH];
+    size_t length = OVERLAY_KEPT_OVERHEAD + sizeof listing + plan->record[OVERLAY_RECORD_USED];
+
+    expect("keep, a byte too short", overlay_write_kept(LISTING, TABLE(plan), file, length - 1), OVERLAY_NO_ROOM, 0);
+    expect("keep", overlay_write_kept(LISTING, TABLE(plan), file, sizeof file), OVERLAY_ACCEPTED, length);
+    expect("read", overlay_read_kept(file, length, TABLE(&other), PLACE), OVERLAY_ACCEPTED, 0);
+    const uint8_t *kept = file + place[OVERLAY_PLACE_START];
+    size_t kept_length = place[OVERLAY_PLACE_LISTING_LENGTH];
+    if (kept_length != sizeof listing || memcmp(kept, LISTING) != 0)
+        differences++;
+    if (memcmp(other.table, plan->table, sizeof other.table) != 0 ||
+        memcmp(other.record, plan->record, sizeof other.record) != 0)
+        differences++;
+    expect("unlink s/t in what was read", overlay_unlink(kept, kept_length, LENT(&other), PATH("s/t"), no_limit),
+           OVERLAY_ACCEPTED, 0);
+
+    expect("read, a byte cut off", overlay_read_kept(file, length - 1, TABLE(&other), PLACE), OVERLAY_DAMAGED, 0);
+    expect("read a listing", overlay_read_kept(LISTING, TABLE(&other), PLACE), OVERLAY_NOT_KEPT, 0);
+    expect("open, entry size 41", overlay_open_table(TABLE(&other), 41), OVERLAY_ACCEPTED, 0);
+    expect("keep, entry size 41", overlay_write_kept(LISTING, TABLE(&other), file, sizeof file),
+           OVERLAY_OTHER_ENTRY_SIZE, 0);
+}
+
 int main(void) {
     static struct plan plan;
     expect("open", overlay_open_table(TABLE(&plan), 40), OVERLAY_ACCEPTED, 0);
@@ -120,6 +149,7 @@ int main(void) {
            OVERLAY_MALFORMED_TABLE, 0);
 
     run_scripts(&plan);
+    keep_and_read(&plan);
     if (!overlay_check_table(TABLE(&plan)))
         differences++;
     printf("%llu entries, %llu bytes, charge %llu\n", (unsigned long long)plan.record[OVERLAY_RECORD_COUNT],

@@ -4,16 +4,17 @@
  * The library has no state and calls nothing but memcpy, memmove and memset of the C library. Threads may call it at
  * once, each with buffers of its own.
  *
- * WHAT IS LENT. Every buffer is a pointer and a length, counted in elements (bytes, or 64-bit numbers for a record).
+ * WHAT IS LENT. Every buffer is a pointer and a length, counted in elements (bytes, or 64-bit numbers for a record and
+ * a place).
  * Any bytes and any numbers may be given: each call checks what it is lent. What C itself asks is left to the caller:
  *   - the memory is there and can be read, and written where the pointer is not const;
- *   - a record's pointer is aligned to 8 bytes;
+ *   - the pointer of a record and of a place is aligned to 8 bytes;
  *   - a buffer that is not const overlaps no other buffer of the same call;
  *   - with length 0 the pointer is not looked at, and may be NULL;
  *   - a bool is 0 or 1.
  *
- * A REFUSED CALL CHANGES NOTHING: table, record and work buffer are byte for byte as they were. Only overlay_run_new
- * may leave the table opened where it does not run the script.
+ * A REFUSED CALL CHANGES NOTHING: table, record, work buffer, output and place are byte for byte as they were. Only
+ * overlay_run_new may leave the table opened where it does not run the script.
  * An accepted changing call leaves the table with its new record, and the work buffer all 0; a script, as its last call
  * leaves them.
  *
@@ -21,9 +22,14 @@
  * then the records: path length (16 bits), kind (8 bits: 1 directory, 2 file, 3 link), mtime (the bits of a double),
  * size (64 bits), path. The paths ascend by their bytes. All numbers are little-endian.
  *
- * THE TABLE is a buffer of at most 16 MiB that overlay_open_table or overlay_run_new makes empty. Its entries ascend by
- * key from the start, and all bytes behind them are 0. An entry: key length (16 bits), kind (16 bits: 1 own file, 2
- * reference to a listed file, 3 directory, 4 deleted), body length (32 bits), mtime bits (64), size (64), key, body.
+ * THE TABLE is a buffer of at most 16 MiB that overlay_open_table or overlay_run_new makes empty, or overlay_read_kept
+ * fills from a file. Its entries ascend by key from the start, and all bytes behind them are 0. An entry: key length
+ * (16 bits), kind (16 bits: 1 own file, 2 reference to a listed file, 3 directory, 4 deleted), body length (32 bits),
+ * mtime bits (64), size (64), key, body.
+ *
+ * THE KEPT FILE holds a listing and the entries of a table of entry size 40 over it: the mark "OVT", a 16-bit version
+ * 1, the length of the listing (32 bits), the listing, the length of the entries (32 bits), the entries, and no byte
+ * more. The entry size and the charge are not in it.
  *
  * A PATH is not ended by a 0 byte. It is empty (the root), or components joined by single '/': UTF-8, at most 512
  * bytes and 32 components, a component of 1 to 255 bytes, not "." or "..", without byte 0, backslash or colon.
@@ -54,7 +60,7 @@ extern "C" {
 /* The number of an answer: 0, or why the call is refused. */
 enum overlay_number {
     OVERLAY_ACCEPTED = 0,
-    OVERLAY_MALFORMED_TABLE = 1,    /* table, record, entry size or work buffer malformed or too short */
+    OVERLAY_MALFORMED_TABLE = 1,    /* table, record, entry size, work buffer or place malformed, too short or long */
     OVERLAY_MALFORMED_LISTING = 2,
     OVERLAY_MALFORMED_PATH = 3,     /* path */
     OVERLAY_LINK_OR_ROOT = 4,       /* path, length: a link is met, or the root is given */
@@ -66,14 +72,18 @@ enum overlay_number {
     OVERLAY_BELOW_SOURCE = 10,      /* length: the destination lies below the source */
     OVERLAY_LIMIT = 11,             /* the charge, or what a rename plans, exceeds the limit */
     OVERLAY_KEY_TOO_LONG = 12,      /* a moved key has more than 512 bytes or 32 components */
-    OVERLAY_NO_ROOM = 13,           /* the entries after the call are longer than the table */
+    OVERLAY_NO_ROOM = 13,           /* the entries after the call are longer than the table, a file than the output */
+    OVERLAY_NOT_KEPT = 14,          /* not the mark and the version of a kept file, or too short for them */
+    OVERLAY_DAMAGED = 15,           /* a kept file with any other damage */
+    OVERLAY_OTHER_ENTRY_SIZE = 16,  /* only a table of entry size 40 is written to a kept file */
     OVERLAY_MALFORMED_SCRIPT = 254, /* only overlay_run and overlay_run_new: the bytes are no script */
     OVERLAY_SHORT_REPORT = 255      /* only these two: the report has not a row for each call */
 };
 
 /* An answer is packed in one number: the number above in the low 8 bits, the path (0: only or source, 1: destination)
  * in the next 8, and from bit 16 on the length of that path, or of the ancestor at which mkdir with parents met a file.
- * Accepted, these 48 bits hold the value: the data's length for a write, 1 or 0 for a query, else 0. */
+ * Accepted, these 48 bits hold the value: the data's length for a write, the file's for overlay_write_kept, 1 or 0 for
+ * a query, else 0. */
 static inline int overlay_answer_number(uint64_t answer) { return (int)(answer & 0xff); }
 static inline int overlay_answer_path(uint64_t answer) { return (int)(answer >> 8 & 0xff); }
 static inline uint64_t overlay_answer_length(uint64_t answer) { return answer >> 16; }
@@ -154,6 +164,33 @@ uint64_t overlay_run_new(const uint8_t *listing, size_t listing_length, uint8_t 
                          uint64_t *record, size_t record_length, uint8_t *work, size_t work_length,
                          const uint8_t *script, size_t script_length, uint8_t *report, size_t report_length,
                          uint64_t entry_size);
+
+/* What a kept file has beside listing and entries, in bytes; the entry size of its table. */
+#define OVERLAY_KEPT_OVERHEAD 13
+#define OVERLAY_KEPT_ENTRY_SIZE 40
+
+/* A place: where the listing starts in a kept file, and its length. A place of another length is refused with
+ * OVERLAY_MALFORMED_TABLE. */
+#define OVERLAY_PLACE_LENGTH 2
+#define OVERLAY_PLACE_START 0
+#define OVERLAY_PLACE_LISTING_LENGTH 1
+
+/* Writes listing and table as a kept file to the start of the output, and 0 to every byte of it behind the file. The
+ * value is the file's length: OVERLAY_KEPT_OVERHEAD, the listing's length and the record's OVERLAY_RECORD_USED. Refused
+ * with OVERLAY_MALFORMED_TABLE, OVERLAY_MALFORMED_LISTING, OVERLAY_OTHER_ENTRY_SIZE or OVERLAY_NO_ROOM (the output is
+ * shorter than the file), the first of them that holds. The output may be of any length. */
+uint64_t overlay_write_kept(const uint8_t *listing, size_t listing_length, const uint8_t *table, size_t table_length,
+                            const uint64_t *record, size_t record_length, uint8_t *output, size_t output_length);
+
+/* Reads a kept file: its entries to the start of the table and 0 to every byte behind them, the record of that table,
+ * and the place of the listing, which stays where it is in the file. What table, record and place held before does not
+ * matter. The file may be of any length. Refused with OVERLAY_MALFORMED_TABLE (a table above OVERLAY_MAX_BUFFER, a
+ * record that is not four numbers, a place that is not two), OVERLAY_NOT_KEPT, OVERLAY_DAMAGED or OVERLAY_NO_ROOM (the
+ * table is shorter than the entries), the first of them that holds.
+ * A file that is read, written again, is the same byte for byte; what was written is read as it was. Calls go on from
+ * the table that was read, over that listing, as from the one that was written. */
+uint64_t overlay_read_kept(const uint8_t *file, size_t file_length, uint8_t *table, size_t table_length,
+                           uint64_t *record, size_t record_length, uint64_t *place, size_t place_length);
 
 #ifdef __cplusplus
 }

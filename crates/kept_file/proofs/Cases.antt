@@ -1,18 +1,21 @@
 -- Computed cases of the kept file: its bytes, each number of the writer and of the reader, and what each wrong check
 -- would make of them. The listing is document 01's L, or the shortest one; the entries are those after `a` to `b`.
+use mathlib.Core.Bool.{Bool, true, false}
 use mathlib.Core.List.{List, [], _∷_, _++_, map}
 use mathlib.Core.Option.{none, some}
-use mathlib.Core.Path.{_≡_, refl}
+use mathlib.Core.Path.{_≡_, refl, ap}
 use Prim.Native.Nat.{ℕ}
-use lib.ListN.{take, replicate}
+use lib.Dec.{leb}
+use lib.ListN.{length, take, replicate}
 use Rattle.model.specs.Bytes.{Bytes, bytes}
 use Rattle.model.specs.Tree.{own, reference, deleted}
 use Rattle.model.specs.Table.{encode, padded, recordOf}
+use Rattle.model.specs.Checks.{_then_, unless}
 use Rattle.model.specs.Answer.{Reply, accepted, refused}
 use Rattle.model.specs.declared.Record.{Record}
-use Rattle.model.proofs.Case.{path, listingBytes}
+use Rattle.model.proofs.Case.{path, fileAt, listingBytes}
 use Rattle.model.proofs.Cases.{L, there}
-use Rattle.kept_file.specs.Kept.{head, kept, Written, written, ReadBack, readBack}
+use Rattle.kept_file.specs.Kept.{head, kept, entriesIn, marked, undamaged, Written, written, ReadBack, readBy, readBack}
 
 -- L has 91 bytes, the entries 107; the shortest listing has 9
 abbrev listing : Bytes
@@ -41,6 +44,14 @@ own-k = encode ((path "k", own 7 (1 ∷ 2 ∷ [])) ∷ [])
 -- the shortest file, byte by byte
 pub shortest : file bare [] ≡ 79 ∷ 86 ∷ 84 ∷ 1 ∷ 0 ∷ 9 ∷ 0 ∷ 0 ∷ 0 ∷ 82 ∷ 68 ∷ 76 ∷ 1 ∷ 0 ∷ 0 ∷ 0 ∷ 0 ∷ 0 ∷ 0 ∷ 0 ∷ 0 ∷ 0 ∷ []
 shortest = refl
+
+-- the file of 67 bytes in docs/FORMATS.md: one listed file, `z`, and what its unlink leaves
+pub dumped : file (listingBytes (fileAt "z" 0 0 ∷ [])) (encode ((path "z", deleted) ∷ []))
+    ≡ (79 ∷ 86 ∷ 84 ∷ 1 ∷ 0 ∷ 29 ∷ 0 ∷ 0 ∷ 0 ∷ [])
+    ++ (82 ∷ 68 ∷ 76 ∷ 1 ∷ 0 ∷ 1 ∷ 0 ∷ 0 ∷ 0 ∷ 1 ∷ 0 ∷ 2 ∷ replicate 16 0)
+    ++ (122 ∷ 25 ∷ 0 ∷ 0 ∷ 0 ∷ 1 ∷ 0 ∷ 4 ∷ 0 ∷ replicate 20 0)
+    ++ (122 ∷ [])
+dumped = refl
 
 -- a writing: listing, table, record and output, and what is answered and left
 pub record WritingCase : Type 0 where
@@ -151,3 +162,14 @@ readings =
 pub readings-hold : map took readings ≡ map (λ (c : ReadingCase). c .gives) readings
 unfolding readings
 readings-hold = refl {a = map (λ (c : ReadingCase). c .gives) readings}
+
+-- 1: a buffer of a byte more than 16 MiB, first, whatever the file; with 16 MiB the file counts
+pub long-buffer : (f b : Bytes) → length b ≡ 16777217 → readBack f b ≡ record { reply = refused 1 0 0; content = none; table = b }
+long-buffer f b l =
+    let e : leb (length b) 16777216 ≡ false = ap (λ (n : ℕ). leb n 16777216) l in
+    ap (λ (x : Bool). readBy (unless 1 x then unless 14 (marked f) then unless 15 (undamaged f) then unless 13 (leb (length (entriesIn f)) (length b))) f b) e
+
+pub longest-buffer : (b : Bytes) → length b ≡ 16777216 → readBack [] b .reply ≡ refused 14 0 0
+longest-buffer b l =
+    let e : leb (length b) 16777216 ≡ true = ap (λ (n : ℕ). leb n 16777216) l in
+    ap (λ (x : Bool). readBy (unless 1 x then unless 14 false then unless 15 (undamaged []) then unless 13 (leb (length (entriesIn [])) (length b))) [] b .reply) e

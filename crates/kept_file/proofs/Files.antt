@@ -76,12 +76,12 @@ kept-undamaged l e h i =
     let b : entriesIn (kept 1 l e) ≡ e = kept-entries l e short in
     rw (a, b, h, i, same-refl (kept 1 l e))
 
--- a marked file names version 1
+-- what a marked file begins with, and that it names version 1
+pub marked-begins : (s : Bytes) → marked s ≡ true → s ≡ head 1 ++ drop 5 s
+marked-begins s h = sym (take-append-drop 5 s) ∙ ap (λ (t : Bytes). t ++ drop 5 s) (same-is (take 5 s) (head 1) h)
+
 pub marked-version : (s : Bytes) → marked s ≡ true → versionIn s ≡ 1
-marked-version s h =
-    let e : s ≡ head 1 ++ drop 5 s
-    = sym (take-append-drop 5 s) ∙ ap (λ (t : Bytes). t ++ drop 5 s) (same-is (take 5 s) (head 1) h) in
-    ap versionIn e
+marked-version s h = ap versionIn (marked-begins s h)
 
 -- what a file is that the reader takes
 pub record Parts (s : Bytes) : Type 0 where

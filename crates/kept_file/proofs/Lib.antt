@@ -3,3 +3,4 @@ pub mod Entries
 pub mod Files
 pub mod RoundTrip
 pub mod Sessions
+pub mod Refused

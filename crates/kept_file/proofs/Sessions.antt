@@ -23,7 +23,7 @@ use Rattle.model.proofs.Words.{IsBytes, Words}
 use Rattle.model.proofs.Codec.{decoded}
 use Rattle.model.proofs.Formed.{fine-is}
 use Rattle.model.proofs.Built.{built-reached, built-runs}
-use Rattle.kept_file.specs.Kept.{kept, listingIn, entriesIn, marked, undamaged, Written, fileOf, ReadBack, mayRead, readBy, readBack}
+use Rattle.kept_file.specs.Kept.{kept, entriesIn, marked, undamaged, Written, fileOf, written, ReadBack, mayRead, readBy, readBack}
 use Rattle.kept_file.specs.Sessions.{Act, call, write, read, Filed, Held, nthBack, writtenOf, filed, resumed, readInto, act}
 use Rattle.kept_file.specs.Sessions.{WordedActs, ActHolds, HoldsOfActs}
 use Rattle.kept_file.specs.declared.Content.{Content}
@@ -189,30 +189,30 @@ module _ (listing : Bytes) (E : ℕ) (bytes : IsBytes listing) where
   pub kept-run : (x : State) → Built listing E x → (acts : List Act) → WordedActs acts → HoldsOfActs listing E (record { listing = listing; state = x; files = [] }) acts
   kept-run x b acts w = holds acts (record { listing = listing; state = x; files = [] }) w (record { same-listing = refl; built = b; files = tt })
 
--- #101: "A call sequence may then start from a table that our calls made and that was written here with the listing they ran over, and its tree goes
--- on from the one shown at writing."
-module _ (listing : Bytes) (bytes : IsBytes listing) (well : isListing listing ≡ true) (x : State) (b : Built listing 40 x) (buffer : Bytes)
-    (fits : x .store .rec .used ≤ length buffer) (small : length buffer ≤ 16777216) where
-  abbrev file : Bytes
-  file = fileOf listing (x .store .table) (x .store .rec)
+  -- #101: "A call sequence may then start from a table that our calls made and that was written here with the listing they ran over, and its tree goes
+  -- on from the one shown at writing.": one built table, written and read
+  module _ (x : State) (b : Built listing E x) (output : Bytes) (n : ℕ) (a : written listing (x .store .table) (x .store .rec) output .reply ≡ accepted n)
+      (buffer : Bytes) (c : Content) where
+    abbrev file : Bytes
+    file = take n (written listing (x .store .table) (x .store .rec) output .output)
 
-  -- what a caller has after the reading
-  abbrev resumedFrom : Content → State
-  resumedFrom c = record { store = record { table = readBack file buffer .table; rec = c .«record» }; plain = x .plain }
+    -- what a caller has after the reading
+    abbrev readState : State
+    readState = record { store = record { table = readBack file buffer .table; rec = c .«record» }; plain = x .plain }
 
-  pub read-runs : (c : Content) → readBack file buffer .content ≡ some c → (calls : List Request) → WordedCalls calls → RunFrom (listingIn file) (resumedFrom c) calls
-  read-runs c e calls w =
-      let s = x .store in
-      let r = built-reached listing 40 bytes x b in
-      let used : s .rec .used ≡ length (encode (entriesOf s)) = ap (λ (q : Record). q .used) (decoded (s .table) (s .rec) (r .table) .rec) in
-      let a = kept-read-words listing (s .table) (s .rec) well (r .table) (r .size-kept) buffer (omega arith) small (fine-is (entriesOf s) (r .fine) .2) in
-      let rec-is : c .«record» ≡ s .rec = some-record c (record { «listing_start» = 9; «listing_len» = length listing; «record» = s .rec })
-      (sym e ∙ ap (λ (y : ReadBack). y .content) (a .answer)) in
-      let table-is : readBack file buffer .table ≡ padded (length buffer) (encode (entriesOf s)) = ap (λ (y : ReadBack). y .table) (a .answer) in
-      let state-is : resumedFrom c ≡ movedTo (length buffer) x = λ i. record { store = record { table = table-is i; rec = rec-is i }; plain = x .plain } in
-      subst⁻¹ (λ (l : Bytes). RunFrom l (resumedFrom c) calls) (a .listing-part)
-      (subst⁻¹ (λ (y : State). RunFrom listing y calls) state-is
-      (built-runs listing 40 bytes (movedTo (length buffer) x) (by-reading x (length buffer) fits small b) calls w))
-    where
-      some-record : (c d : Content) → some c ≡ some d → c .«record» ≡ d .«record»
-      some-record c d h = cc
+    -- the listing that was told is the same, and the table is one that the calls built
+    pub read-built : readBack file buffer .content ≡ some c → (take (c .«listing_len») (drop (c .«listing_start») file) ≡ listing) × Built listing E readState
+    read-built e =
+        let h : Held = record { listing = listing; state = x; files = [] } in
+        let k : StillHere h = record { same-listing = refl; built = b; files = tt } in
+        let f : Filed = record { file = file; plain = x .plain } in
+        let w = kept-by-writing h k output (accepted n) a .files .0 in
+        let r = subst (λ (y : Option Content). StillHere (resumed y f (readBack file buffer .table) h)) e (kept-by-reading h k buffer f w (mayRead file buffer) refl) in
+        (r .same-listing, r .built)
+
+    -- and a list of calls may go on from it, over the listing that was told
+    pub read-runs : readBack file buffer .content ≡ some c → (calls : List Request) → WordedCalls calls
+        → RunFrom (take (c .«listing_len») (drop (c .«listing_start») file)) readState calls
+    read-runs e calls w =
+        let r = read-built e in
+        subst⁻¹ (λ (l : Bytes). RunFrom l readState calls) (r .0) (built-runs listing E bytes readState (r .1) calls w)

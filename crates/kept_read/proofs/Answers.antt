@@ -10,11 +10,10 @@ use borrow.Author.Tests.{le-leb, lt-leb, leb-true, not-true, not-false}
 use Rattle.model.specs.Bytes.{Bytes}
 use Rattle.model.specs.Listing.{isListing}
 use Rattle.model.specs.Table.{padded}
-use Rattle.model.specs.Checks.{Check, pass, refuse, unless}
+use Rattle.model.specs.Checks.{Check, pass, refuse}
 use Rattle.model.specs.Answer.{Reply, accepted, refused}
 use Rattle.model.specs.declared.Record.{Record}
 use Rattle.model.proofs.Orders.{bot}
-use Rattle.model.proofs.Invariant.{then-pass, unless-pass}
 use Rattle.model.proofs.Words.{IsBytes}
 use Rattle.base_fields.specs.Write.{overwritten}
 use Rattle.base_fields.proofs.Zeros.{zeroed-behind}
@@ -22,6 +21,7 @@ use Rattle.kept_file.specs.declared.Content.{Content}
 use Rattle.kept_file.specs.declared.Reading.{Reading}
 use Rattle.kept_file.specs.Kept.{listingIn, entriesIn, marked, undamaged, contentOf, mayRead, readBy, readBack}
 use Rattle.kept_file.specs.Kept.{toldReading, toldContent}
+use Rattle.kept_file.proofs.RoundTrip.{all-passed}
 use Rattle.kept_read.specs.declared.Summed.{Summed}
 use Rattle.kept_read.specs.declared.Summed.the-variants.{Whole, Damaged}
 use Rattle.kept_read.specs.Heads.{recordIn}
@@ -148,13 +148,8 @@ module _ (s t : Bytes) {r x : Reading} (e : r ≡ x) (h : Tells s (length t) (to
     passed : (marked s ≡ true) × (undamaged s ≡ true) × (length (entriesIn s) ≤ length t)
     passed =
         let n : ℕ = length (entriesIn s) in
-        let a = then-pass (unless 1 (leb (length t) 16777216)) _ passes in
-        let b = then-pass (unless 14 (marked s)) _ (a .1) in
-        let c = then-pass (unless 15 (undamaged s)) _ (b .1) in (
-          unless-pass 14 (marked s) (b .0),
-          unless-pass 15 (undamaged s) (c .0),
-          leb-true n (length t) (unless-pass 13 (leb n (length t)) (c .1)),
-        )
+        let p = all-passed 1 14 15 13 (leb (length t) 16777216) (marked s) (undamaged s) (leb n (length t)) passes in
+        (p .1, p .2, leb-true n (length t) (p .3))
 
     pub done-framed : framed s ≡ true
     done-framed = undamaged-framed s (passed .0) (passed .1)

@@ -8,7 +8,7 @@ use Prim.Native.Nat.{ℕ, _+_, _-_, _<_, _≤_}
 use native.Mathlib.Omega.{arith}
 use native.Mathlib.Nat.{add-sub-cancel-left}
 use lib.Dec.{leb, eqb}
-use lib.ListN.{length, take, drop, length-append, length-drop, drop-of-length-le, take-append-drop}
+use lib.ListN.{length, take, drop, length-append, length-drop, drop-of-length-le}
 use lib.Seq.{take-all, take-nil}
 use borrow.Author.Tests.{le-leb, lt-leb, leb-true, eq-eqb}
 use Rattle.model.specs.Bytes.{Bytes, numberAt, bytes, same}
@@ -20,7 +20,7 @@ use Rattle.base_fields.proofs.Pieces.{cut, part-length, piece}
 use Rattle.kept_file.specs.Kept.{head, kept, versionIn, listingLength, listingIn, entriesIn}
 use Rattle.kept_file.specs.Kept.{isEntries, marked, undamaged}
 use Rattle.kept_file.proofs.Entries.{are-entries}
-use Rattle.kept_file.proofs.Files.{listing-short, kept-length, kept-entries-length, marked-version, parts}
+use Rattle.kept_file.proofs.Files.{listing-short, kept-length, kept-entries-length, marked-begins, marked-version, parts}
 use Rattle.kept_read.specs.Frame.{listingEnd, framed}
 
 abbrev mark : Bytes
@@ -35,10 +35,6 @@ module _ (s : Bytes) where
       let m = ap length (take-all 5 s (omega arith)) in
       omega arith))
 
-  -- what a marked file begins with
-  begins : marked s ≡ true → s ≡ head 1 ++ drop 5 s
-  begins m = sym (take-append-drop 5 s) ∙ ap (λ (t : Bytes). t ++ drop 5 s) (same-is (take 5 s) (head 1) m)
-
   module _ (bs : IsBytes s) (long : 5 ≤ length s) where
     is-marked : take 3 s ≡ mark → versionIn s ≡ 1 → marked s ≡ true
     is-marked m v =
@@ -49,7 +45,7 @@ module _ (s : Bytes) where
     pub by-mark : {a : Bool} {v : ℕ} → a ≡ same (take 3 s) mark → v ≡ versionIn s → (a && eqb v 1) ≡ marked s
     by-mark {a} {v} ea ev = elim (test (marked s)) [
       | yea m ↦
-          let x : a ≡ true = ea ∙ ap (λ (t : Bytes). same (take 3 t) mark) (begins m) in
+          let x : a ≡ true = ea ∙ ap (λ (t : Bytes). same (take 3 t) mark) (marked-begins s m) in
           rw (m, x, eq-eqb v 1 (ev ∙ marked-version s m))
       | nay m ↦ elim (test a) [
         | yea x ↦ elim (test (eqb v 1)) [
@@ -140,7 +136,7 @@ module _ (s : Bytes) where
         let c : drop (listingEnd s) s ≡ bytes 4 (length (entriesIn s)) ++ entriesIn s
         = piece s bs (listingEnd s) 4 (listingEnd s + 4) refl i
         ∙ ap (λ (n : ℕ). bytes 4 n ++ entriesIn s) (sym entries-length) in
-        begins s m
+        marked-begins s m
         ∙ ap (λ (t : Bytes). head 1 ++ t) (a
         ∙ ap (λ (t : Bytes). bytes 4 (length l) ++ t) (b
         ∙ ap (λ (t : Bytes). l ++ t) c))

@@ -2,3 +2,4 @@ pub mod Turns
 pub mod Sums
 pub mod Frames
 pub mod Answers
+pub mod Cases

@@ -51,7 +51,7 @@ whole E s (suc left) at n c r h = elim (test (leb (length s) at)) [
 ]
 
 -- a table's record with that count is the sum
-pub own-record : (E : ℕ) (s : Bytes) (r : Record) → heads E s ≡ Whole r → isTable s r ≡ true → r ≡ summed E s
+own-record : (E : ℕ) (s : Bytes) (r : Record) → heads E s ≡ Whole r → isTable s r ≡ true → r ≡ summed E s
 own-record E s r h t =
     let g = whole E s (length s) 0 0 0 r h in
     let k : ℕ = length (entriesUpTo s (length s) 0) in
@@ -81,7 +81,7 @@ all-counted E s (suc left) at n c st = elim (test (leb (length s) at)) [
 ]
 
 -- so the pass over entries gives their sum
-pub entries-counted : (E : ℕ) (s : Bytes) → isEntries E s ≡ true → heads E s ≡ Whole (summed E s)
+entries-counted : (E : ℕ) (s : Bytes) → isEntries E s ≡ true → heads E s ≡ Whole (summed E s)
 entries-counted E s h =
     let t : Table = entriesUpTo s (length s) 0 in
     let x = and-true (isTable s (summed E s)) (eqb (summed E s .used) (length s)) h in

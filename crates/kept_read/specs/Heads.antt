@@ -1,5 +1,5 @@
--- The counting pass: what the heads of the entries say of their count and charge. In entries that are a table it is
--- what `summed` has; in others the kinds can disagree with the lengths, and only the check tells.
+-- The counting pass: what the heads of the entries say of their count and charge. Where the bytes are entries it is
+-- what `summed` has; elsewhere a head can name a body that its entry's kind does not have, and only the check tells.
 use mathlib.Core.Bool.{cond}
 use Prim.Native.Nat.{ℕ, zero, suc, _+_}
 use lib.Dec.{leb}

@@ -3,7 +3,7 @@
 // entries (their heads for count and charge, the check, the copy).
 ghost use mathlib.Core.Path.{_≡_};
 ghost use mathlib.Core.Bool.{true};
-ghost use Prim.Native.Nat.{_+_, _≤_};
+ghost use Prim.Native.Nat.{_≤_};
 ghost use lib.ListN.{length};
 ghost use Rattle.model.specs.Bytes.{Bytes};
 ghost use Rattle.model.specs.Table.{padded};
@@ -53,8 +53,8 @@ fn sum_entries(entries: &[u8], entry_size: u64) -> Summed
     })
 }
 
-// The record of bytes that are a table's entries and nothing else. The check agrees with the record of the heads only
-// where that is the entries' own.
+// The record of bytes that are a table's entries and nothing else. Heads can name lengths that their entries' kinds do
+// not have, and so the record of the heads is checked.
 fn record_in(entries: &[u8], entry_size: u64) -> Summed
     requires { ⌜ «entry_size» ≤ 4096 ⌝ }
     ensures { λ r. ⌜ r ≡ recordIn «entry_size» (now (entries .entry)) ⌝ }
@@ -106,7 +106,7 @@ fn is_framed(file: &[u8]) -> bool
     from + base_fields::le32(file, end) as usize == file.len()
 }
 
-// The part of a file that is its listing. Of a file that ends before it, it is what there is.
+// The part of a file that is its listing; of a file that is cut, what there is of it.
 pub fn listing_part(file: &[u8]) -> &[u8]
     ensures { λ r. ⌜ now r ≡ listingIn (now (file .entry)) ⌝ }
 {
@@ -129,7 +129,7 @@ fn entries_part(file: &[u8]) -> &[u8]
     &file[from..]
 }
 
-// What reading into a table buffer of this length answers.
+// What reading into a table buffer of this length answers: 1, 14, 15 and 13, in this order.
 fn judge(file: &[u8], len: usize) -> Reading
     ensures { λ r. ⌜ ((t : Bytes) → length t ≡ len → toldReading r ≡ readBack (now (file .entry)) t .reply) ⌝ }
     ensures { λ r. ⌜ ((t : Bytes) → length t ≡ len → toldContent r ≡ readBack (now (file .entry)) t .content) ⌝ }

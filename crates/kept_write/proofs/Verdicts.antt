@@ -15,22 +15,22 @@ use Rattle.model.specs.Table.{encode, padded, tableIn, isTable}
 use Rattle.model.specs.Checks.{Check, pass, refuse, _then_, unless}
 use Rattle.model.specs.Answer.{Reply, accepted, refused}
 use Rattle.model.specs.declared.Record.{Record}
-use Rattle.model.proofs.Orders.{bot}
-use Rattle.listing_records.proofs.Places.{checked}
-use Rattle.table_entries.proofs.Entries.{table-stands}
+use Rattle.model.proofs.Orders.{bot, and-true}
+use Rattle.model.proofs.Codec.{decoded}
 use Rattle.kept_file.specs.Kept.{kept, fileOf, mayWrite, writtenBy, written, toldWriting}
 use Rattle.kept_file.specs.declared.Writing.{Writing}
 use Rattle.kept_file.specs.declared.Writing.the-variants as writing
 use Rattle.kept_file.proofs.Writing.{the-type}
-use Rattle.kept_file.proofs.Files.{kept-size}
+use Rattle.kept_file.proofs.Files.{listing-short, kept-size}
 use Rattle.kept_file.proofs.RoundTrip.{all-passed}
 use Rattle.kept_write.proofs.Files.{used-is, used-bytes, used-within}
 
 -- listing and entries together: no sum wraps
 pub small : (l s : Bytes) (r : Record) → isTable s r ≡ true → isListing l ≡ true → length l + r .used ≤ 33554432
 small l s r t i =
-    let a = checked l i .small in
-    let b = table-stands s r t .small in
+    let a = listing-short l i in
+    let z = and-true (leb (r .«entry_size») 4096) (leb (length s) 16777216) (decoded s r t .size) in
+    let b = leb-true (length s) 16777216 (z .1) in
     let c = used-within s r t in
     omega arith
 

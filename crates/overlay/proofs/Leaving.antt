@@ -29,7 +29,7 @@ four-back (x ∷ y ∷ z ∷ []) h = absurd (omega arith)
 four-back (x ∷ y ∷ z ∷ u ∷ []) h = refl
 four-back (x ∷ y ∷ z ∷ u ∷ v ∷ s) h = absurd (omega arith)
 
-is-four : (s : List ℕ) → length s ≡ 4 → isFour s ≡ true
+pub is-four : (s : List ℕ) → length s ≡ 4 → isFour s ≡ true
 is-four s h = eq-eqb (length s) 4 h
 
 pub not-four : (s : List ℕ) → (length s ≡ 4 → ⊥) → isFour s ≡ false

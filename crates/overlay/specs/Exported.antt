@@ -1,6 +1,6 @@
 -- What each exported call answers and leaves, for every input. A record that is not four numbers is answered with 1,
 -- and all is left as it was.
-use mathlib.Core.Bool.{Bool, cond}
+use mathlib.Core.Bool.{Bool, cond, _&&_}
 use mathlib.Core.List.{List, []}
 use Prim.Native.Nat.{ℕ, _/_, _%_}
 use lib.Dec.{eqb}
@@ -13,10 +13,14 @@ use Rattle.model.specs.Answer.{Reply, accepted, refused}
 use Rattle.model.specs.Outcome.{Request, Outcome, outcome, ask, opened}
 use Rattle.call_answer.specs.Meets.{stored}
 use Rattle.run_calls.specs.Runs.{ranOn, ranNew, asNew}
-use Rattle.overlay_packed.specs.Packed.{packed, numbers, recordIn, ranNumber, ranNumbers}
+use Rattle.kept_file.specs.Kept.{written, readBack}
+use Rattle.overlay_packed.specs.Packed.{packed, numbers, recordIn, ranNumber, ranNumbers, contentNumbers, contentPlace}
 
 abbrev pub isFour : List ℕ → Bool
 isFour s = eqb (length s) 4
+
+abbrev pub isTwo : List ℕ → Bool
+isTwo s = eqb (length s) 2
 
 -- the answer, and the record, the table and the work buffer after it
 pub record CallLeft : Type 0 where
@@ -74,3 +78,35 @@ newScriptRun listing E t n work script report =
     cond (isFour n)
     (runLeft (ranNumber a) (ranNumbers a (numbers (recordOf E [])) n) (x .table) (x .work) (x .report))
     (runLeft (packed (refused 1 0 0)) n t work report)
+
+-- a writing's answer, and the output after it
+pub record WriteLeft : Type 0 where
+  pub answer : ℕ
+  pub output : Bytes
+
+abbrev pub writeLeft : ℕ → Bytes → WriteLeft
+writeLeft a o = record { answer = a; output = o }
+
+-- the kept file of the table t with the record n
+unfoldable pub keptWritten : Bytes → Bytes → List ℕ → Bytes → WriteLeft
+keptWritten listing t n output =
+    let w = written listing t (recordIn n) output in
+    cond (isFour n) (writeLeft (packed (w .reply)) (w .output)) (writeLeft (packed (refused 1 0 0)) output)
+
+-- a reading's answer, and the record, the listing's place and the table after it
+pub record ReadLeft : Type 0 where
+  pub answer : ℕ
+  pub rec : List ℕ
+  pub place : List ℕ
+  pub table : Bytes
+
+abbrev pub readLeft : ℕ → List ℕ → List ℕ → Bytes → ReadLeft
+readLeft a n p t = record { answer = a; rec = n; place = p; table = t }
+
+-- a kept file read into the buffer t; a place that is not two numbers is answered with 1 too
+unfoldable pub keptRead : Bytes → Bytes → List ℕ → List ℕ → ReadLeft
+keptRead file t n p =
+    let r = readBack file t in
+    cond (isFour n && isTwo p)
+    (readLeft (packed (r .reply)) (contentNumbers (r .content) n) (contentPlace (r .content) p) (r .table))
+    (readLeft (packed (refused 1 0 0)) n p t)

@@ -16,10 +16,14 @@ ghost use Rattle.run_calls.specs.Runs.{requests, Holds};
 ghost use Rattle.overlay_packed.specs.Packed.{packed, ifAccepted, numbers, recordIn};
 ghost use Rattle.overlay.specs.Exported.{isFour, left, called, asked, opening};
 ghost use Rattle.overlay.specs.Exported.{runLeft, scriptRun, newScriptRun};
+ghost use Rattle.overlay.specs.Exported.{writeLeft, keptWritten, readLeft, keptRead};
 use model::Record;
 
 // The numbers of a record: used, count, charge and entry size.
 const NUMBERS: usize = 4;
+
+// The numbers that tell where the listing stands in a kept file: its start and its length.
+const PLACE: usize = 2;
 
 // Makes the buffer an empty table for entries of this size.
 #[no_mangle]
@@ -281,4 +285,44 @@ pub extern "C" fn overlay_run_new(
         entry_size,
     };
     overlay_packed::store_and_pack_run(rec, ran, first)
+}
+
+// Writes the kept file of the listing and the table, and zeros behind it.
+#[no_mangle]
+pub extern "C" fn overlay_write_kept(
+    listing: &[u8],
+    table: &[u8],
+    rec: &[u64],
+    output: &mut [u8],
+) -> u64
+    ensures { λ r. ⌜ writeLeft r (now (output .exit)) ≡ keptWritten (now (listing .entry)) (now (table .entry))
+        (now (rec .entry)) (now (output .entry)) ⌝ }
+{
+    if rec.len() != NUMBERS {
+        return overlay_packed::MALFORMED_TABLE;
+    }
+    let writing = kept_write::write(listing, table, overlay_packed::record_in(rec), output);
+    overlay_packed::pack_writing(writing)
+}
+
+// Makes the buffer the table that a kept file holds, whatever its bytes were, and tells its record and where the
+// listing stands in the file. A place that is not two numbers is answered with 1 too.
+#[no_mangle]
+pub extern "C" fn overlay_read_kept(
+    file: &[u8],
+    table: &mut [u8],
+    rec: &mut [u64],
+    place: &mut [u64],
+) -> u64
+    ensures { λ r. ⌜ readLeft r (now (rec .exit)) (now (place .exit)) (now (table .exit))
+        ≡ keptRead (now (file .entry)) (now (table .entry)) (now (rec .entry)) (now (place .entry)) ⌝ }
+{
+    if rec.len() != NUMBERS {
+        return overlay_packed::MALFORMED_TABLE;
+    }
+    if place.len() != PLACE {
+        return overlay_packed::MALFORMED_TABLE;
+    }
+    let reading = kept_read::read(file, table);
+    overlay_packed::store_and_pack_reading(rec, place, reading)
 }

@@ -65,9 +65,14 @@ impl Guarded {
         held
     }
 
+    /// Lets sealed memory be written again.
+    pub fn open(&mut self) {
+        self.protect(READ_WRITE);
+    }
+
     /// A copy of the values that may only be read.
     pub fn seal<T: Copy>(&mut self, values: &[T], side: Side) -> &[T] {
-        self.protect(READ_WRITE);
+        self.open();
         self.hold(values, side);
         self.protect(READ);
         // SAFETY: as above.
@@ -102,6 +107,6 @@ fn the_pages_beside_are_forbidden() {
         let sealed = guarded.seal(&vec![7u8; length], side).as_ptr();
         assert!(readable(sealed));
         assert!(!writable(sealed.cast_mut()));
-        guarded.protect(READ_WRITE);
+        guarded.open();
     }
 }

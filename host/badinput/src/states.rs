@@ -68,13 +68,13 @@ impl Input {
 }
 
 /// A name of the longest kind: two of them joined have 511 bytes.
-const LONG: &str = match std::str::from_utf8(&[b'n'; 255]) {
+pub const LONG: &str = match std::str::from_utf8(&[b'n'; 255]) {
     Ok(name) => name,
     Err(_) => unreachable!(),
 };
 
 /// Paths in form that clash in the ways that matter: `a-b` and `a0` stand around what is below `a`.
-fn path(random: &mut Random) -> String {
+pub fn path(random: &mut Random) -> String {
     let names = ["a", "b", "a-b", "a0", "f", "l", "é", "a", "b", "f"];
     match random.below(40) {
         0 => String::new(),

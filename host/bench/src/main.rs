@@ -4,6 +4,7 @@
 //! the thread's own CPU clock (so that other programs on the machine count less), less what reading that clock takes.
 //! The original keeps its table as a map and looks paths up; the port reads and checks all bytes with every call.
 
+mod kept;
 mod walks;
 
 use std::{env, hint::black_box, rc::Rc, sync::OnceLock};
@@ -15,6 +16,9 @@ use differential::{
     port::Port,
     side::{Call, Entries, Entry, Op, Side, used},
 };
+
+/// The sizes that are measured.
+const SIZES: [usize; 5] = [1 << 10, 16 << 10, 256 << 10, 4 << 20, 16 << 20];
 
 /// How many files stand in one directory.
 const FILES: usize = 64;
@@ -252,12 +256,15 @@ fn named(size: usize) -> String {
 }
 
 fn main() {
-    if env::args().nth(1).as_deref() == Some("walks") {
+    let word = env::args().nth(1);
+    if word.as_deref() == Some("walks") {
         return walks::rows();
     }
-    let most = env::args().nth(1).and_then(|word| word.parse().ok()).unwrap_or(16 << 20);
-    let sizes =
-        [1 << 10, 16 << 10, 256 << 10, 4 << 20, 16 << 20].into_iter().filter(|size| *size <= most).collect::<Vec<_>>();
+    if word.as_deref() == Some("kept") {
+        return kept::rows(&SIZES);
+    }
+    let most = word.and_then(|word| word.parse().ok()).unwrap_or(16 << 20);
+    let sizes = SIZES.into_iter().filter(|size| *size <= most).collect::<Vec<_>>();
     println!(
         "Median times of one call. Growth is against the size before: 16 times the bytes, at the last size 4 times."
     );

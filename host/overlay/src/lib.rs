@@ -5,7 +5,8 @@
 //! ends, and a refused call changes nothing. This crate keeps the buffers and gives the answers Rust's form.
 //!
 //! [`Overlay`] owns its buffers, [`OverlayMut`] borrows them, and [`raw`] has the calls on plain slices. A [`Script`]
-//! is a list of calls, to be run as one.
+//! is a list of calls, to be run as one. [`Overlay::save`] and [`Overlay::load`] keep a table and its listing in a
+//! file.
 //!
 //! ```
 //! use overlay::{EMPTY_LISTING, Mkdir, Overlay, Refusal};
@@ -23,11 +24,13 @@
 //! ```
 
 mod entries;
+mod kept;
 pub mod raw;
 mod refusal;
 mod script;
 
 pub use entries::{Entries, Entry, EntryKind};
+pub use kept::{FileError, KEPT_ENTRY_SIZE, KEPT_OVERHEAD, KeptListing};
 pub use refusal::{Refusal, unpack};
 pub use script::{NotRun, ROW_LENGTH, Row, Script};
 
@@ -300,10 +303,7 @@ impl Overlay {
     /// # Ok::<(), Refusal>(())
     /// ```
     pub fn open(capacity: usize, entry_size: u64) -> Result<Overlay, Refusal> {
-        if capacity > MAX_BUFFER {
-            return Err(Refusal::MalformedTable);
-        }
-        let mut overlay = Overlay { table: vec![0; capacity], record: Record::default(), work: vec![0; capacity] };
+        let mut overlay = Overlay::unopened(capacity).ok_or(Refusal::MalformedTable)?;
         overlay.lend().open(entry_size)?;
         Ok(overlay)
     }
@@ -327,15 +327,12 @@ impl Overlay {
         listing: &[u8],
         script: impl AsRef<[u8]>,
     ) -> Result<(Overlay, Vec<Row>), NotRun> {
-        if capacity > MAX_BUFFER {
-            return Err(NotRun::MalformedTable);
-        }
-        let mut overlay = Overlay { table: vec![0; capacity], record: Record::default(), work: vec![0; capacity] };
+        let mut overlay = Overlay::unopened(capacity).ok_or(NotRun::MalformedTable)?;
         let rows = overlay.lend().run_new(listing, script, entry_size)?;
         Ok((overlay, rows))
     }
 
-    /// A table that was kept, with its record. It is refused where they do not agree.
+    /// A table of these bytes, with its record. It is refused where they do not agree.
     ///
     /// ```
     /// use overlay::{EMPTY_LISTING, Overlay, Record, Refusal};
@@ -362,6 +359,12 @@ impl Overlay {
     /// The table and the record, to be read.
     pub fn view(&self) -> OverlayRef<'_> {
         OverlayRef::new(&self.table, self.record)
+    }
+
+    /// Buffers for a call that makes a table of them. None are made where no call would take them.
+    fn unopened(capacity: usize) -> Option<Overlay> {
+        let buffer = || vec![0; capacity];
+        (capacity <= MAX_BUFFER).then(|| Overlay { table: buffer(), record: Record::default(), work: buffer() })
     }
 
     fn lend(&mut self) -> OverlayMut<'_> {

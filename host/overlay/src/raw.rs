@@ -1,13 +1,34 @@
 //! The calls as the library exports them: slices in, the answer packed in one number out.
 //!
-//! A record is four numbers (used, count, charge, entry size); a slice of another length is answered with 1. These
-//! functions are safe: slices that Rust lends cannot overlap where one is written, and the library takes any bytes.
+//! A record is four numbers (used, count, charge, entry size), a place two (where a listing starts in a kept file, and
+//! its length); a slice of another length is answered with 1. These functions are safe: slices that Rust lends cannot
+//! overlap where one is written, and the library takes any bytes.
 
 mod exported {
     unsafe extern "C" {
         pub fn overlay_open_table(t: *mut u8, tn: usize, r: *mut u64, rn: usize, entry_size: u64) -> u64;
         pub fn overlay_check_listing(l: *const u8, ln: usize) -> bool;
         pub fn overlay_check_table(t: *const u8, tn: usize, r: *const u64, rn: usize) -> bool;
+        pub fn overlay_write_kept(
+            l: *const u8,
+            ln: usize,
+            t: *const u8,
+            tn: usize,
+            r: *const u64,
+            rn: usize,
+            o: *mut u8,
+            on: usize,
+        ) -> u64;
+        pub fn overlay_read_kept(
+            k: *const u8,
+            kn: usize,
+            t: *mut u8,
+            tn: usize,
+            r: *mut u64,
+            rn: usize,
+            p: *mut u64,
+            pn: usize,
+        ) -> u64;
     }
 
     macro_rules! queries {
@@ -146,4 +167,36 @@ pub fn run(listing: &[u8], lent: &mut Lent, script: &[u8], report: &mut [u8]) ->
 /// The same on the table made an empty one first, which it stays with 254 and 255.
 pub fn run_new(listing: &[u8], lent: &mut Lent, script: &[u8], report: &mut [u8], entry_size: u64) -> u64 {
     change!(overlay_run_new, listing, lent, script, report.as_mut_ptr(), report.len(), entry_size)
+}
+
+/// Writes listing and table as a kept file to the start of `output`, with zeros behind. The value is the file's length.
+pub fn write_kept(listing: &[u8], table: &[u8], record: &[u64], output: &mut [u8]) -> u64 {
+    unsafe {
+        exported::overlay_write_kept(
+            listing.as_ptr(),
+            listing.len(),
+            table.as_ptr(),
+            table.len(),
+            record.as_ptr(),
+            record.len(),
+            output.as_mut_ptr(),
+            output.len(),
+        )
+    }
+}
+
+/// Reads a kept file: its entries to the start of `table`, with zeros behind, their record, and the listing's place.
+pub fn read_kept(file: &[u8], table: &mut [u8], record: &mut [u64], place: &mut [u64]) -> u64 {
+    unsafe {
+        exported::overlay_read_kept(
+            file.as_ptr(),
+            file.len(),
+            table.as_mut_ptr(),
+            table.len(),
+            record.as_mut_ptr(),
+            record.len(),
+            place.as_mut_ptr(),
+            place.len(),
+        )
+    }
 }

@@ -7,7 +7,8 @@ use std::{error::Error, fmt};
 /// with parents that of the ancestor at which a file was met.
 #[derive(Clone, Copy, Debug, PartialEq, Eq, Hash)]
 pub enum Refusal {
-    /// 1: table, record, entry size or work buffer malformed or too short.
+    /// 1: table, record, entry size or work buffer malformed or too short; in reading a file, a table buffer of more
+    /// than 16 MiB.
     MalformedTable,
     /// 2: the bytes given as listing are none.
     MalformedListing,
@@ -31,12 +32,18 @@ pub enum Refusal {
     Limit,
     /// 12: a moved key has more than 512 bytes or 32 components.
     KeyTooLong,
-    /// 13: the entries after the call are longer than the table buffer.
+    /// 13: the entries after the call are longer than the table buffer, or a kept file than the output.
     NoRoom,
+    /// 14: not the mark and the version of a kept file, or too short for them.
+    NotKept,
+    /// 15: a kept file with any other damage.
+    Damaged,
+    /// 16: a table of another entry size than [`KEPT_ENTRY_SIZE`](crate::KEPT_ENTRY_SIZE) is not written to a file.
+    OtherEntrySize,
 }
 
 impl Refusal {
-    /// The number of this refusal, from 1 to 13.
+    /// The number of this refusal, from 1 to 16.
     pub fn number(self) -> u8 {
         self.parts().0
     }
@@ -67,6 +74,9 @@ impl Refusal {
             Limit => (11, 0, 0),
             KeyTooLong => (12, 0, 0),
             NoRoom => (13, 0, 0),
+            NotKept => (14, 0, 0),
+            Damaged => (15, 0, 0),
+            OtherEntrySize => (16, 0, 0),
         }
     }
 }
@@ -99,6 +109,9 @@ pub fn unpack(answer: u64) -> Result<u64, Refusal> {
         11 => Limit,
         12 => KeyTooLong,
         13 => NoRoom,
+        14 => NotKept,
+        15 => Damaged,
+        16 => OtherEntrySize,
         number => panic!("{number} is no number of an answer"),
     })
 }
@@ -119,7 +132,10 @@ impl fmt::Display for Refusal {
             BelowSource { .. } => "destination below source",
             Limit => "limit exceeded",
             KeyTooLong => "a moved key is too long",
-            NoRoom => "no room in the table",
+            NoRoom => "no room in the table or the output",
+            NotKept => "no kept file of a known version",
+            Damaged => "kept file damaged",
+            OtherEntrySize => "entry size not that of a kept file",
         };
         let (number, path, len) = self.parts();
         match number {
@@ -136,7 +152,7 @@ impl Error for Refusal {}
 fn every_answer_is_unpacked() {
     assert_eq!(unpack(0), Ok(0));
     assert_eq!(unpack(u64::MAX << 16), Ok(u64::MAX >> 16));
-    for number in 1..=13 {
+    for number in 1..=16 {
         let refusal = unpack(number | 1 << 8 | 300 << 16).unwrap_err();
         let (path, length) = match number {
             1 | 2 | 11.. => (0, 0),
@@ -149,11 +165,12 @@ fn every_answer_is_unpacked() {
     let refusal: Box<dyn Error> = Box::new(Refusal::NotFound { path: 1, len: 7 });
     assert_eq!(refusal.to_string(), "not found (5, path 1, length 7)");
     assert_eq!(Refusal::MalformedPath { path: 0 }.to_string(), "path malformed (3, path 0)");
-    assert_eq!(Refusal::NoRoom.to_string(), "no room in the table (13)");
+    assert_eq!(Refusal::NoRoom.to_string(), "no room in the table or the output (13)");
+    assert_eq!(Refusal::Damaged.to_string(), "kept file damaged (15)");
 }
 
 #[test]
-#[should_panic(expected = "14 is no number of an answer")]
+#[should_panic(expected = "17 is no number of an answer")]
 fn no_other_number() {
-    let _ = unpack(14);
+    let _ = unpack(17);
 }

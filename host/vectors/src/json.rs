@@ -177,8 +177,12 @@ impl Json {
         }
     }
 
-    /// The bytes that a hex string stands for.
+    /// The bytes that a hex string stands for, or a list of hex strings each with how often it stands there.
     pub fn bytes(&self) -> Vec<u8> {
+        if let Json::List(parts) = self {
+            let part = |part: &Json| part.list()[0].bytes().repeat(part.list()[1].number() as usize);
+            return parts.iter().flat_map(part).collect();
+        }
         let digit = |byte: u8| (byte as char).to_digit(16).unwrap_or_else(|| panic!("no hex digit: {byte}")) as u8;
         let text = self.text().as_bytes();
         assert!(text.len().is_multiple_of(2), "an odd number of hex digits");
@@ -197,6 +201,7 @@ fn values_are_read() {
     assert_eq!(json.get("a").list()[1].bytes(), [0x0a, 0xff]);
     assert_eq!(json.get("c").number(), u64::MAX);
     assert_eq!(json.find("e"), None);
+    assert_eq!(parse(r#"[["0aff", 1], ["07", 3]]"#).unwrap().bytes(), [0x0a, 0xff, 7, 7, 7]);
     for wrong in ["", "{", "[1,]", "{\"a\"}", "1 2", "\"", "tru", "18446744073709551616", "{\"a\":1,}"] {
         assert!(parse(wrong).is_err(), "{wrong}");
     }

@@ -1,8 +1,11 @@
-//! Replays the vectors of calls.jsonl and worked.jsonl against the library: every answer, record, table and work buffer
-//! must be as they say. The rows of docs/WORKED-CALLS.md must be those of worked.jsonl, and docs/DEFINITION.md may cite no
-//! other. With the name of a file it replays that one alone; with `--rows` it prints the rows of worked.jsonl. It says
-//! what it compared, and ends with status 1 at the first difference.
+//! Replays the vectors of calls.jsonl, worked.jsonl and kept.jsonl against the library: every answer, record, table, work
+//! buffer, output and place must be as they say. The rows of docs/WORKED-CALLS.md must be those of worked.jsonl, and
+//! docs/DEFINITION.md may cite no other; the kept files that docs/FORMATS.md shows must be read as it says. With the
+//! name of a file it replays that one alone; with `--rows` it prints the rows of worked.jsonl. It says what it compared,
+//! and ends with status 1 at the first difference, and where a file has nothing of a kind that it is there for.
 mod json;
+mod kept;
+mod page;
 mod sha256;
 mod worked;
 
@@ -10,6 +13,12 @@ use json::{Json, parse};
 use overlay::{OverlayMut, Record, Refusal, raw, unpack};
 use std::{collections::BTreeMap, env, fs, process::ExitCode};
 use worked::{Rows, stated};
+
+/// The calls that every file of the repository has.
+const CALLS: [&str; 9] = ["open", "exists", "is_file", "is_dir", "write", "mkdir", "unlink", "rmdir", "rename"];
+
+/// The numbers of the writer and of the reader of kept files, each of which kept.jsonl has.
+const KEPT: [(&str, &[u64]); 2] = [("keep", &[0, 1, 2, 13, 16]), ("read", &[0, 1, 13, 14, 15])];
 
 /// A vector's answer as an answer of the library: number, path, length, value.
 fn four(answer: Result<u64, Refusal>) -> [u64; 4] {
@@ -59,14 +68,21 @@ impl State {
         (answer, work.iter().all(|byte| *byte == left))
     }
 
-    /// Makes a call and compares what it answers and leaves.
+    /// Makes a call and compares what it answers and leaves. A call without a record leaves table and record as they
+    /// were.
     fn compare(&mut self, listing: &[u8], call: &Json) -> Result<(), String> {
-        let before = self.table.clone();
+        if call.get("op").text() == "keep" {
+            return kept::keep(self, listing, call);
+        }
+        let (before, record_before) = (self.table.clone(), self.record);
         let (answer, work) = self.call(listing, call);
         let record: [u64; 4] = self.record.into();
-        let sha = sha256::hex(&self.table);
-        let wanted = (call.get("answer").four(), call.get("record").four(), call.get("sha").text());
-        if (four(answer), record, sha.as_str()) != wanted {
+        let as_wanted = match call.find("record") {
+            Some(wanted) => record == wanted.four() && sha256::hex(&self.table) == call.get("sha").text(),
+            None => self.record == record_before && self.table == before,
+        };
+        if four(answer) != call.get("answer").four() || !as_wanted {
+            let sha = sha256::hex(&self.table);
             return Err(format!("{call:?}\ngives {:?} {record:?} {sha}", four(answer)));
         }
         if call.find("id").or(call.find("entries")).is_some() {
@@ -90,30 +106,39 @@ fn open(vector: &Json, number: u64) -> Result<State, String> {
     Ok(state)
 }
 
-fn replay(line: &str, counts: &mut BTreeMap<String, u64>) -> Result<(), String> {
+/// How many calls of each name were compared, by the number of the answer.
+type Counts = BTreeMap<(String, u64), u64>;
+
+fn replay(line: &str, counts: &mut Counts) -> Result<(), String> {
     let vector = parse(line)?;
-    let mut count = |name: &str| *counts.entry(name.to_string()).or_default() += 1;
+    let mut count = |name: &str, number: u64| *counts.entry((name.to_string(), number)).or_default() += 1;
+    let mut count_call = |call: &Json| count(call.get("op").text(), call.get("answer").four()[0]);
     match vector.get("t").text() {
         "head" => {}
         "open" => {
             open(&vector, vector.get("no").number())?;
-            count("open");
+            count("open", vector.get("no").number());
+        }
+        "read" => {
+            kept::read(&vector)?;
+            count("read", vector.get("answer").four()[0]);
         }
         "run" => {
             let listing = vector.get("listing").bytes();
-            let mut state = open(&vector, 0)?;
-            count("open");
+            let from_file = vector.find("file").is_some();
+            let mut state = if from_file { kept::read(&vector)? } else { open(&vector, 0)? };
             for call in vector.get("calls").list() {
                 state.compare(&listing, call)?;
-                count(call.get("op").text());
+                count_call(call);
             }
+            count(if from_file { "read" } else { "open" }, 0);
         }
         "raw" => {
             let call = vector.get("call");
             let record = Record::from(vector.get("record").four());
             let mut state = State { table: vector.get("table").bytes(), record };
             state.compare(&vector.get("listing").bytes(), call)?;
-            count(call.get("op").text());
+            count_call(call);
         }
         other => return Err(format!("no vector {other}")),
     }
@@ -129,16 +154,43 @@ fn read(file: &str) -> Result<String, String> {
     fs::read_to_string(file).map_err(|error| format!("{file}: {error}"))
 }
 
-fn replay_file(file: &str) -> Result<(), String> {
-    let mut counts = BTreeMap::new();
+fn replay_file(file: &str) -> Result<Counts, String> {
+    let mut counts = Counts::new();
     for (number, line) in read(file)?.lines().enumerate() {
         replay(line, &mut counts).map_err(|difference| format!("{file}:{}: {difference}", number + 1))?;
     }
     if counts.is_empty() {
         return Err(format!("{file}: no calls"));
     }
-    let each: Vec<String> = counts.iter().map(|(name, count)| format!("{name} {count}")).collect();
+    let mut names: BTreeMap<&str, u64> = BTreeMap::new();
+    for ((name, _), count) in &counts {
+        *names.entry(name).or_default() += count;
+    }
+    let each: Vec<String> = names.iter().map(|(name, count)| format!("{name} {count}")).collect();
     println!("vectors: {} calls, all as they say: {}", counts.values().sum::<u64>(), each.join(", "));
+    Ok(counts)
+}
+
+/// A file of the repository, which has each of the nine calls. How often each was compared.
+fn replay_own(name: &str) -> Result<Counts, String> {
+    let counts = replay_file(&beside(name))?;
+    match CALLS.iter().find(|call| !counts.keys().any(|(name, _)| name == *call)) {
+        Some(call) => Err(format!("{name}: no call {call}")),
+        None => Ok(counts),
+    }
+}
+
+/// The file of kept files has each number of their writer and their reader.
+fn replay_kept(name: &str) -> Result<(), String> {
+    let counts = replay_own(name)?;
+    for (call, numbers) in KEPT {
+        let mut each = Vec::new();
+        for number in numbers {
+            let count = counts.get(&(call.to_string(), *number));
+            each.push(format!("{} with {number}", count.ok_or(format!("{name}: no {call} with {number}"))?));
+        }
+        println!("  {call}: {}", each.join(", "));
+    }
     Ok(())
 }
 
@@ -152,18 +204,22 @@ fn worked_rows(file: &str) -> Result<Rows, String> {
 }
 
 fn compare() -> Result<(), String> {
-    let (calls, worked) = (beside("calls.jsonl"), beside("worked.jsonl"));
+    let worked = beside("worked.jsonl");
     let (page, definition) = (beside("../../docs/WORKED-CALLS.md"), beside("../../docs/DEFINITION.md"));
     match env::args().nth(1).as_deref() {
         Some("--rows") => worked_rows(&worked)?.print(),
-        Some(file) => replay_file(file)?,
+        Some(file) => drop(replay_file(file)?),
         None => {
-            replay_file(&calls)?;
-            replay_file(&worked)?;
+            replay_own("calls.jsonl")?;
+            replay_own("worked.jsonl")?;
+            replay_kept("kept.jsonl")?;
             let rows = worked_rows(&worked)?;
             rows.stand_in(&read(&page)?).map_err(|error| format!("{page}: {error}"))?;
             rows.cited_in(&read(&definition)?).map_err(|error| format!("{definition}: {error}"))?;
             println!("worked calls: {} rows, in the page as in the vectors", rows.len());
+            let formats = beside("../../docs/FORMATS.md");
+            let (refused, length) = page::compare(&read(&formats)?).map_err(|error| format!("{formats}: {error}"))?;
+            println!("kept files in the page: {refused} refused as it says, one of {length} bytes read as it says");
         }
     }
     Ok(())
