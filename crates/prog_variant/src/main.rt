@@ -1,81 +1,38 @@
-// Runs a script of calls on an empty table over a published plan, and prints what each call answered and the charge
-// after it. Usage: prog_variant LISTING SCRIPT. Both are files of less than 1 MiB; the table has 1 MiB, and the report
-// room for 32,768 calls. The run is `run_calls::run_new`, whose contract has demand 3 in it. What is printed is read
-// from its report.
-// The five buffers of 1 MiB are locals: the program needs a stack of 6 MiB.
+// Runs a script of calls over a published plan, and prints what each call answered and the charge after it.
+// Usage: prog_variant PLAN SCRIPT [KEPT]. PLAN is a listing, and the calls begin with an empty table; or it is a kept
+// file (#101), and they go on from its table over its listing. KEPT, where it is given, names a new file, which gets
+// the kept file of the table after the last call. Each of the files has less than 1 MiB, the table 1 MiB, and the
+// report room for 32,768 calls. The five buffers of 1 MiB are locals: the program needs a stack of 6 MiB.
 // What it does not take it says on standard error, in a line with the file's name. A program of Rattle has no exit
 // status; `tools/variant` gives one, by whether anything was said there.
+mod files;
+mod keep;
 mod said;
 mod show;
 mod shown;
 
-ghost use Prim.Native.Nat.{_≤_};
+ghost use Prim.Native.Nat.{_<_};
 ghost use lib.ListN.{length};
+use kept_file::Reading;
 use run_calls::RanNew;
 
-// The entry size E, as the Rust has it.
-const ENTRY_SIZE: u64 = 40;
-
 // The arguments.
-const LISTING: usize = 1;
+const PLAN: usize = 1;
 
 const SCRIPT: usize = 2;
 
-// Opens the file that argument i names, and answers a descriptor, or -1 with errno set, as where the name is too long.
-fn open_file(i: usize) -> i32 {
-    let mut name = io::buffer();
-    let length = os::arg(i, &mut name);
-    if os::errno() != 0 {
-        return -1;
-    }
-    os::open_read(&name[..length])
-}
+const KEPT: usize = 3;
 
-// What one read more answers: below 0 where the file cannot be read, as a directory.
-fn read_more(fd: i32) -> isize {
-    let mut one = [0u8; 1];
-    libc::read(fd, &mut one)
-}
-
-// Reads the file that argument i names, and answers how many of its bytes are in the buffer: none if it cannot be read,
-// is empty, or fills the buffer, since then it may go on behind it.
-fn read_file(i: usize, buf: &mut [u8]) -> usize
-    ensures { λ r. ⌜ r ≤ length (now (buf .exit)) ⌝ }
+// Shows what was run, and keeps what it left; or says why it was not run.
+fn finish(ran: RanNew, listing: &[u8], script: &[u8], table: &[u8], work: &mut [u8], report: &[u8])
+    requires { ⌜ 0 < length (now work) ⌝ }
 {
-    let fd = open_file(i);
-    if fd < 0 {
-        said::unread(i, os::errno());
-        return 0;
-    }
-    let n = io::read_full(fd, buf);
-    let more = read_more(fd);
-    let error = os::errno();
-    libc::close(fd);
-    if more < 0 {
-        said::unread(i, error);
-        return 0;
-    }
-    if buf.len() <= n {
-        said::of_file(i, b"has 1 MiB or more");
-        return 0;
-    }
-    if n == 0 {
-        said::of_file(i, b"is empty");
-    }
-    n
-}
-
-// Runs what the files hold, and shows it.
-fn run_files(listing: &[u8], script: &[u8], table: &mut [u8], work: &mut [u8], report: &mut [u8]) {
-    if !listing_check::check(listing) {
-        said::of_file(LISTING, b"is not a listing");
-        return;
-    }
-    let ran = run_calls::run_new(listing, ENTRY_SIZE, table, work, script, report);
     match ran {
         RanNew::Done(rec) => {
             show::calls(script, report);
-            show::left(rec);
+            if show::left(rec) {
+                keep::keep(KEPT, listing, table, rec, work);
+            }
         }
         RanNew::MalformedScript => {
             said::no_script(SCRIPT, run_script::wrong_from(script));
@@ -89,50 +46,106 @@ fn run_files(listing: &[u8], script: &[u8], table: &mut [u8], work: &mut [u8], r
     }
 }
 
+// Begins with an empty table over a listing. The contract of `run_new` has demand 3 in it.
+fn begin(listing: &[u8], script: &[u8], table: &mut [u8], work: &mut [u8], report: &mut [u8])
+    requires { ⌜ 0 < length (now work) ⌝ }
+{
+    if !listing_check::check(listing) {
+        said::of_file(PLAN, b"is not a listing");
+        return;
+    }
+    let ran = run_calls::run_new(listing, kept_file::ENTRY_SIZE, table, work, script, report);
+    finish(ran, listing, script, table, work, report);
+}
+
+// Goes on from a kept file.
+fn go_on(file: &[u8], script: &[u8], table: &mut [u8], work: &mut [u8], report: &mut [u8])
+    requires { ⌜ 0 < length (now work) ⌝ }
+{
+    let reading = kept_read::read(file, table);
+    match reading {
+        Reading::Done(content) => {
+            let rec = content.record;
+            let listing = kept_read::listing_part(file);
+            let ran = run_calls::run(listing, table, rec, work, script, report);
+            finish(run_calls::as_new(ran), listing, script, table, work, report);
+        }
+        Reading::NotKept => {
+            said::of_file(
+                PLAN,
+                b"is a kept file of another version, or too short to name one",
+            );
+        }
+        Reading::Damaged => {
+            said::of_file(PLAN, b"is a damaged kept file");
+        }
+        Reading::NoRoom | Reading::LongTable => {
+            said::of_file(PLAN, b"does not go into the table's buffer");
+        }
+    }
+}
+
+// Whether the plan is a kept file, by its mark.
+fn is_kept(plan: &[u8]) -> bool {
+    if plan.len() < 3 {
+        return false;
+    }
+    let mark = &plan[..3];
+    base_fields::is_same(mark, b"OVT")
+}
+
+// Runs what the files hold, and shows it.
+fn run_files(plan: &[u8], script: &[u8], table: &mut [u8], work: &mut [u8], report: &mut [u8])
+    requires { ⌜ 0 < length (now work) ⌝ }
+{
+    if is_kept(plan) {
+        go_on(plan, script, table, work, report);
+    } else {
+        begin(plan, script, table, work, report);
+    }
+}
+
 fn read_and_run(
-    listing: &mut [u8],
+    plan: &mut [u8],
     script: &mut [u8],
     table: &mut [u8],
     work: &mut [u8],
     report: &mut [u8],
-) {
-    let n = read_file(LISTING, listing);
-    let m = read_file(SCRIPT, script);
+)
+    requires { ⌜ 0 < length (now work) ⌝ }
+{
+    let n = files::read_file(PLAN, plan);
+    let m = files::read_file(SCRIPT, script);
     if (n == 0) | (m == 0) {
         return;
     }
-    run_files(&listing[..n], &script[..m], table, work, report);
+    run_files(&plan[..n], &script[..m], table, work, report);
 }
 
 fn run_in(
-    listing: &mut [u8; 1048576],
+    plan: &mut [u8; 1048576],
     script: &mut [u8; 1048576],
     table: &mut [u8; 1048576],
     work: &mut [u8; 1048576],
     report: &mut [u8; 1048576],
 ) {
-    read_and_run(listing, script, table, work, report);
+    read_and_run(plan, script, table, work, report);
 }
 
 // The buffers stand in one function, which lends them on.
 fn held() {
-    let mut listing = [0u8; 1048576];
+    let mut plan = [0u8; 1048576];
     let mut script = [0u8; 1048576];
     let mut table = [0u8; 1048576];
     let mut work = [0u8; 1048576];
     let mut report = [0u8; 1048576];
-    run_in(
-        &mut listing,
-        &mut script,
-        &mut table,
-        &mut work,
-        &mut report,
-    );
+    run_in(&mut plan, &mut script, &mut table, &mut work, &mut report);
 }
 
 fn main() {
-    if os::arg_count() != 3 {
-        said::text(b"usage: prog_variant LISTING SCRIPT\n");
+    let count = os::arg_count();
+    if (count <= SCRIPT) | (KEPT + 1 < count) {
+        said::text(b"usage: prog_variant PLAN SCRIPT [KEPT]\n");
         return;
     }
     held();

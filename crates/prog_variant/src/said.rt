@@ -41,6 +41,21 @@ pub fn unread(i: usize, error: i32) {
     }
 }
 
+// That it could not be made, by the error's number.
+pub fn unmade(i: usize, error: i32) {
+    if error == libc::EEXIST {
+        of_file(i, b"is there already, and is not written over");
+    } else if (error == libc::ENOENT) | (error == libc::ENOTDIR) {
+        of_file(i, b"there is no such folder");
+    } else if (error == libc::EACCES) | (error == libc::EROFS) {
+        of_file(i, b"may not be written");
+    } else if error == libc::ENAMETOOLONG {
+        of_file(i, b"has too long a name");
+    } else {
+        of_file(i, b"cannot be written");
+    }
+}
+
 // That it is no script, and where it goes wrong.
 pub fn no_script(i: usize, at: usize) {
     name(i);

@@ -1,9 +1,10 @@
-// The lines that are printed: a head, one line for each call, and what the table holds at the end.
+// The lines that are printed: a head, one line for each call, what the table holds at the end, and the kept file's
+// length if there is one.
 // Where the script or the report ends early, so do the lines.
 ghost use Prim.Native.Nat.{_+_, _≤_};
 ghost use lib.ListN.{length};
+use crate::said;
 use crate::shown;
-use libc::STDERR_FILENO;
 use libc::STDOUT_FILENO;
 use model::Record;
 use run_script::ROW_SIZE;
@@ -151,18 +152,30 @@ pub fn calls(script: &[u8], report: &[u8]) {
     }
 }
 
-// What the table holds. Where standard output cannot be written to, the last line shows it, and this says so.
-pub fn left(rec: Record) {
+// Ends a line, and answers whether it could be printed; where not, it says so.
+fn end_line() -> bool {
+    if io::write_all(STDOUT_FILENO, b"\n") {
+        return true;
+    }
+    said::text(b"variant: standard output cannot be written to\n");
+    false
+}
+
+// What the table holds. Where standard output cannot be written to, this line shows it, and the answer is false.
+pub fn left(rec: Record) -> bool {
     text(b"the table holds ");
     io::print_decimal(STDOUT_FILENO, rec.count);
     text(b" entries in ");
     io::print_decimal(STDOUT_FILENO, rec.used);
     text(b" bytes, charged ");
     io::print_decimal(STDOUT_FILENO, rec.charge);
-    if !io::write_all(STDOUT_FILENO, b"\n") {
-        io::write_all(
-            STDERR_FILENO,
-            b"variant: standard output cannot be written to\n",
-        );
-    }
+    end_line()
+}
+
+// The length of the kept file that was written.
+pub fn kept(len: u64) {
+    text(b"the kept file has ");
+    io::print_decimal(STDOUT_FILENO, len);
+    text(b" bytes");
+    end_line();
 }
