@@ -2,5 +2,5 @@ pub mod Cases
 pub mod Entries
 pub mod Files
 pub mod RoundTrip
-pub mod Sessions
+pub mod Acts
 pub mod Refused

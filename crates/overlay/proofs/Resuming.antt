@@ -17,7 +17,7 @@ use Rattle.call_answer.specs.Meets.{stored}
 use Rattle.kept_file.specs.Kept.{written, contentOf, mayRead, readBy, readBack}
 use Rattle.kept_file.specs.declared.Content.{Content}
 use Rattle.kept_file.proofs.Refused.{OneOf, first, second, third, fourth, refused-writing, refused-reading}
-use Rattle.kept_file.proofs.Sessions.{read-built}
+use Rattle.kept_file.proofs.Acts.{read-built}
 use Rattle.overlay_packed.specs.Packed.{packed, recordIn, placeOf, contentNumbers, contentPlace}
 use Rattle.overlay.specs.Exported.{isFour, isTwo, WriteLeft, writeLeft, keptWritten, ReadLeft, readLeft, keptRead}
 use Rattle.overlay.proofs.Fitting.{unpacked-value}

@@ -1,5 +1,5 @@
-// An answer packed in one number, and a record in four lent numbers, for the exported calls.
-// Assumes four numbers, and an answer whose parts fit: only this repository's crates call.
+// An answer packed in one number, a record in four lent numbers, and where a listing stands in two, for the exported
+// calls. Assumes four numbers and two, and an answer whose parts fit: only this repository's crates call.
 ghost use mathlib.Core.Path.{_≡_};
 ghost use mathlib.Core.Bool.{true, false};
 ghost use lib.ListN.{length};

@@ -24,8 +24,8 @@ use Rattle.model.proofs.Codec.{decoded}
 use Rattle.model.proofs.Formed.{fine-is}
 use Rattle.model.proofs.Built.{built-reached, built-runs}
 use Rattle.kept_file.specs.Kept.{kept, entriesIn, marked, undamaged, Written, fileOf, written, ReadBack, mayRead, readBy, readBack}
-use Rattle.kept_file.specs.Sessions.{Act, call, write, read, Filed, Held, nthBack, writtenOf, filed, resumed, readInto, act}
-use Rattle.kept_file.specs.Sessions.{WordedActs, ActHolds, HoldsOfActs}
+use Rattle.kept_file.specs.Acts.{Act, call, write, read, Filed, Held, nthBack, writtenOf, filed, resumed, readInto, act}
+use Rattle.kept_file.specs.Acts.{WordedActs, ActHolds, HoldsOfActs}
 use Rattle.kept_file.specs.declared.Content.{Content}
 use Rattle.kept_file.proofs.Files.{listing-short, kept-length, kept-listing, kept-entries}
 use Rattle.kept_file.proofs.RoundTrip.{all-passed, written-passed, written-file, kept-read-words}
