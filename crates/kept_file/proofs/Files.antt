@@ -68,13 +68,18 @@ module _ (l e : Bytes) where
         ∙ ap (drop 4) behind-listing
 
 -- a listing in form and entries make a file that nothing damaged
+all-three : (a b c : Bool) → a ≡ true → b ≡ true → c ≡ true → (a && b && c) ≡ true
+all-three a b c h i j = cc
+
 pub kept-undamaged : (l e : Bytes) → isListing l ≡ true → isEntries 40 e ≡ true → undamaged (kept 1 l e) ≡ true
 kept-undamaged l e h i =
+    let s : Bytes = kept 1 l e in
     let m = listing-short l h in
     let short : length l < 0x1_0000_0000 = omega arith in
-    let a : listingIn (kept 1 l e) ≡ l = kept-listing l e short in
-    let b : entriesIn (kept 1 l e) ≡ e = kept-entries l e short in
-    rw (a, b, h, i, same-refl (kept 1 l e))
+    let a : listingIn s ≡ l = kept-listing l e short in
+    let b : entriesIn s ≡ e = kept-entries l e short in
+    all-three (isListing (listingIn s)) (isEntries 40 (entriesIn s)) (same s (kept 1 (listingIn s) (entriesIn s)))
+    (ap isListing a ∙ h) (ap (isEntries 40) b ∙ i) ((λ x. same s (kept 1 (a x) (b x))) ∙ same-refl s)
 
 -- what a marked file begins with, and that it names version 1
 pub marked-begins : (s : Bytes) → marked s ≡ true → s ≡ head 1 ++ drop 5 s
