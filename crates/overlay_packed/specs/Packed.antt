@@ -1,4 +1,4 @@
--- An answer in one number, and a record as four numbers.
+-- An answer in one number, a record as four numbers, and where a listing stands in a kept file as two.
 use mathlib.Core.List.{List, [], _∷_}
 use mathlib.Core.Option.{Option, none, some}
 use Prim.Native.Nat.{ℕ, _+_, _*_, _<_}

@@ -1,4 +1,4 @@
-// Files by the names that the arguments give: read whole into a buffer, or made and written.
+// Files by the names that the arguments give, read whole into a buffer.
 // What cannot be done is said on standard error.
 ghost use Prim.Native.Nat.{_≤_};
 ghost use lib.ListN.{length};
@@ -46,42 +46,4 @@ pub fn read_file(i: usize, buf: &mut [u8]) -> usize
         said::of_file(i, b"is empty");
     }
     n
-}
-
-// Makes the file that argument i names, and answers a descriptor, or -1 with errno set, as where there is one already.
-fn make_file(i: usize) -> i32 {
-    let mut name = io::buffer();
-    let length = os::arg(i, &mut name);
-    if os::errno() != 0 {
-        return -1;
-    }
-    os::create(&name[..length])
-}
-
-// Removes the file that argument i names, and answers 0, or -1.
-fn remove_file(i: usize) -> i32 {
-    let mut name = io::buffer();
-    let length = os::arg(i, &mut name);
-    os::unlink(&name[..length])
-}
-
-// Writes the bytes to a new file that argument i names, and answers whether it has them. A file that does not get them
-// all is removed; one that was there before is left as it is.
-pub fn write_file(i: usize, bytes: &[u8]) -> bool {
-    let fd = make_file(i);
-    if fd < 0 {
-        said::unmade(i, os::errno());
-        return false;
-    }
-    let whole = io::write_all(fd, bytes);
-    let closed = libc::close(fd);
-    if whole & (closed == 0) {
-        return true;
-    }
-    if remove_file(i) == 0 {
-        said::of_file(i, b"could not be written whole, and is removed");
-    } else {
-        said::of_file(i, b"could not be written whole, and could not be removed");
-    }
-    false
 }

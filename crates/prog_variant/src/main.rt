@@ -30,9 +30,7 @@ fn finish(ran: RanNew, listing: &[u8], script: &[u8], table: &[u8], work: &mut [
     match ran {
         RanNew::Done(rec) => {
             show::calls(script, report);
-            if show::left(rec) {
-                keep::keep(KEPT, listing, table, rec, work);
-            }
+            keep::show_and_keep(KEPT, listing, table, rec, work);
         }
         RanNew::MalformedScript => {
             said::no_script(SCRIPT, run_script::wrong_from(script));

@@ -1,17 +1,14 @@
-// The lines that are printed: a head, one line for each call, what the table holds at the end, and the kept file's
-// length if there is one.
+// The lines that are printed of a script's calls: a head, and one line for each.
 // Where the script or the report ends early, so do the lines.
 ghost use Prim.Native.Nat.{_+_, _≤_};
 ghost use lib.ListN.{length};
-use crate::said;
 use crate::shown;
 use libc::STDOUT_FILENO;
-use model::Record;
 use run_script::ROW_SIZE;
 use run_script::SCRIPT_HEAD;
 use run_script::STEP_HEAD;
 
-fn text(s: &[u8]) {
+pub fn text(s: &[u8]) {
     io::write_all(STDOUT_FILENO, s);
 }
 
@@ -150,32 +147,4 @@ pub fn calls(script: &[u8], report: &[u8]) {
         at = line(script, at, report, row);
         row += ROW_SIZE;
     }
-}
-
-// Ends a line, and answers whether it could be printed; where not, it says so.
-fn end_line() -> bool {
-    if io::write_all(STDOUT_FILENO, b"\n") {
-        return true;
-    }
-    said::text(b"variant: standard output cannot be written to\n");
-    false
-}
-
-// What the table holds. Where standard output cannot be written to, this line shows it, and the answer is false.
-pub fn left(rec: Record) -> bool {
-    text(b"the table holds ");
-    io::print_decimal(STDOUT_FILENO, rec.count);
-    text(b" entries in ");
-    io::print_decimal(STDOUT_FILENO, rec.used);
-    text(b" bytes, charged ");
-    io::print_decimal(STDOUT_FILENO, rec.charge);
-    end_line()
-}
-
-// The length of the kept file that was written.
-pub fn kept(len: u64) {
-    text(b"the kept file has ");
-    io::print_decimal(STDOUT_FILENO, len);
-    text(b" bytes");
-    end_line();
 }

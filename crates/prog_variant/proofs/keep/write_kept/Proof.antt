@@ -27,8 +27,8 @@ slice-aggregate-write-file c = sym (length-take-le _ _ (slice-reshare-prefix-wri
 write-file-requires : tie.Need-write-file-requires
 write-file-requires c κs = search needs
 
-kept-requires : tie.Need-kept-requires
-kept-requires c κs = search needs
+show-length-requires : tie.Need-show-length-requires
+show-length-requires c κs = search needs
 
 enum-told : tie.Need-enum-told
 enum-told c = search needs
@@ -78,7 +78,7 @@ write-kept-spec =
     slice-reshare-prefix-write-file
     slice-aggregate-write-file
     write-file-requires
-    kept-requires
+    show-length-requires
     enum-told
     slice-aggregate-of-file
     of-file-requires
