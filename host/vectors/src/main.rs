@@ -1,13 +1,15 @@
 //! Replays the vectors of calls.jsonl, worked.jsonl and kept.jsonl against the library: every answer, record, table, work
 //! buffer, output and place must be as they say. The rows of docs/WORKED-CALLS.md must be those of worked.jsonl, and
-//! docs/DEFINITION.md may cite no other; the kept files that docs/FORMATS.md shows must be read as it says. With the
-//! name of a file it replays that one alone; with `--rows` it prints the rows of worked.jsonl. It says what it compared,
-//! and ends with status 1 at the first difference, and where a file has nothing of a kind that it is there for.
+//! docs/DEFINITION.md may cite no other row of those calls; the page's rows that write and read kept files are put to
+//! the library, and the kept files that docs/FORMATS.md shows must be read as it says. With the name of a file it
+//! replays that one alone; with `--rows` it prints the rows of worked.jsonl. It says what it compared, and ends with
+//! status 1 at the first difference, and where a file has nothing of a kind that it is there for.
 mod json;
 mod kept;
 mod page;
 mod sha256;
 mod worked;
+mod worked_kept;
 
 use json::{Json, parse};
 use overlay::{OverlayMut, Record, Refusal, raw, unpack};
@@ -17,7 +19,7 @@ use worked::{Rows, stated};
 /// The calls that every file of the repository has.
 const CALLS: [&str; 9] = ["open", "exists", "is_file", "is_dir", "write", "mkdir", "unlink", "rmdir", "rename"];
 
-/// The numbers of the writer and of the reader of kept files, each of which kept.jsonl has.
+/// The numbers of the writer and of the reader of kept files, each of which kept.jsonl and the worked rows have.
 const KEPT: [(&str, &[u64]); 2] = [("keep", &[0, 1, 2, 13, 16]), ("read", &[0, 1, 13, 14, 15])];
 
 /// A vector's answer as an answer of the library: number, path, length, value.
@@ -217,6 +219,8 @@ fn compare() -> Result<(), String> {
             rows.stand_in(&read(&page)?).map_err(|error| format!("{page}: {error}"))?;
             rows.cited_in(&read(&definition)?).map_err(|error| format!("{definition}: {error}"))?;
             println!("worked calls: {} rows, in the page as in the vectors", rows.len());
+            let (keep, read_rows) = worked_kept::compare(&read(&page)?).map_err(|error| format!("{page}: {error}"))?;
+            println!("worked kept files: {keep} rows of writing, {read_rows} of reading, all as the page says");
             let formats = beside("../../docs/FORMATS.md");
             let (refused, length) = page::compare(&read(&formats)?).map_err(|error| format!("{formats}: {error}"))?;
             println!("kept files in the page: {refused} refused as it says, one of {length} bytes read as it says");

@@ -7,7 +7,7 @@ const SHOWN: &str = "### A kept file of 67 bytes";
 const REFUSED: &str = "### Refused with 14 and 15";
 
 /// The lines of a section, up to the next head.
-fn section<'p>(page: &'p str, head: &str) -> Result<impl Iterator<Item = &'p str>, String> {
+pub fn section<'p>(page: &'p str, head: &str) -> Result<impl Iterator<Item = &'p str>, String> {
     let (_, behind) = page.split_once(&format!("\n{head}\n")).ok_or(format!("no section {head}"))?;
     Ok(behind.lines().take_while(|line| !line.starts_with('#')))
 }
