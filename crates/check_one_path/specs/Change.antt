@@ -5,7 +5,7 @@ use lib.ListN.{length}
 use Rattle.model.specs.Path.{Path}
 use Rattle.model.specs.Map.{lookup}
 use Rattle.model.specs.Tree.{Entry, view, Table, Tree, View, shown, Kind, kindOf, kind}
-use Rattle.model.specs.Checks.{Check, _then_, parentChecks, writeAt, writeChecks, unlinkAt, unlinkChecks, rmdirAt}
+use Rattle.model.specs.Checks.{Check, _then_, parentChecks, writeAt, writeChecks, unlinkAt, unlinkChecks, directoryAt}
 use Rattle.model.specs.Checks.{rmdirChecks}
 use Rattle.check_one_path.specs.declared.Change.{Change}
 use Rattle.check_one_path.specs.declared.Change.the-variants.{Write, Unlink, Rmdir}
@@ -14,7 +14,7 @@ use Rattle.check_one_path.specs.declared.Change.the-variants.{Write, Unl
 abbrev pub targetAt : Change → ℕ → Kind → Check
 targetAt Write n k = writeAt n k
 targetAt Unlink n k = unlinkAt n k
-targetAt Rmdir n k = rmdirAt n k
+targetAt Rmdir n k = directoryAt n k
 
 -- the parents, then what is visible at the path
 abbrev pub visibleChecks : Change → View → Path → Check

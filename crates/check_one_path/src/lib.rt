@@ -6,7 +6,7 @@ ghost use mathlib.Core.Bool.{true};
 ghost use Rattle.model.specs.Path.{isPath};
 ghost use Rattle.model.specs.Listing.{treeIn};
 ghost use Rattle.model.specs.Table.{tableIn};
-ghost use Rattle.model.specs.Checks.{writeAt, unlinkAt, rmdirAt, rmdirChecks, noVisibleChild};
+ghost use Rattle.model.specs.Checks.{writeAt, unlinkAt, directoryAt, rmdirChecks, noVisibleChild};
 ghost use Rattle.model.specs.Outcome.{Given, shownIn};
 ghost use Rattle.view_at.specs.Sight.{visibleKind};
 ghost use Rattle.check_judged.specs.Judged.{checkOf};
@@ -64,9 +64,9 @@ fn unlink_target(visible: Visible, len: u64) -> Judged
     }
 }
 
-// What rmdir gives where this is visible at its path of `len` bytes.
-fn rmdir_target(visible: Visible, len: u64) -> Judged
-    ensures { λ r. ⌜ checkOf r ≡ rmdirAt len (visibleKind visible) ⌝ }
+// What a call that asks for a directory gives where this is visible at its path of `len` bytes.
+pub fn check_directory(visible: Visible, len: u64) -> Judged
+    ensures { λ r. ⌜ checkOf r ≡ directoryAt len (visibleKind visible) ⌝ }
 {
     match visible {
         Visible::Nothing => {
@@ -96,7 +96,7 @@ fn check_target(change: Change, visible: Visible, len: u64) -> Judged
             return unlink_target(visible, len);
         }
         Change::Rmdir => {
-            return rmdir_target(visible, len);
+            return check_directory(visible, len);
         }
     }
 }

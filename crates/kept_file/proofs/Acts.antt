@@ -16,6 +16,7 @@ use Rattle.model.specs.Table.{encode, padded, isTable}
 use Rattle.model.specs.Checks.{Check, pass, refuse}
 use Rattle.model.specs.Answer.{Reply, accepted, refused}
 use Rattle.model.specs.Outcome.{Store, Request}
+use Rattle.model.specs.Output.{Written}
 use Rattle.model.specs.Runs.{State, step, entriesOf, movedTo, WordedCalls, Built, by-call, by-reading, Agrees, DoesAsSaid, RunFrom}
 use Rattle.model.specs.declared.Record.{Record}
 use Rattle.model.proofs.Orders.{bot}
@@ -23,7 +24,7 @@ use Rattle.model.proofs.Words.{IsBytes, Words}
 use Rattle.model.proofs.Codec.{decoded}
 use Rattle.model.proofs.Formed.{fine-is}
 use Rattle.model.proofs.Built.{built-reached, built-runs}
-use Rattle.kept_file.specs.Kept.{kept, entriesIn, marked, undamaged, Written, fileOf, written, ReadBack, mayRead, readBy, readBack}
+use Rattle.kept_file.specs.Kept.{kept, entriesIn, marked, undamaged, fileOf, written, ReadBack, mayRead, readBy, readBack}
 use Rattle.kept_file.specs.Acts.{Act, call, write, read, Filed, Held, nthBack, writtenOf, filed, resumed, readInto, act}
 use Rattle.kept_file.specs.Acts.{WordedActs, ActHolds, HoldsOfActs}
 use Rattle.kept_file.specs.declared.Content.{Content}

@@ -12,10 +12,11 @@ use Rattle.model.specs.Tree.{own, reference, deleted}
 use Rattle.model.specs.Table.{encode, padded, recordOf}
 use Rattle.model.specs.Checks.{_then_, unless}
 use Rattle.model.specs.Answer.{Reply, accepted, refused}
+use Rattle.model.specs.Output.{Written}
 use Rattle.model.specs.declared.Record.{Record}
 use Rattle.model.proofs.Case.{path, fileAt, listingBytes}
 use Rattle.model.proofs.Cases.{L, there}
-use Rattle.kept_file.specs.Kept.{head, kept, entriesIn, marked, undamaged, Written, written, ReadBack, readBy, readBack}
+use Rattle.kept_file.specs.Kept.{head, kept, entriesIn, marked, undamaged, written, ReadBack, readBy, readBack}
 
 -- L has 91 bytes, the entries 107; the shortest listing has 9
 abbrev listing : Bytes

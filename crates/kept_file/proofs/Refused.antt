@@ -12,7 +12,8 @@ use Rattle.model.specs.Checks.{Check, pass, refuse, _then_, unless}
 use Rattle.model.specs.Answer.{refused}
 use Rattle.model.specs.declared.Record.{Record}
 use Rattle.model.proofs.Orders.{bot}
-use Rattle.kept_file.specs.Kept.{entriesIn, marked, undamaged, fileOf, mayWrite, writtenBy, written, mayRead, readBy, readBack}
+use Rattle.model.proofs.Outputs.{writing-refused}
+use Rattle.kept_file.specs.Kept.{entriesIn, marked, undamaged, fileOf, mayWrite, written, mayRead, readBy, readBack}
 
 -- n is one of four numbers
 pub data OneOf (i j k m : ℕ) : ℕ → Type 0 where
@@ -45,14 +46,9 @@ numbered i j k m true true true true n v w h = absurd (bot (cc))
 
 -- the writer: 1, 2, 16 or 13, and the output is as it was
 module _ (listing table : Bytes) (rec : Record) (output : Bytes) (n v w : ℕ) where
-  written-refused : (c : Check) → writtenBy c (fileOf listing table rec) output .reply ≡ refused n v w
-      → (c ≡ refuse n v w) × (writtenBy c (fileOf listing table rec) output .output ≡ output)
-  written-refused pass h = absurd (bot (cc))
-  written-refused (refuse x y z) h = (cc, refl)
-
   pub refused-writing : written listing table rec output .reply ≡ refused n v w → Numbered 1 2 16 13 n v w × (written listing table rec output .output ≡ output)
   refused-writing h =
-      let e = written-refused (mayWrite listing table rec output) h in (
+      let e = writing-refused (mayWrite listing table rec output) (fileOf listing table rec) output n v w h in (
         numbered 1 2 16 13 (isTable table rec) (isListing listing) (eqb (rec .«entry_size») 40)
             (leb (length (fileOf listing table rec)) (length output)) n v w (e .0),
         e .1,

@@ -16,15 +16,17 @@ use Rattle.model.specs.Listing.{isListing}
 use Rattle.model.specs.Table.{encode, padded, tableIn, isTable}
 use Rattle.model.specs.Checks.{Check, pass, refuse, _then_, unless}
 use Rattle.model.specs.Answer.{accepted}
+use Rattle.model.specs.Output.{writtenBy}
 use Rattle.model.specs.declared.Record.{Record}
 use Rattle.model.proofs.Orders.{eqb-eq}
 use Rattle.model.proofs.Words.{Words, IsBytes}
 use Rattle.model.proofs.Codec.{decoded, moved-table}
 use Rattle.model.proofs.Invariant.{then-pass, unless-pass}
+use Rattle.model.proofs.Outputs.{writing-accepted}
 use Rattle.model.proofs.Formed.{bytes-drop}
 use Rattle.model.proofs.Resumed.{words-read}
 use Rattle.kept_file.specs.Kept.{kept, listingStart, listingLength, listingIn, entriesIn, summed}
-use Rattle.kept_file.specs.Kept.{isEntries, marked, undamaged, fileOf, mayWrite, writtenBy, written, contentOf}
+use Rattle.kept_file.specs.Kept.{isEntries, marked, undamaged, fileOf, mayWrite, written, contentOf}
 use Rattle.kept_file.specs.Kept.{mayRead, readBy, readBack}
 use Rattle.kept_file.specs.declared.Content.{Content}
 use Rattle.kept_file.proofs.Entries.{entries-of, are-entries}
@@ -67,19 +69,11 @@ pub record WrittenFile (listing table : Bytes) (rec : Record) (output : Bytes) (
   pub length-is : n ≡ length (fileOf listing table rec)
   pub file : take n (written listing table rec output .output) ≡ fileOf listing table rec
 
--- only a check that passed answers with a length, and then the file stands in the output's front
-written-by : (c : Check) (file output : Bytes) (n : ℕ) → writtenBy c file output .reply ≡ accepted n
-    → (c ≡ pass) × (n ≡ length file) × (take n (writtenBy c file output .output) ≡ file)
-written-by pass file output n h =
-    let e : n ≡ length file = cc in
-    (refl, e, rw e (take-append-seam file (replicate (length output - length file) 0)))
-written-by (refuse x y z) file output n h = (cc, cc, cc)
-
 pub written-file : (listing table : Bytes) (rec : Record) (output : Bytes) (n : ℕ)
     → written listing table rec output .reply ≡ accepted n → WrittenFile listing table rec output n
 written-file listing table rec output n h =
     let file : Bytes = fileOf listing table rec in
-    let x = written-by (mayWrite listing table rec output) file output n h in
+    let x = writing-accepted (mayWrite listing table rec output) file output n h in
     let y = all-passed 1 2 16 13
     (isTable table rec) (isListing listing) (eqb (rec .«entry_size») 40) (leb (length file) (length output)) (x .0) in
     record {

@@ -12,8 +12,9 @@ use Rattle.model.specs.Tree.{Tree}
 use Rattle.model.specs.Listing.{isListing}
 use Rattle.model.specs.Answer.{Reply, accepted, refused}
 use Rattle.model.specs.Outcome.{Request}
+use Rattle.model.specs.Output.{Written}
 use Rattle.model.specs.Runs.{State, step, WordedCall, Built, Agrees, DoesAsSaid}
-use Rattle.kept_file.specs.Kept.{entriesIn, fileOf, Written, written, readBack}
+use Rattle.kept_file.specs.Kept.{entriesIn, fileOf, written, readBack}
 use Rattle.kept_file.specs.declared.Content.{Content}
 
 -- a call; a file written into an output buffer; a file that was written, the nth back, read into a table buffer

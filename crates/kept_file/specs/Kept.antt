@@ -12,6 +12,7 @@ use Rattle.model.specs.Listing.{isListing}
 use Rattle.model.specs.Table.{encode, padded, recordOf, keyAt, entryAt, entryEnd, tableIn, isTable}
 use Rattle.model.specs.Checks.{Check, pass, refuse, _then_, unless}
 use Rattle.model.specs.Answer.{Reply, accepted, refused}
+use Rattle.model.specs.Output.{Written, writtenBy}
 use Rattle.model.specs.declared.Record.{Record}
 use Rattle.kept_file.specs.declared.Content.{Content}
 use Rattle.kept_file.specs.declared.Writing.{Writing}
@@ -78,11 +79,6 @@ undamaged s =
     isListing (listingIn s) && isEntries (entrySizeIn s) (entriesIn s)
     && same s (kept (versionIn s) (listingIn s) (entriesIn s))
 
--- what the writer answers, and the output buffer after it
-pub record Written : Type 0 where
-  pub reply : Reply
-  pub output : Bytes
-
 -- the file that is written
 abbrev pub fileOf : Bytes → Bytes → Record → Bytes
 fileOf listing table rec = kept 1 listing (encode (tableIn table rec))
@@ -95,11 +91,7 @@ mayWrite listing table rec output =
     then unless 16 (eqb (rec .«entry_size») 40)
     then unless 13 (leb (length (fileOf listing table rec)) (length output))
 
--- "What a buffer has beyond its content is 0."; refused, the output is as it was
-abbrev pub writtenBy : Check → Bytes → Bytes → Written
-writtenBy pass file output = record { reply = accepted (length file); output = padded (length output) file }
-writtenBy (refuse n w k) file output = record { reply = refused n w k; output = output }
-
+-- what the writer answers, and the output buffer after it: "What a buffer has beyond its content is 0."
 abbrev pub written : Bytes → Bytes → Record → Bytes → Written
 written listing table rec output = writtenBy (mayWrite listing table rec output) (fileOf listing table rec) output
 

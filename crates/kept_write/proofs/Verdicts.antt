@@ -14,10 +14,12 @@ use Rattle.model.specs.Listing.{isListing}
 use Rattle.model.specs.Table.{encode, padded, tableIn, isTable}
 use Rattle.model.specs.Checks.{Check, pass, refuse, _then_, unless}
 use Rattle.model.specs.Answer.{Reply, accepted, refused}
+use Rattle.model.specs.Output.{writtenBy}
 use Rattle.model.specs.declared.Record.{Record}
 use Rattle.model.proofs.Orders.{bot, and-true}
 use Rattle.model.proofs.Codec.{decoded}
-use Rattle.kept_file.specs.Kept.{kept, fileOf, mayWrite, writtenBy, written, toldWriting}
+use Rattle.model.proofs.Outputs.{writing-accepted, writing-refused}
+use Rattle.kept_file.specs.Kept.{kept, fileOf, mayWrite, written, toldWriting}
 use Rattle.kept_file.specs.declared.Writing.{Writing}
 use Rattle.kept_file.specs.declared.Writing.the-variants as writing
 use Rattle.kept_file.proofs.Writing.{the-type}
@@ -71,14 +73,9 @@ module _ (l s : Bytes) (r : Record) (o : Bytes) where
         let f : room ≡ true = le-leb (length (fileOf l s r)) (length o) (omega arith) in
         ap accepted (sym n) ∙ sym (λ i. answer (t i) (g i) (size i) (f i))
 
--- what an answer says of the check, and of the output behind it
+-- a refusal leaves the output as it was
 refused-as-was : (c : Check) (f o : Bytes) (n w k : ℕ) → refused n w k ≡ writtenBy c f o .reply → o ≡ writtenBy c f o .output
-refused-as-was pass f o n w k h = absurd (bot (cc))
-refused-as-was (refuse x y z) f o n w k h = refl
-
-accepted-passes : (c : Check) (f o : Bytes) (n : ℕ) → accepted n ≡ writtenBy c f o .reply → c ≡ pass
-accepted-passes pass f o n h = refl
-accepted-passes (refuse x y z) f o n h = absurd (bot (cc))
+refused-as-was c f o n w k h = sym (writing-refused c f o n w k (sym h) .1)
 
 -- the answers behind Done, the first of them, are refusals
 others-as-was : (a : Writing) → OneOf (1 ∷ 2 ∷ 3 ∷ 4 ∷ []) (tagOf the-type a)
@@ -96,7 +93,7 @@ module _ (l s : Bytes) (r : Record) (o : Bytes) (a : Writing) (h : toldWriting a
 
   module _ (n : ℕ) (d : a ≡ writing.Done n) where
     passes : mayWrite l s r o ≡ pass
-    passes = accepted-passes (mayWrite l s r o) (fileOf l s r) o n (sym (ap toldWriting d) ∙ h)
+    passes = writing-accepted (mayWrite l s r o) (fileOf l s r) o n (sym h ∙ ap toldWriting d) .0
 
     abbrev fits : Bool
     fits = leb (length (fileOf l s r)) (length o)

@@ -17,6 +17,7 @@ pub mod Agree
 pub mod Effects
 pub mod Formed
 pub mod Shapes
+pub mod Outputs
 pub mod Reached
 pub mod Resumed
 pub mod Built

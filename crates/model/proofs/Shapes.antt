@@ -13,7 +13,7 @@ use Rattle.model.specs.Map.{lookup, keys, rekey}
 use Rattle.model.specs.Tree.{Entry, own, reference, directory, deleted, Table, Tree, View, shown, Kind, nothing, aDirectory, aFile, aLink, kind, isDirectory}
 use Rattle.model.specs.Table.{charge, isTable, tableIn, sized}
 use Rattle.model.specs.Listing.{isListing, treeIn}
-use Rattle.model.specs.Checks.{Check, pass, refuse, _then_, unless, form, parentAt, parentsIn, parentChecks, writeAt, ancestorAt, ancestorsIn, mkdirParents, mkdirAt, unlinkAt, unlinkEntry, notRoot, visibleChild, noVisibleChild, rmdirAt, rmdirEntry, Memory, limited, unlimited, charged}
+use Rattle.model.specs.Checks.{Check, pass, refuse, _then_, unless, form, parentAt, parentsIn, parentChecks, writeAt, ancestorAt, ancestorsIn, mkdirParents, mkdirAt, unlinkAt, unlinkEntry, notRoot, visibleChild, noVisibleChild, directoryAt, rmdirEntry, Memory, limited, unlimited, charged}
 use Rattle.model.specs.Rename.{notLink, notDeleted, noClash, present, ifDirectory, planned, plan, budget, Walk, sum, overBudget, atLink, stopped, walkFrom, walked, keysFit, carried, moved, renamePaths, renameTypes, renameMemory, renameChecks}
 use Rattle.model.specs.Calls.{Call, write, mkdir, unlink, rmdir, rename, changed, forms, rules, valueOf, Query, says}
 use Rattle.model.specs.Answer.{accepted, refused}
@@ -136,11 +136,11 @@ module _ {c : Call} {p : Path} (at : Names c 0 p) where
   well-unlinkEntry (some (directory m)) h = here at 8 tt tt
   well-unlinkEntry (some deleted) h = here at 5 tt tt
 
-  well-rmdirAt : (k : Kind) → Well c (rmdirAt (length p) k)
-  well-rmdirAt nothing = here at 5 tt tt
-  well-rmdirAt aDirectory = passes
-  well-rmdirAt aFile = here at 7 tt tt
-  well-rmdirAt aLink = here at 4 tt tt
+  well-directoryAt : (k : Kind) → Well c (directoryAt (length p) k)
+  well-directoryAt nothing = here at 5 tt tt
+  well-directoryAt aDirectory = passes
+  well-directoryAt aFile = here at 7 tt tt
+  well-directoryAt aLink = here at 4 tt tt
 
   well-rmdirEntry : {x : Check} (e : Option Entry) → Well c x → Well c (rmdirEntry (length p) e x)
   well-rmdirEntry none h = h
@@ -259,7 +259,7 @@ well-rules m t l (unlink p) =
 well-rules m t l (rmdir p) =
     let f = shown t l in
     let at = removed p in
-    (well-notRoot at and well-rmdirEntry at (lookup t p) (well-parents at f and well-rmdirAt at (kind f p)) and well-empty at t l)
+    (well-notRoot at and well-rmdirEntry at (lookup t p) (well-parents at f and well-directoryAt at (kind f p)) and well-empty at t l)
     and well-charged m (changed t l (rmdir p))
 well-rules m t l (rename a b) = well-rename a b m t l
 

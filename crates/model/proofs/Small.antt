@@ -12,7 +12,7 @@ use Rattle.model.specs.Map.{Map, lookup, put, puts, each, keys}
 use Rattle.model.specs.Tree.{Node, dir, file, link, Entry, own, reference, directory, deleted, Table, Tree, View, over, shown}
 use Rattle.model.specs.Tree.{Kind, nothing, aDirectory, aFile, aLink, kindOf, kind, isNothing}
 use Rattle.model.specs.Checks.{Check, pass, _then_, parentChecks, writeAt, writeChecks, ancestorAt, ancestorsIn, mkdirAt, mkdirParents, missing, makes}
-use Rattle.model.specs.Checks.{unlinkAt, unlinkChecks, notRoot, visibleChild, noVisibleChild, rmdirAt, rmdirEntry, rmdirChecks}
+use Rattle.model.specs.Checks.{unlinkAt, unlinkChecks, notRoot, visibleChild, noVisibleChild, directoryAt, rmdirEntry, rmdirChecks}
 use Rattle.model.proofs.Orders.{split, Split, and-true, bot, yea, nay, test, is-none, is-some, opt, mem, mem-ancestors, below-trans}
 use Rattle.model.proofs.Maps.{orElse, lookup-puts, lookup-each}
 use Rattle.model.proofs.Invariant.{entry-at, at-none, at-own, at-reference, at-directory, at-deleted, Closed, Inv, kind-at, kind-entry, then-pass, parents-dirs, parents-pass, inv-put, inv-over}
@@ -232,7 +232,7 @@ module _ (t : Table) (l : Tree) (p : Path) (w : ℕ) where
       ] in
       cc (none-visible (shown t l) p (keys t) v, none-visible (shown t l) p (keys l) v)
 
-rmdir-dir : (n : ℕ) (k : Kind) → rmdirAt n k ≡ pass → k ≡ aDirectory
+rmdir-dir : (n : ℕ) (k : Kind) → directoryAt n k ≡ pass → k ≡ aDirectory
 rmdir-dir n nothing h = cc
 rmdir-dir n aDirectory h = refl
 rmdir-dir n aFile h = cc
@@ -258,12 +258,12 @@ pub record RmdirOk (f : View) (p : Path) : Type 0 where
 module _ (t : Table) (l : Tree) (i : Inv t l) (p : Path) where
   pub rmdir-ok : rmdirChecks t l p ≡ pass → RmdirOk (shown t l) p
   rmdir-ok h =
-      let a = then-pass (notRoot 0 p) (rmdirEntry (length p) (lookup t p) (parentChecks 0 (shown t l) p then rmdirAt (length p) (kind (shown t l) p)) then noVisibleChild 0 t l p) h in
-      let b = then-pass (rmdirEntry (length p) (lookup t p) (parentChecks 0 (shown t l) p then rmdirAt (length p) (kind (shown t l) p))) (noVisibleChild 0 t l p) (a .1) in
+      let a = then-pass (notRoot 0 p) (rmdirEntry (length p) (lookup t p) (parentChecks 0 (shown t l) p then directoryAt (length p) (kind (shown t l) p)) then noVisibleChild 0 t l p) h in
+      let b = then-pass (rmdirEntry (length p) (lookup t p) (parentChecks 0 (shown t l) p then directoryAt (length p) (kind (shown t l) p))) (noVisibleChild 0 t l p) (a .1) in
       record {
         proper = root-refused 0 p (a .0);
-        isDir = rmdir-entry (length p) (lookup t p) (parentChecks 0 (shown t l) p then rmdirAt (length p) (kind (shown t l) p)) (kind (shown t l) p) (b .0)
-            (λ y. rmdir-dir (length p) (kind (shown t l) p) (then-pass (parentChecks 0 (shown t l) p) (rmdirAt (length p) (kind (shown t l) p)) y .1))
+        isDir = rmdir-entry (length p) (lookup t p) (parentChecks 0 (shown t l) p then directoryAt (length p) (kind (shown t l) p)) (kind (shown t l) p) (b .0)
+            (λ y. rmdir-dir (length p) (kind (shown t l) p) (then-pass (parentChecks 0 (shown t l) p) (directoryAt (length p) (kind (shown t l) p)) y .1))
             (λ m e. kind-entry t l i p (directory m) e);
         empty = childless-empty t l p 0 (i .closed) (b .1);
       }

@@ -123,13 +123,14 @@ abbrev pub noVisibleChild : ℕ → Table → Tree → Path → Check
 noVisibleChild w t l p = cond (visibleChild (shown t l) p (keys t) || visibleChild (shown t l) p (keys l))
     (refuse 9 w (length p)) pass
 
--- "rmdir: root 4; own entry (file 7, deleted 5, directory on to 9); else parents, link 4, 5 or 7; 9"
-abbrev pub rmdirAt : ℕ → Kind → Check
-rmdirAt n nothing = refuse 5 0 n
-rmdirAt n aDirectory = pass
-rmdirAt n aFile = refuse 7 0 n
-rmdirAt n aLink = refuse 4 0 n
+-- "link 4, 5 or 7": what a path gives of which a directory is asked
+abbrev pub directoryAt : ℕ → Kind → Check
+directoryAt n nothing = refuse 5 0 n
+directoryAt n aDirectory = pass
+directoryAt n aFile = refuse 7 0 n
+directoryAt n aLink = refuse 4 0 n
 
+-- "rmdir: root 4; own entry (file 7, deleted 5, directory on to 9); else parents, link 4, 5 or 7; 9"
 abbrev pub rmdirEntry : ℕ → Option Entry → Check → Check
 rmdirEntry n none otherwise = otherwise
 rmdirEntry n (some (own m c)) otherwise = refuse 7 0 n
@@ -140,7 +141,7 @@ rmdirEntry n (some deleted) otherwise = refuse 5 0 n
 abbrev pub rmdirChecks : Table → Tree → Path → Check
 rmdirChecks t l p =
     notRoot 0 p
-    then rmdirEntry (length p) (lookup t p) (parentChecks 0 (shown t l) p then rmdirAt (length p) (kind (shown t l) p))
+    then rmdirEntry (length p) (lookup t p) (parentChecks 0 (shown t l) p then directoryAt (length p) (kind (shown t l) p))
     then noVisibleChild 0 t l p
 
 -- what a call may charge: an entry size and a limit, or no end of it, as in the plain tree's rules ("without 11 to 13")

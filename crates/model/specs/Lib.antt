@@ -10,6 +10,7 @@ pub mod Checks
 pub mod Rename
 pub mod Calls
 pub mod Outcome
+pub mod Output
 pub mod Plain
 pub mod Cause
 pub mod Posix

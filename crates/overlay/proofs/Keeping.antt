@@ -12,10 +12,11 @@ use Rattle.model.specs.Bytes.{Bytes}
 use Rattle.model.specs.Listing.{isListing}
 use Rattle.model.specs.Table.{encode, tableIn, isTable}
 use Rattle.model.specs.Checks.{pass, _then_, unless}
+use Rattle.model.specs.Output.{writtenBy}
 use Rattle.model.specs.declared.Record.{Record}
 use Rattle.model.proofs.Orders.{and-true}
 use Rattle.model.proofs.Codec.{decoded}
-use Rattle.kept_file.specs.Kept.{fileOf, writtenBy, written, ReadBack, readBack, toldWriting, toldReading, toldContent}
+use Rattle.kept_file.specs.Kept.{fileOf, written, ReadBack, readBack, toldWriting, toldReading, toldContent}
 use Rattle.kept_file.specs.declared.Writing.{Writing}
 use Rattle.kept_file.specs.declared.Reading.{Reading}
 use Rattle.kept_file.proofs.Files.{listing-short, kept-size}

@@ -1,11 +1,11 @@
--- `rmdir_target` meets its contract: each case gives what the definition gives for it.
+-- `check_directory` meets its contract: each case gives what the definition gives for it.
 use mathlib.Core.Path.{ap, sym}
 use borrow.Author.Needs.{needs}
-use Rattle.model.specs.Checks.{rmdirAt}
+use Rattle.model.specs.Checks.{directoryAt}
 use Rattle.view_at.specs.Sight.{visibleKind}
 use Rattle.view_at.specs.declared.Visible.{Visible}
-use Rattle.check_one_path.proofs.rmdir_target.Statement.{statement}
-use Rattle.check_one_path.proofs.rmdir_target.Tie as tie
+use Rattle.check_one_path.proofs.check_directory.Statement.{statement}
+use Rattle.check_one_path.proofs.check_directory.Tie as tie
 
 enum-told : tie.Need-enum-told
 enum-told c = search needs
@@ -13,7 +13,7 @@ enum-told c = search needs
 returns : tie.Need-returns
 returns c =
     let a = c .before .before .args in
-    sym (ap (λ (v : Visible). rmdirAt (a .len) (visibleKind v)) (c .enum-told .given .1))
+    sym (ap (λ (v : Visible). directoryAt (a .len) (visibleKind v)) (c .enum-told .given .1))
 
 enum-told-2 : tie.Need-enum-told-2
 enum-told-2 c = search needs
@@ -27,7 +27,7 @@ enum-told-3 c = search needs
 returns-3 : tie.Need-returns-3
 returns-3 c =
     let a = c .before .before .args in
-    sym (ap (λ (v : Visible). rmdirAt (a .len) (visibleKind v)) (c .enum-told3 .given .1))
+    sym (ap (λ (v : Visible). directoryAt (a .len) (visibleKind v)) (c .enum-told3 .given .1))
 
 enum-told-4 : tie.Need-enum-told-4
 enum-told-4 c = search needs
@@ -35,7 +35,7 @@ enum-told-4 c = search needs
 returns-4 : tie.Need-returns-4
 returns-4 c =
     let a = c .before .before .args in
-    sym (ap (λ (v : Visible). rmdirAt (a .len) (visibleKind v)) (c .enum-told4 .given .1))
+    sym (ap (λ (v : Visible). directoryAt (a .len) (visibleKind v)) (c .enum-told4 .given .1))
 
 pub rmdir-target-spec : {M : Type 1} → statement M
 rmdir-target-spec =
