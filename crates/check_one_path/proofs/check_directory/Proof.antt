@@ -37,7 +37,7 @@ returns-4 c =
     let a = c .before .before .args in
     sym (ap (λ (v : Visible). directoryAt (a .len) (visibleKind v)) (c .enum-told4 .given .1))
 
-pub rmdir-target-spec : {M : Type 1} → statement M
-rmdir-target-spec =
+pub check-directory-spec : {M : Type 1} → statement M
+check-directory-spec =
     tie.close
     (tie.spec enum-told returns enum-told-2 returns-2 enum-told-3 returns-3 enum-told-4 returns-4)

@@ -34,13 +34,13 @@ returns-2 c =
 enum-told-3 : tie.Need-enum-told-3
 enum-told-3 c = search needs
 
-rmdir-target-requires : tie.Need-rmdir-target-requires
-rmdir-target-requires c κs = search needs
+check-directory-requires : tie.Need-check-directory-requires
+check-directory-requires c κs = search needs
 
 returns-3 : tie.Need-returns-3
 returns-3 c =
     let a = c .before .before .before .args in
-    let x = c .rmdir-target in
+    let x = c .check-directory in
     x .ensures ∙ sym (ap (λ (y : Change). targetAt y (a .len) (visibleKind (a .visible))) (c .before .enum-told3 .given .1))
 
 pub check-target-spec : {M : Type 1} → statement M
@@ -54,5 +54,5 @@ check-target-spec =
     unlink-target-requires
     returns-2
     enum-told-3
-    rmdir-target-requires
+    check-directory-requires
     returns-3)
