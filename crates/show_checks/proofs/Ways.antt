@@ -1,6 +1,6 @@
 -- The walk down a path's ancestors in a listing, from the top: at each turn the next is looked up, and whether a link is to come decides as for all of them.
 use mathlib.Core.Path.{_≡_, refl, sym, ap, _∙_}
-use mathlib.Core.Bool.{Bool, true, false, not, _||_}
+use mathlib.Core.Bool.{Bool, true, false, not, _||_, or-false}
 use mathlib.Core.List.{List, [], _∷_, map}
 use Prim.Native.Nat.{ℕ, suc, _+_, _<_, _≤_}
 use native.Mathlib.Omega.{arith}
@@ -61,10 +61,6 @@ none-from : (f : Path → Bool) (p : Path) (i : ℕ) → i ≤ length p → ((j 
     → some? f (ancestorsFrom p i) ≡ false
 none-from f p i h n = none-passes f p (drop i p) i (omega (arith, length-drop i p)) n
 
-or-false : (a b : Bool) → b ≡ false → (a || b) ≡ a
-or-false true b h = refl
-or-false false b h = h
-
 directory-no-link : (x : Kind) → isDirectory x ≡ true → isLink x ≡ false
 directory-no-link nothing h = absurd (bot (cc))
 directory-no-link aDirectory h = refl
@@ -100,6 +96,5 @@ module _ (s : Bytes) (p : Path) where
     link-stop w r d v g u =
         let gone : (i : ℕ) → k + 1 ≤ i → i ≤ length p → linkAt (take i p) ≡ false = λ i m l.
         ap isLink (kind-front (lookup (treeIn s)) p i (omega arith) l ∙ ap kindOf (g .gone (v ∙ ap not d) i m l)) in
-        let rest = none-from linkAt p (k + 1) (omega arith) gone in
-        let behind = ap (map (λ (i : ℕ). take i p)) (next-slash p k k a h .1) in
-        u ∙ sym (or-false (isLink x) (linkFrom (k + 1)) rest) ∙ here (ancestorsFrom p (k + 1)) behind
+        let rest = ap (λ (b : Bool). isLink x || b) (none-from linkAt p (k + 1) (omega arith) gone) ∙ or-false (isLink x) in
+        u ∙ sym rest ∙ here (ancestorsFrom p (k + 1)) (ap (map (λ (i : ℕ). take i p)) (next-slash p k k a h .1))
