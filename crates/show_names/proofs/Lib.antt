@@ -1,2 +1,3 @@
 pub mod Cases
 pub mod Children
+pub mod Shown
