@@ -1,1 +1,4 @@
 pub mod Cases
+pub mod Children
+pub mod Shown
+pub mod Everything
