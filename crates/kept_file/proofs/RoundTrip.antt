@@ -4,11 +4,10 @@
 use mathlib.Core.Path.{_≡_, refl, ap, sym, _∙_, subst}
 use mathlib.Core.Bool.{Bool, true}
 use mathlib.Core.Option.{some}
-use Prim.Native.Nat.{ℕ, _+_, _-_, _≤_, _<_}
+use Prim.Native.Nat.{ℕ, _+_, _≤_, _<_}
 use native.Mathlib.Omega.{arith}
 use lib.Dec.{leb, eqb}
-use lib.ListN.{length, take, drop, replicate}
-use lib.Seq.{take-append-seam}
+use lib.ListN.{length, take, drop}
 use borrow.Author.Tests.{leb-true, le-leb, eq-eqb}
 use Rattle.model.specs.Bytes.{Bytes}
 use Rattle.model.specs.Tree.{Table}

@@ -1,5 +1,5 @@
 -- What the writer answers and leaves: a law for each exit of its checks, and what it says that they pass.
-use mathlib.Core.Path.{_≡_, refl, ap, sym, subst⁻¹, _∙_}
+use mathlib.Core.Path.{_≡_, ap, sym, subst⁻¹, _∙_}
 use mathlib.Core.List.{[], _∷_}
 use mathlib.Core.Bool.{Bool, true, false}
 use Prim.Native.Nat.{ℕ, _+_, _≤_, _<_}
@@ -12,11 +12,11 @@ use types.Run.{OneOf, miss}
 use Rattle.model.specs.Bytes.{Bytes}
 use Rattle.model.specs.Listing.{isListing}
 use Rattle.model.specs.Table.{encode, padded, tableIn, isTable}
-use Rattle.model.specs.Checks.{Check, pass, refuse, _then_, unless}
+use Rattle.model.specs.Checks.{Check, pass, _then_, unless}
 use Rattle.model.specs.Answer.{Reply, accepted, refused}
 use Rattle.model.specs.Output.{writtenBy}
 use Rattle.model.specs.declared.Record.{Record}
-use Rattle.model.proofs.Orders.{bot, and-true}
+use Rattle.model.proofs.Orders.{and-true}
 use Rattle.model.proofs.Codec.{decoded}
 use Rattle.model.proofs.Outputs.{writing-accepted, writing-refused}
 use Rattle.kept_file.specs.Kept.{kept, fileOf, mayWrite, written, toldWriting}

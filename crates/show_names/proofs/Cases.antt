@@ -8,7 +8,7 @@ use Rattle.model.specs.Bytes.{Bytes}
 use Rattle.model.specs.Path.{Path}
 use Rattle.model.specs.Tree.{listed, file, own, reference, directory, deleted, Table, Tree}
 use Rattle.model.specs.Table.{encode, recordOf}
-use Rattle.model.specs.Answer.{Reply, accepted, refused}
+use Rattle.model.specs.Answer.{accepted, refused}
 use Rattle.model.specs.Output.{Written}
 use Rattle.model.specs.declared.Record.{Record}
 use Rattle.model.proofs.Case.{path, dirAt, fileAt, linkAt, listingBytes}

@@ -56,10 +56,10 @@ child-is (c ∷ p) k h =
     i .1 ∙ ap (childPath (c ∷ p)) (sym (child-name (c ∷ p) (i .0)) ∙ ap (drop (nameStart (c ∷ p))) (sym (i .1)))
 
 -- what is found at a path is shown unless it is a link
-abbrev shows : Option Node → Bool
+abbrev pub shows : Option Node → Bool
 shows o = says exists (kindOf o)
 
-shows-node : (v : Node) → not (isLink (kindOf (some v))) ≡ shows (some v)
+pub shows-node : (v : Node) → not (isLink (kindOf (some v))) ≡ shows (some v)
 shows-node (dir m) = refl
 shows-node (file m z b) = refl
 shows-node link = refl

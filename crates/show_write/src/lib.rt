@@ -3,14 +3,15 @@
 // only this repository's crates call. Each of `measure_names` and `put_names` is one pass over what the merge reads.
 ghost use mathlib.Core.Path.{_≡_};
 ghost use mathlib.Core.Bool.{true};
+ghost use mathlib.Core.List.{_++_};
 ghost use Prim.Native.Nat.{_+_, _≤_, _<_};
 ghost use lib.ListN.{length, drop};
-ghost use Rattle.model.specs.Bytes.{every};
+ghost use Rattle.model.specs.Bytes.{every, bytes};
 ghost use Rattle.model.specs.Path.{slashless};
 ghost use Rattle.model.specs.Map.{keys};
 ghost use Rattle.model.specs.Table.{padded};
 ghost use Rattle.base_fields.specs.Write.{overwritten};
-ghost use Rattle.view_merge.specs.Merges.{ahead, remaining, Merging, Next, headPath, headNode, treeOf};
+ghost use Rattle.view_merge.specs.Merges.{ahead, Merging, Next, headPath, headNode, treeOf};
 ghost use Rattle.show_names.specs.Names.{nameStart, names, nameBytes};
 ghost use Rattle.show_write.specs.Sizes.{inside, Showing, headNames, Sized};
 use view_merge::Head;
@@ -68,10 +69,21 @@ pub fn measure_names<'a>(own: &'a [u8], part: &'a [u8], first: Merge, dir: &[u8]
     let mut sum: usize = 0;
     while view_merge::has_next(merge) {
         let head = view_merge::head_at(own, part, merge);
+        let next = view_merge::advance(own, part, merge, head);
         sum += name_size(own, part, merge, head, dir);
-        merge = view_merge::advance(own, part, merge, head);
+        merge = next;
     }
     sum
+}
+
+// A name with its length before it, from `at` on.
+fn put_sized(output: &mut [u8], at: usize, name: &[u8])
+    requires { ⌜ at + 2 + length (now name) ≤ length (now output) ⌝ }
+    ensures { λ _. ⌜ now (output .exit) ≡ overwritten (now (output .entry)) at (bytes 2 (length (now (name .entry)))
+        ++ now (name .entry)) ⌝ }
+{
+    base_fields::put16(output, at, name.len() as u64);
+    base_fields::copy_in(output, at + LENGTH, name);
 }
 
 // The name of what is next, with its length before it, from `at` on; gives where it ends. Nothing is written where
@@ -101,8 +113,7 @@ fn put_name<'a>(
     }
     let path = view_merge::head_path(own, part, merge, head);
     let start = path.len() + LENGTH - size;
-    base_fields::put16(output, at, (size - LENGTH) as u64);
-    base_fields::copy_in(output, at + LENGTH, &path[start..]);
+    put_sized(output, at, &path[start..]);
     at + size
 }
 
@@ -117,8 +128,9 @@ pub fn put_names<'a>(output: &mut [u8], own: &'a [u8], part: &'a [u8], first: Me
     let mut at: usize = 0;
     while view_merge::has_next(merge) {
         let head = view_merge::head_at(own, part, merge);
+        let next = view_merge::advance(own, part, merge, head);
         at = put_name(output, at, own, part, merge, head, dir);
-        merge = view_merge::advance(own, part, merge, head);
+        merge = next;
     }
     base_fields::zero_from(output, at);
 }

@@ -1,5 +1,5 @@
 -- A merge goes on over what is next: what it shows then is what it showed before, without that.
-use mathlib.Core.Path.{_≡_, refl, ap, sym, subst, _∙_}
+use mathlib.Core.Path.{_≡_, ap, sym, subst, _∙_}
 use mathlib.Core.List.{[], _∷_, _++_}
 use mathlib.Core.Bool.{true}
 use Prim.Native.Nat.{ℕ, zero, suc, _+_, _-_, _<_, _≤_}
@@ -8,8 +8,8 @@ use native.Mathlib.Omega.{arith}
 use lib.ListN.{length, drop, length-take}
 use Rattle.model.specs.Bytes.{Bytes, before, numberAt}
 use Rattle.model.specs.Path.{Path}
-use Rattle.model.specs.Tree.{Entry, Node, Table, Tree, view}
-use Rattle.model.specs.Listing.{recordAt, recordEnd, recordsFrom, nodeOf, treeFrom}
+use Rattle.model.specs.Tree.{Entry, Node, Table, Tree}
+use Rattle.model.specs.Listing.{recordAt, recordEnd, nodeOf, treeFrom}
 use Rattle.model.specs.Table.{keyAt, entryAt, entryEnd, entriesAt}
 use Rattle.model.specs.Plain.{visibleTree}
 use Rattle.model.proofs.Maps.{Above, Ascending, ascends-is}

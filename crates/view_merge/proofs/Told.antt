@@ -1,5 +1,5 @@
 -- What is told to be next: which of two paths is smaller, by how they compare; and what is visible there, by the stored kind.
-use mathlib.Core.Path.{_≡_, refl, ap, ap₂, sym, _∙_}
+use mathlib.Core.Path.{_≡_, ap, ap₂, sym, _∙_}
 use mathlib.Core.Bool.{Bool, true, false, not, _||_}
 use mathlib.Core.Option.{some}
 use Prim.Native.Nat.{ℕ, _+_}

@@ -1,48 +1,66 @@
+-- `name_size` meets its contract: a name is counted where something other than a link is visible and no slash follows.
 use borrow.Author.Needs.{needs}
+use Rattle.show_write.proofs.Measures.{size-hidden, start-within, size-deeper, size-named}
 use Rattle.show_write.proofs.name_size.Statement.{statement}
 use Rattle.show_write.proofs.name_size.Tie as tie
-use Rattle.show_write.proofs.name_size.Reads as reads
-use Rattle.show_write.proofs.name_size.Lts as lts
-use Rattle.show_write.proofs.is_one_component.Reads as is-one-component-reads
-use Rattle.show_write.proofs.name_start.Reads as name-start-reads
-use Rattle.view_merge.proofs.head_exists.Reads as head-exists-reads
-use Rattle.view_merge.proofs.head_path.Reads as head-path-reads
 
--- src/lib.rt:49:9
 head-exists-requires : tie.Need-head-exists-requires
 head-exists-requires c κs = search needs
 
--- src/lib.rt:50:9
 returns : tie.Need-returns
-returns c = ?
+returns c =
+    let a = c .before .before .before .before .before .args in
+    let x = c .before .head-exists in
+    size-hidden (a .dir .now) (a .own .now) (a .part .now) (a .merge) (a .head) (x .result) (x .ensures) (c .if1 .taken)
 
--- src/lib.rt:52:9
 head-path-requires : tie.Need-head-path-requires
 head-path-requires c κs = search needs
 
--- src/lib.rt:53:9
 name-start-requires : tie.Need-name-start-requires
 name-start-requires c κs = search needs
 
--- src/lib.rt:54:8
 is-one-component-requires : tie.Need-is-one-component-requires
-is-one-component-requires c κs = ?
+is-one-component-requires c κs =
+    let i = c .before .before .before .before .before .before .before in
+    let a = i .args in
+    let x = c .before .before .before .head-exists in
+    let k = c .before .head-path in
+    let s = c .name-start in
+    start-within (a .dir .now) (a .own .now) (a .part .now) (a .merge) (a .head) (x .result) (x .ensures) (i .pre .1 .1) (c .before .before .if1 .left) (k .result .now) (k .ensures) (s .result) (s .ensures)
 
--- src/lib.rt:55:26
 sub-result : tie.Need-sub-result
-sub-result c = ?
+sub-result c =
+    let i = c .before .before .before .before .before .before .before .before .before in
+    let a = i .args in
+    let x = c .before .before .before .before .before .head-exists in
+    let k = c .before .before .before .head-path in
+    let s = c .before .before .name-start in
+    start-within (a .dir .now) (a .own .now) (a .part .now) (a .merge) (a .head) (x .result) (x .ensures) (i .pre .1 .1) (c .before .before .before .before .if1 .left) (k .result .now) (k .ensures) (s .result) (s .ensures)
 
--- src/lib.rt:55:16
 add-result : tie.Need-add-result
 add-result c = search needs
 
--- src/lib.rt:55:9
 returns-2 : tie.Need-returns-2
-returns-2 c = ?
+returns-2 c =
+    let i = c .before .before .before .before .before .before .before .before .before in
+    let a = i .args in
+    let x = c .before .before .before .before .before .head-exists in
+    let k = c .before .before .before .head-path in
+    let s = c .before .before .name-start in
+    let o = c .before .is-one-component in
+    size-named (a .dir .now) (a .own .now) (a .part .now) (a .merge) (a .head) (x .result) (x .ensures) (i .pre .1 .1) (c .before .before .before .before .if1 .left) (k .result .now) (k .ensures) (s .result) (s .ensures)
+    (o .result) (o .ensures) (c .if2 .taken)
 
--- src/lib.rt:42:1
 returns-3 : tie.Need-returns-3
-returns-3 c = ?
+returns-3 c =
+    let i = c .before .before .before .before .before .before .before .before .before in
+    let a = i .args in
+    let x = c .before .before .before .before .before .head-exists in
+    let k = c .before .before .before .head-path in
+    let s = c .before .before .name-start in
+    let o = c .before .is-one-component in
+    size-deeper (a .dir .now) (a .own .now) (a .part .now) (a .merge) (a .head) (x .result) (x .ensures) (i .pre .1 .1) (c .before .before .before .before .if1 .left) (k .result .now) (k .ensures) (s .result) (s .ensures)
+    (o .result) (o .ensures) (c .if2 .left)
 
 pub name-size-spec : {M : Type 1} → statement M
 name-size-spec =

@@ -1,72 +1,102 @@
+-- `put_name` meets its contract: length and name are written where there is a name, and else nothing is.
+use Prim.Native.Nat.{_+_, _-_}
+use native.Mathlib.Omega.{arith}
+use lib.ListN.{length}
 use borrow.Author.Needs.{needs}
+use Rattle.show_write.proofs.Parts.{rest-of}
+use Rattle.show_write.proofs.Measures.{sized-length, size-bounds, unwritten, name-part, name-put}
 use Rattle.show_write.proofs.put_name.Statement.{statement}
 use Rattle.show_write.proofs.put_name.Tie as tie
-use Rattle.show_write.proofs.put_name.Reads as reads
-use Rattle.show_write.proofs.put_name.Lts as lts
-use Rattle.base_fields.proofs.copy_in.Reads as copy-in-reads
-use Rattle.base_fields.proofs.put16.Reads as put16-reads
-use Rattle.show_write.proofs.name_size.Reads as name-size-reads
-use Rattle.view_merge.proofs.head_path.Reads as head-path-reads
 
--- src/lib.rt:98:9
 name-size-requires : tie.Need-name-size-requires
 name-size-requires c κs = search needs
 
--- src/lib.rt:100:9
 returns : tie.Need-returns
-returns c = ?
+returns c =
+    let a = c .before .before .before .before .before .before .args in
+    let n = c .before .name-size in
+    let l = sized-length (a .dir .now) (a .own .now) (a .part .now) (a .merge) (a .head) (n .result) (n .ensures) in
+    let z = c .if1 .taken in
+    (unwritten (a .dir .now) (a .own .now) (a .part .now) (a .merge) (a .head) (n .result) (n .ensures) z (a .output .now) (a .at), omega arith)
 
--- src/lib.rt:102:9
 head-path-requires : tie.Need-head-path-requires
 head-path-requires c κs = search needs
 
--- src/lib.rt:103:17
 add-start : tie.Need-add-start
 add-start c = search needs
 
--- src/lib.rt:103:17
 sub-start : tie.Need-sub-start
-sub-start c = ?
+sub-start c =
+    let a = c .before .before .before .before .before .before .before .args in
+    let n = c .before .before .name-size in
+    let z = c .before .if1 .left in
+    let k = c .head-path in
+    let x = size-bounds (a .dir .now) (a .own .now) (a .part .now) (a .merge) (a .head) (n .result) (n .ensures) (omega arith) (k .result .now) (k .ensures) in
+    x .1
 
--- src/lib.rt:104:37
-sub-put16 : tie.Need-sub-put16
-sub-put16 c = ?
+sub-put-sized : tie.Need-sub-put-sized
+sub-put-sized c =
+    let a = c .before .before .before .before .before .before .before .before .args in
+    let n = c .before .before .before .name-size in
+    let z = c .before .before .if1 .left in
+    let k = c .before .head-path in
+    let x = size-bounds (a .dir .now) (a .own .now) (a .part .now) (a .merge) (a .head) (n .result) (n .ensures) (omega arith) (k .result .now) (k .ensures) in
+    let y = x .0 in
+    omega arith
 
--- src/lib.rt:104:5
-put16-requires : tie.Need-put16-requires
-put16-requires c κs = ?
+part-put-sized-start : tie.Need-part-put-sized-start
+part-put-sized-start c =
+    let a = c .before .before .before .before .before .before .before .before .args in
+    let n = c .before .before .before .name-size in
+    let z = c .before .before .if1 .left in
+    let k = c .before .head-path in
+    let x = size-bounds (a .dir .now) (a .own .now) (a .part .now) (a .merge) (a .head) (n .result) (n .ensures) (omega arith) (k .result .now) (k .ensures) in
+    let y = x .0 in
+    omega arith
 
--- src/lib.rt:105:34
-add-copy-in : tie.Need-add-copy-in
-add-copy-in c = search needs
+part-put-sized-end : tie.Need-part-put-sized-end
+part-put-sized-end c = search needs
 
--- src/lib.rt:105:47
-sub-copy-in : tie.Need-sub-copy-in
-sub-copy-in c = ?
+put-sized-requires : tie.Need-put-sized-requires
+put-sized-requires c κs =
+    let i = c .before .before .before .before .before .before .before .before .before in
+    let a = c .before .before .before .before .before .before .before .before .before .args in
+    let n = c .before .before .before .before .name-size in
+    let z = c .before .before .before .if1 .left in
+    let k = c .before .before .head-path in
+    let x = size-bounds (a .dir .now) (a .own .now) (a .part .now) (a .merge) (a .head) (n .result) (n .ensures) (omega arith) (k .result .now) (k .ensures) in
+    let l = sized-length (a .dir .now) (a .own .now) (a .part .now) (a .merge) (a .head) (n .result) (n .ensures) in
+    let b = length (k .result .now) + 2 - n .result in
+    let s = name-part (a .dir .now) (a .own .now) (a .part .now) (a .merge) (a .head) (n .result) (n .ensures) (omega arith) (k .result .now) (k .ensures) _ (rest-of (k .result .now) b) in
+    let f = i .pre .1 .1 .1 in
+    omega arith
 
--- src/lib.rt:105:47
-part-copy-in-start : tie.Need-part-copy-in-start
-part-copy-in-start c = ?
-
--- src/lib.rt:105:47
-part-copy-in-end : tie.Need-part-copy-in-end
-part-copy-in-end c = search needs
-
--- src/lib.rt:105:5
-copy-in-requires : tie.Need-copy-in-requires
-copy-in-requires c κs = ?
-
--- src/lib.rt:106:5
 add-result : tie.Need-add-result
-add-result c = ?
+add-result c =
+    let i = c .before .before .before .before .before .before .before .before .before .before .before .before in
+    let a = i .args in
+    let n = c .before .before .before .before .before .before .before .name-size in
+    let l = sized-length (a .dir .now) (a .own .now) (a .part .now) (a .merge) (a .head) (n .result) (n .ensures) in
+    let f = i .pre .1 .1 .1 in
+    let g = i .fits in
+    omega arith
 
--- src/lib.rt:79:1
 same-length : tie.Need-same-length
 same-length c = search needs
 
--- src/lib.rt:79:1
 returns-2 : tie.Need-returns-2
-returns-2 c = ?
+returns-2 c =
+    let a = c .before .before .before .before .before .before .before .before .before .before .before .before .args in
+    let n = c .before .before .before .before .before .before .before .name-size in
+    let z = c .before .before .before .before .before .before .if1 .left in
+    let k = c .before .before .before .before .before .head-path in
+    let x = size-bounds (a .dir .now) (a .own .now) (a .part .now) (a .merge) (a .head) (n .result) (n .ensures) (omega arith) (k .result .now) (k .ensures) in
+    let l = sized-length (a .dir .now) (a .own .now) (a .part .now) (a .merge) (a .head) (n .result) (n .ensures) in
+    let w = c .before .before .put-sized in (
+      name-put (a .dir .now) (a .own .now) (a .part .now) (a .merge) (a .head) (n .result) (n .ensures) (omega arith) (k .result .now) (k .ensures)
+          (a .output .now) (w .last .0) (a .at) _ (rest-of (k .result .now) _) (w .ensures),
+      omega arith,
+    )
 
 pub put-name-spec : {M : Type 1} → statement M
 put-name-spec =
@@ -77,13 +107,10 @@ put-name-spec =
     head-path-requires
     add-start
     sub-start
-    sub-put16
-    put16-requires
-    add-copy-in
-    sub-copy-in
-    part-copy-in-start
-    part-copy-in-end
-    copy-in-requires
+    sub-put-sized
+    part-put-sized-start
+    part-put-sized-end
+    put-sized-requires
     add-result
     same-length
     returns-2)
