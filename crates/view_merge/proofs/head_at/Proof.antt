@@ -1,6 +1,8 @@
 -- `head_at` meets its contract: what has ended is never told, and of two that go on the one with the smaller path is.
 use native.Mathlib.Omega.{arith}
 use borrow.Author.Needs.{needs}
+use Rattle.view_merge.specs.Merges.{Next}
+use Rattle.view_merge.specs.declared.Head.the-variants as head
 use Rattle.view_merge.proofs.Told.{smaller, equal, larger}
 use Rattle.view_merge.proofs.head_at.Statement.{statement}
 use Rattle.view_merge.proofs.head_at.Tie as tie
@@ -35,7 +37,10 @@ returns-5 c =
     let k = c .before .before .before .before .entry-key in
     let p = c .before .before .before .record-path in
     let o = c .before .before .compared in
-    (search needs, search needs, equal _ _ _ _ (k .ensures) (p .ensures) (o .result) (o .ensures) (c .if5 .taken))
+    let a = c .before .before .before .before .before .before .before .before .before .before .before .before .before .args in
+    let u : Next (a .own .now) (a .part .now) (a .merge) head.Both
+    = (search needs, search needs, equal _ _ _ _ (k .ensures) (p .ensures) (o .result) (o .ensures) (c .if5 .taken)) in
+    u
 
 returns-6 : tie.Need-returns-6
 returns-6 c =
