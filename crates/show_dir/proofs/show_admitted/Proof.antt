@@ -58,7 +58,7 @@ returns-2 c =
     let x = s .result in
     long-enough (names (a .path .now) (ahead (a .table .now) (part (a .listing .now) (x .from) (x .to)) (x .merge)))
     (names (a .path .now) (visibleTree (tableIn (a .table .now) (a .rec)) (treeIn (a .listing .now)))) (s .ensures .1 .are) (a .output .now) (n .result)
-    (n .ensures .0) (o .if1 .left) _ (p .put-names .ensures)
+    (n .ensures .0) (search needs) _ (p .put-names .ensures)
 
 pub show-admitted-spec : {M : Type 1} → statement M
 show-admitted-spec =

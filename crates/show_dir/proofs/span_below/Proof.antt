@@ -35,7 +35,7 @@ returns-2 c =
     let l = c .below2 in (
       (l .ensures .start, l .ensures .end),
       part-span (a .listing .now) (a .table .now) (a .rec) (i .pre) (o .result .from) (o .result .to) (o .result .count) (l .result .from) (l .result .to)
-          (l .result .count) (a .dir .now) (c .before .before .if1 .left) (o .ensures) (l .ensures),
+          (l .result .count) (a .dir .now) (search needs) (o .ensures) (l .ensures),
     )
 
 pub span-below-spec : {M : Type 1} → statement M
