@@ -23,7 +23,8 @@ use Rattle.kept_file.proofs.Files.{listing-short, kept-size}
 use Rattle.kept_file.proofs.RoundTrip.{all-passed}
 use Rattle.overlay_packed.specs.Packed.{packed, Fits, recordIn, contentNumbers, contentPlace}
 use Rattle.overlay.specs.Exported.{isFour, isTwo, writeLeft, keptWritten, readLeft, keptRead}
-use Rattle.overlay.proofs.Leaving.{is-four, not-four, chosen, otherwise}
+use Rattle.overlay.proofs.Leaving.{is-four, not-four}
+use Rattle.overlay.proofs.Filling.{not-filled, fill-settled}
 
 -- every answer of the writer fits
 module _ (l t : Bytes) (r : Record) (o : Bytes) where
@@ -59,7 +60,7 @@ module _ (l t : Bytes) (r : Record) (o : Bytes) where
 module _ (l t : Bytes) (n : List ℕ) (o : Bytes) where
   pub not-written : (length n ≡ 4 → ⊥) → writeLeft 1 o ≡ keptWritten l t n o
   unfolding keptWritten
-  not-written h = let w = written l t (recordIn n) o in otherwise n (writeLeft (packed (w .reply)) (w .output)) (writeLeft 1 o) h
+  not-written h = not-filled n o (λ r. written l t r o) h
 
   -- the writer answered a, and left o′
   module _ (h : length n ≡ 4) (r : Record) (e : r ≡ recordIn n) (a : Writing) (f : toldWriting a ≡ written l t r o .reply) (o′ : Bytes) (g : o′ ≡ written l t r o .output) where
@@ -68,11 +69,7 @@ module _ (l t : Bytes) (n : List ℕ) (o : Bytes) where
 
     pub write-settled : (x : ℕ) → x ≡ packed (toldWriting a) → writeLeft x o′ ≡ keptWritten l t n o
     unfolding keptWritten
-    write-settled x k =
-        let w = written l t (recordIn n) o in
-        let i : x ≡ packed (w .reply) = k ∙ ap packed f ∙ ap (λ (q : Record). packed (written l t q o .reply)) e in
-        let j : o′ ≡ w .output = g ∙ ap (λ (q : Record). written l t q o .output) e in
-        (λ z. writeLeft (i z) (j z)) ∙ chosen n (writeLeft (packed (w .reply)) (w .output)) (writeLeft 1 o) h
+    write-settled x k = fill-settled n o (λ q. written l t q o) h r e (toldWriting a) f o′ g x k
 
 -- a kept file read into the buffer t
 module _ (s t : Bytes) (n p : List ℕ) where

@@ -10,9 +10,11 @@ use Rattle.model.specs.Path.{Path}
 use Rattle.model.specs.Table.{recordOf}
 use Rattle.model.specs.Calls.{Query}
 use Rattle.model.specs.Answer.{Reply, accepted, refused}
+use Rattle.model.specs.Output.{Written}
 use Rattle.model.specs.Outcome.{Request, Outcome, outcome, ask, opened}
 use Rattle.call_answer.specs.Meets.{stored}
 use Rattle.run_calls.specs.Runs.{ranOn, ranNew, asNew}
+use Rattle.show_names.specs.Names.{showing}
 use Rattle.kept_file.specs.Kept.{written, readBack}
 use Rattle.overlay_packed.specs.Packed.{packed, numbers, recordIn, ranNumber, ranNumbers, contentNumbers, contentPlace}
 
@@ -79,7 +81,7 @@ newScriptRun listing E t n work script report =
     (runLeft (ranNumber a) (ranNumbers a (numbers (recordOf E [])) n) (x .table) (x .work) (x .report))
     (runLeft (packed (refused 1 0 0)) n t work report)
 
--- a writing's answer, and the output after it
+-- the answer of a call that fills an output, and the output after it
 pub record WriteLeft : Type 0 where
   pub answer : ℕ
   pub output : Bytes
@@ -87,11 +89,18 @@ pub record WriteLeft : Type 0 where
 abbrev pub writeLeft : ℕ → Bytes → WriteLeft
 writeLeft a o = record { answer = a; output = o }
 
+-- by what fills the output, where the record n is four numbers
+abbrev pub filled : List ℕ → Written → Bytes → WriteLeft
+filled n w output = cond (isFour n) (writeLeft (packed (w .reply)) (w .output))
+    (writeLeft (packed (refused 1 0 0)) output)
+
 -- the kept file of the table t with the record n
 unfoldable pub keptWritten : Bytes → Bytes → List ℕ → Bytes → WriteLeft
-keptWritten listing t n output =
-    let w = written listing t (recordIn n) output in
-    cond (isFour n) (writeLeft (packed (w .reply)) (w .output)) (writeLeft (packed (refused 1 0 0)) output)
+keptWritten listing t n output = filled n (written listing t (recordIn n) output) output
+
+-- the names of the visible children of p
+unfoldable pub childrenShown : Bytes → Bytes → List ℕ → Path → Bytes → WriteLeft
+childrenShown listing t n p output = filled n (showing listing t (recordIn n) p output) output
 
 -- a reading's answer, and the record, the listing's place and the table after it
 pub record ReadLeft : Type 0 where

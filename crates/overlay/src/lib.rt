@@ -1,8 +1,8 @@
-// The calls of document 01, and the writer and the reader of kept files (#101), for programs in C or Rust to link:
-// numbers and byte slices in, the answer packed in one number out. Nothing is assumed of what is lent, but that no two
-// of the buffers overlap: any bytes and any numbers can be given. A record that is not four numbers is answered with 1,
-// and is no table's. A refused call leaves every lent buffer, the record too, as it was; what a script that is not run
-// leaves stands at `overlay_run_new`. The cost is that of the call itself.
+// The calls of document 01, the writer and the reader of kept files (#101), and showing a directory (#102), for
+// programs in C or Rust to link: numbers and byte slices in, the answer packed in one number out. Nothing is assumed of
+// what is lent, but that no two of the buffers overlap: any bytes and any numbers can be given. A record that is not
+// four numbers is answered with 1, and is no table's. A refused call leaves every lent buffer, the record too, as it
+// was; what a script that is not run leaves stands at `overlay_run_new`. The cost is that of the call itself.
 ghost use mathlib.Core.Path.{_≡_};
 ghost use mathlib.Core.Bool.{_&&_};
 ghost use Rattle.model.specs.Listing.{isListing};
@@ -16,7 +16,7 @@ ghost use Rattle.run_calls.specs.Runs.{requests, Holds};
 ghost use Rattle.overlay_packed.specs.Packed.{packed, ifAccepted, numbers, recordIn};
 ghost use Rattle.overlay.specs.Exported.{isFour, left, called, asked, opening};
 ghost use Rattle.overlay.specs.Exported.{runLeft, scriptRun, newScriptRun};
-ghost use Rattle.overlay.specs.Exported.{writeLeft, keptWritten, readLeft, keptRead};
+ghost use Rattle.overlay.specs.Exported.{writeLeft, keptWritten, childrenShown, readLeft, keptRead};
 use model::Record;
 
 // The numbers of a record: used, count, charge and entry size.
@@ -285,6 +285,25 @@ pub extern "C" fn overlay_run_new(
         entry_size,
     };
     overlay_packed::store_and_pack_run(rec, ran, first)
+}
+
+// Writes the names of the path's visible children, each with its length before it, and zeros behind them.
+#[no_mangle]
+pub extern "C" fn overlay_show<'a>(
+    listing: &'a [u8],
+    table: &'a [u8],
+    rec: &[u64],
+    path: &[u8],
+    output: &mut [u8],
+) -> u64
+    ensures { λ r. ⌜ writeLeft r (now (output .exit)) ≡ childrenShown (now (listing .entry)) (now (table .entry))
+        (now (rec .entry)) (now (path .entry)) (now (output .entry)) ⌝ }
+{
+    if rec.len() != NUMBERS {
+        return overlay_packed::MALFORMED_TABLE;
+    }
+    let answer = show_dir::show(listing, table, overlay_packed::record_in(rec), path, output);
+    overlay_packed::pack_answer(answer)
 }
 
 // Writes the kept file of the listing and the table, and zeros behind it.

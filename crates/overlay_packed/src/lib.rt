@@ -87,8 +87,8 @@ pub fn pack_finding(finding: Finding) -> u64
     }
 }
 
-// A changing call's answer in one number.
-fn pack_answer(answer: Answer) -> u64
+// The answer of a changing call, or of showing a directory, in one number.
+pub fn pack_answer(answer: Answer) -> u64
     requires { ⌜ Fits (told answer) ⌝ }
     ensures { λ r. ⌜ r ≡ packed (told answer) ⌝ }
 {
