@@ -8,7 +8,7 @@ use mathlib.Core.Option.{Option, none, some}
 use Prim.Native.Nat.{ℕ}
 use native.Mathlib.Omega.{arith}
 use lib.Dec.{ltb, eqb}
-use lib.ListN.{length, take, drop}
+use lib.ListN.{length, take, drop, length-drop}
 use lib.Seq.{take-append-seam, drop-append-seam, drop-append-add, take-at, drop-at}
 use borrow.Author.Tests.{lt-ltb, ltb-true}
 use Rattle.model.specs.Bytes.{Bytes, every, number, before}
@@ -20,7 +20,7 @@ use Rattle.model.specs.Plain.{visibleTree}
 use Rattle.model.proofs.Orders.{bot, yea, nay, test, eqb-true, eqb-eq, and-true, same-refl, Split, split, Lt, Cmp, cmp}
 use Rattle.model.proofs.Orders.{is-none, is-some, opt, Lt-irrefl, Lt-trans, Lt-≢}
 use Rattle.model.proofs.Maps.{Above, Ascending, above-trans, lookup-low, ascends-is}
-use Rattle.model.proofs.Codec.{number-bytes}
+use Rattle.model.proofs.Codec.{number-bytes, path-short}
 use Rattle.model.proofs.Texts.{path-moved}
 use Rattle.model.proofs.Resumed.{visible-is, visible-sorted}
 use Rattle.show_names.specs.Names.{childOf, nameStart, isLink, names, nameBytes}
@@ -185,6 +185,24 @@ module _ (t : Table) (l : Tree) (at : ascends [] t ≡ true) (al : ascends [] l 
 -- a name's length fits its 16 bits
 abbrev pub namesFit : List Bytes → Bool
 namesFit ns = every (λ n. ltb (length n) 65536) ns
+
+-- a name is a part of its path, and a path in form has at most 512 bytes
+pub names-fit : (p : Path) (s : Tree) → Ascending s → ((k : Path) (v : Node) → lookup s k ≡ some v → isPath k ≡ true)
+    → namesFit (names p s) ≡ true
+names-fit p [] a f = refl
+names-fit p (x ∷ xs) a f =
+    let n : Bytes = drop (nameStart p) (x .0) in
+    let ih = names-fit p xs (a .1) later in
+    let l = path-short (x .0) (f (x .0) (x .1) (cc (same-refl (x .0)))) in
+    let d = length-drop (nameStart p) (x .0) in
+    let u = lt-ltb (length n) 65536 (omega arith) in
+    elim (test (childOf p (x .0) && not (isLink (kindOf (some (x .1)))))) [ yea e ↦ cc | nay e ↦ cc ]
+  where
+    later : (k : Path) (v : Node) → lookup xs k ≡ some v → isPath k ≡ true
+    later k v e = elim (split (x .0) k) [
+      | Split.eq g w ↦ absurd (bot (cc (lookup-low (x .0) xs (a .0) (a .1))))
+      | Split.ne g w ↦ f k v (cc)
+    ]
 
 name-length : (n : Bytes) (ns : List Bytes) → ltb (length n) 65536 ≡ true
     → number (take 2 (nameBytes (n ∷ ns))) ≡ length n

@@ -1,12 +1,12 @@
 -- Showing directories of a table that the calls built: the names are those of the plain tree's children, and every
--- visible path but a link is found in a directory that is shown. Assumes that the listing is in form and that its
--- elements are bytes.
-use mathlib.Core.Path.{_≡_, refl, ap, sym, _∙_, subst}
-use mathlib.Core.Bool.{true}
+-- visible path but a link stands, by its name, in the accepted showing of its parent. Assumes that the listing is in
+-- form and that its elements are bytes; of the output, that the parent's names fit it.
+use mathlib.Core.Path.{_≡_, refl, ap, ap₂, sym, _∙_, subst}
+use mathlib.Core.Bool.{true, _&&_}
 use mathlib.Core.List.{[], _∷_, _++_}
 use mathlib.Core.Logic.{_⊎_, inl, inr}
 use mathlib.Core.Option.{some}
-use Prim.Native.Nat.{ℕ}
+use Prim.Native.Nat.{ℕ, _≤_}
 use native.Mathlib.Omega.{arith}
 use lib.Dec.{eqb}
 use lib.ListN.{length}
@@ -15,8 +15,10 @@ use Rattle.model.specs.Bytes.{Bytes}
 use Rattle.model.specs.Path.{Path, isPath, below, slashless}
 use Rattle.model.specs.Tree.{Node, View}
 use Rattle.model.specs.Listing.{isListing, treeIn}
+use Rattle.model.specs.Answer.{accepted}
 use Rattle.model.specs.Outcome.{Given, shownIn}
 use Rattle.model.specs.Plain.{visibleTree}
+use Rattle.model.specs.declared.Record.{Record}
 use Rattle.model.specs.Runs.{State, Built, entriesOf}
 use Rattle.model.proofs.Orders.{bot, yea, nay, test, eqb-eq, eqb-true, is-none, is-some, opt}
 use Rattle.model.proofs.Maps.{map-ext}
@@ -26,10 +28,10 @@ use Rattle.model.proofs.Invariant.{Closed}
 use Rattle.model.proofs.Formed.{listing-fine}
 use Rattle.model.proofs.Resumed.{visible-is, visible-sorted}
 use Rattle.model.proofs.Built.{built-reached}
-use Rattle.show_names.specs.Names.{names}
-use Rattle.show_names.specs.Shows.{isName, showsAt, FoundIn}
+use Rattle.show_names.specs.Names.{names, childNames, showing}
+use Rattle.show_names.specs.Shows.{isName, childPath, among, showsAt, Shows, FoundIn}
 use Rattle.show_names.proofs.Children.{no-slash-last}
-use Rattle.show_names.proofs.Shown.{visible-formed}
+use Rattle.show_names.proofs.Shown.{visible-formed, directory-accepted, accepted-shows}
 
 -- a path has one component, or a last slash with one behind it
 abbrev Parted : Path → Type 0
@@ -71,6 +73,11 @@ found-below f (b ∷ q) n v c s h e =
       directory = c p (p ++ (47 ∷ n)) v u e;
     }
 
+-- the parent of a path in form is in form
+parent-formed : (p n : Path) → isPath (childPath p n) ≡ true → isPath p ≡ true
+parent-formed [] n h = refl
+parent-formed (c ∷ p) n h = path-ancestor (childPath (c ∷ p) n) (c ∷ p) h (below-joined (c ∷ p) n)
+
 found-in : (f : View) (k : Path) (v : Node) → Closed f → (k ≡ [] → ⊥) → isPath k ≡ true → f k ≡ some v → FoundIn f k
 found-in f k v c r h e = go (parted k)
   where
@@ -84,6 +91,14 @@ shows-some : (f : View) (k : Path) → (k ≡ [] → ⊥) → showsAt f k ≡ tr
 shows-some f [] r h = absurd (r refl)
 shows-some f (c ∷ k) r h = elim (opt (f (c ∷ k))) [ is-none e ↦ absurd (bot (cc)) | is-some v e ↦ (v, e) ]
 
+-- The path k stands, by its name, among the names that an accepted showing of its parent wrote into the output.
+pub record StandsIn (listing table : Bytes) (rec : Record) (output : Bytes) (k : Path) : Type 0 where
+  pub found : FoundIn (shownIn listing table rec) k
+  pub answer : ℕ
+  pub is-accepted : showing listing table rec (found .parent) output .reply ≡ accepted answer
+  pub shows : Shows listing table rec (found .parent) output answer
+  pub stands : among (found .name) (shows .names) ≡ true
+
 module _ (listing : Bytes) (E : ℕ) (x : State) (bytes : IsBytes listing) (l : isListing listing ≡ true)
     (built : Built listing E x) where
   -- what is shown are the names of the plain tree's children
@@ -95,14 +110,42 @@ module _ (listing : Bytes) (E : ℕ) (x : State) (bytes : IsBytes listing) (l : 
       (visible-sorted t (treeIn listing) (listing-fine listing bytes l .sorted)) (s .sorted)
       (λ k. sym (visible-is t (treeIn listing) k) ∙ ap (λ (f : View). f k) (s .tree)))
 
-  -- every visible path but a link has a name in a directory that is shown; `exactly` in `Shows` has it written there
-  pub built-found : (k : Path) → (k ≡ [] → ⊥) → showsAt (shownIn listing (x .store .table) (x .store .rec)) k ≡ true
-      → FoundIn (shownIn listing (x .store .table) (x .store .rec)) k
-  built-found k r h =
-      let f : View = shownIn listing (x .store .table) (x .store .rec) in
-      let b = built-reached listing E bytes x built in
-      let given : Given listing (x .store .table) (x .store .rec) = record { is-listing = l; is-table = b .table } in
-      let v = shows-some f k r h in
-      let formed = visible-formed listing (x .store .table) (x .store .rec) given k (v .0)
-      (sym (visible-is (entriesOf (x .store)) (treeIn listing) k) ∙ v .1) in
-      found-in f k (v .0) (b .sound l .inv .closed) r formed (v .1)
+  given : Given listing (x .store .table) (x .store .rec)
+  given = record { is-listing = l; is-table = built-reached listing E bytes x built .table }
+
+  module _ (k : Path) (r : k ≡ [] → ⊥) (h : showsAt (shownIn listing (x .store .table) (x .store .rec)) k ≡ true) where
+    node : (v : Node) × (shownIn listing (x .store .table) (x .store .rec) k ≡ some v)
+    node = shows-some (shownIn listing (x .store .table) (x .store .rec)) k r h
+
+    formed : isPath k ≡ true
+    formed = visible-formed listing (x .store .table) (x .store .rec) given k (node .0)
+        (sym (visible-is (entriesOf (x .store)) (treeIn listing) k) ∙ node .1)
+
+    -- every visible path but a link has a name in a directory that is shown
+    pub built-found : FoundIn (shownIn listing (x .store .table) (x .store .rec)) k
+    built-found =
+        let c = built-reached listing E bytes x built .sound l .inv .closed in
+        found-in (shownIn listing (x .store .table) (x .store .rec)) k (node .0) c r formed (node .1)
+
+    -- and the showing of that directory, into an output that is long enough, is accepted and writes the name
+    pub built-shown : (output : Bytes)
+        → length (childNames listing (x .store .table) (x .store .rec) (built-found .parent)) ≤ length output
+        → StandsIn listing (x .store .table) (x .store .rec) output k
+    built-shown output fits =
+        let table : Bytes = x .store .table in
+        let rec : Record = x .store .rec in
+        let p : Path = built-found .parent in
+        let n : Bytes = built-found .name in
+        let is : k ≡ childPath p n = built-found .is in
+        let parent-path = parent-formed p n (subst (λ (q : Path). isPath q ≡ true) is formed) in
+        let answered = directory-accepted listing table rec given p output parent-path (built-found .directory) fits in
+        let w = accepted-shows listing table rec p output (length (childNames listing table rec p)) answered in
+        let there : showsAt (shownIn listing table rec) (childPath p n) ≡ true =
+        subst (λ (q : Path). showsAt (shownIn listing table rec) q ≡ true) is h in
+        record {
+          found = built-found;
+          answer = length (childNames listing table rec p);
+          is-accepted = answered;
+          shows = w;
+          stands = w .exactly n ∙ ap₂ _&&_ (built-found .named) there;
+        }

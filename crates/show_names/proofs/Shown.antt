@@ -23,13 +23,14 @@ use Rattle.model.specs.Output.{writtenBy}
 use Rattle.model.specs.Plain.{visibleTree}
 use Rattle.model.specs.declared.Record.{Record}
 use Rattle.model.proofs.Orders.{bot, yea, nay, test, and-true, Split, split, is-none, is-some, opt}
+use Rattle.model.proofs.Maps.{ascends-is}
 use Rattle.model.proofs.Codec.{decoded}
 use Rattle.model.proofs.Invariant.{then-pass, unless-pass, form-is}
 use Rattle.model.proofs.Outputs.{writing-accepted, writing-refused}
-use Rattle.model.proofs.Resumed.{visible-is}
-use Rattle.show_names.specs.Names.{isLink, names, linkOnWay, showChecks, childNames, mayShow, showing}
+use Rattle.model.proofs.Resumed.{visible-is, visible-sorted}
+use Rattle.show_names.specs.Names.{isLink, names, nameBytes, linkOnWay, showChecks, childNames, mayShow, showing}
 use Rattle.show_names.specs.Shows.{Shows}
-use Rattle.show_names.proofs.Children.{names-rising, names-exactly}
+use Rattle.show_names.proofs.Children.{names-rising, names-exactly, namesFit, names-fit, bytes-tell}
 
 -- what a table in form has an entry at is a path
 entry-path : (t : Table) (k : Path) (e : Entry) → every formedEntry t ≡ true → lookup t k ≡ some e → isPath k ≡ true
@@ -99,6 +100,19 @@ module _ (listing table : Bytes) (rec : Record) (given : Given listing table rec
         | is-some e w ↦ entry-path t k e (decoded table rec (given .is-table) .formed) w
         | is-none w ↦ listing-parts listing (given .is-listing) .1 k v (cc) .0
       ]
+
+  -- every name that is shown has a length of 16 bits
+  pub shown-fit : (p : Path) → namesFit (names p (visibleTree (tableIn table rec) (treeIn listing))) ≡ true
+  shown-fit p =
+      let t = tableIn table rec in
+      let l = treeIn listing in
+      let al = listing-parts listing (given .is-listing) .0 in
+      names-fit p (visibleTree t l) (visible-sorted t l (ascends-is [] l al .1)) visible-formed
+
+  -- so no other names, with lengths of 16 bits, have the bytes that are shown
+  pub shown-tell : (p : Path) (ns : List Bytes) → namesFit ns ≡ true → nameBytes ns ≡ childNames listing table rec p
+      → ns ≡ names p (visibleTree (tableIn table rec) (treeIn listing))
+  shown-tell p ns f h = bytes-tell ns (names p (visibleTree (tableIn table rec) (treeIn listing))) f (shown-fit p) h
 
   -- a path without an entry that is listed has listed directories alone as ancestors
   no-link : (p : Path) → (kind (shownIn listing table rec) p ≡ nothing → ⊥)
