@@ -141,7 +141,8 @@ rmdirEntry n (some deleted) otherwise = refuse 5 0 n
 abbrev pub rmdirChecks : Table → Tree → Path → Check
 rmdirChecks t l p =
     notRoot 0 p
-    then rmdirEntry (length p) (lookup t p) (parentChecks 0 (shown t l) p then directoryAt (length p) (kind (shown t l) p))
+    then rmdirEntry (length p) (lookup t p) (parentChecks 0 (shown t l) p
+    then directoryAt (length p) (kind (shown t l) p))
     then noVisibleChild 0 t l p
 
 -- what a call may charge: an entry size and a limit, or no end of it, as in the plain tree's rules ("without 11 to 13")

@@ -6,7 +6,8 @@ use mathlib.Core.Bool.{true, _&&_}
 use mathlib.Core.List.{[], _∷_, _++_}
 use mathlib.Core.Logic.{_⊎_, inl, inr}
 use mathlib.Core.Option.{some}
-use Prim.Native.Nat.{ℕ, _≤_}
+use Prim.Native.Nat.{ℕ, _+_, _≤_}
+use native.Mathlib.Nat.{le-trans}
 use native.Mathlib.Omega.{arith}
 use lib.Dec.{eqb}
 use lib.ListN.{length}
@@ -29,8 +30,9 @@ use Rattle.model.proofs.Formed.{listing-fine}
 use Rattle.model.proofs.Resumed.{visible-is, visible-sorted}
 use Rattle.model.proofs.Built.{built-reached}
 use Rattle.show_names.specs.Names.{names, childNames, showing}
-use Rattle.show_names.specs.Shows.{isName, childPath, among, showsAt, Shows, FoundIn}
+use Rattle.show_names.specs.Shows.{isName, childPath, showsAt, FoundIn, StandsIn}
 use Rattle.show_names.proofs.Children.{no-slash-last}
+use Rattle.show_names.proofs.Bounds.{names-bound}
 use Rattle.show_names.proofs.Shown.{visible-formed, directory-accepted, accepted-shows}
 
 -- a path has one component, or a last slash with one behind it
@@ -91,14 +93,6 @@ shows-some : (f : View) (k : Path) → (k ≡ [] → ⊥) → showsAt f k ≡ tr
 shows-some f [] r h = absurd (r refl)
 shows-some f (c ∷ k) r h = elim (opt (f (c ∷ k))) [ is-none e ↦ absurd (bot (cc)) | is-some v e ↦ (v, e) ]
 
--- The path k stands, by its name, among the names that an accepted showing of its parent wrote into the output.
-pub record StandsIn (listing table : Bytes) (rec : Record) (output : Bytes) (k : Path) : Type 0 where
-  pub found : FoundIn (shownIn listing table rec) k
-  pub answer : ℕ
-  pub is-accepted : showing listing table rec (found .parent) output .reply ≡ accepted answer
-  pub shows : Shows listing table rec (found .parent) output answer
-  pub stands : among (found .name) (shows .names) ≡ true
-
 module _ (listing : Bytes) (E : ℕ) (x : State) (bytes : IsBytes listing) (l : isListing listing ≡ true)
     (built : Built listing E x) where
   -- what is shown are the names of the plain tree's children
@@ -127,17 +121,17 @@ module _ (listing : Bytes) (E : ℕ) (x : State) (bytes : IsBytes listing) (l : 
         let c = built-reached listing E bytes x built .sound l .inv .closed in
         found-in (shownIn listing (x .store .table) (x .store .rec)) k (node .0) c r formed (node .1)
 
-    -- and the showing of that directory, into an output that is long enough, is accepted and writes the name
-    pub built-shown : (output : Bytes)
-        → length (childNames listing (x .store .table) (x .store .rec) (built-found .parent)) ≤ length output
+    -- and the showing of that directory, into an output as long as listing and table, is accepted and writes the name
+    pub built-shown : (output : Bytes) → length listing + length (x .store .table) ≤ length output
         → StandsIn listing (x .store .table) (x .store .rec) output k
-    built-shown output fits =
+    built-shown output long =
         let table : Bytes = x .store .table in
         let rec : Record = x .store .rec in
         let p : Path = built-found .parent in
         let n : Bytes = built-found .name in
         let is : k ≡ childPath p n = built-found .is in
         let parent-path = parent-formed p n (subst (λ (q : Path). isPath q ≡ true) is formed) in
+        let fits = le-trans (names-bound listing table rec p given) long in
         let answered = directory-accepted listing table rec given p output parent-path (built-found .directory) fits in
         let w = accepted-shows listing table rec p output (length (childNames listing table rec p)) answered in
         let there : showsAt (shownIn listing table rec) (childPath p n) ≡ true =

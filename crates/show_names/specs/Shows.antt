@@ -1,5 +1,5 @@
--- #102: what holds of showing a directory. Which names are written, over what table and listing show, and that on tables
--- which the calls built every visible path but a link is found so.
+-- #102: what holds of showing a directory. Which names are written, over what table and listing show, and that on
+-- tables which the calls built every visible path but a link is found so.
 use mathlib.Core.Path.{_≡_}
 use mathlib.Core.Bool.{Bool, true, _&&_}
 use mathlib.Core.List.{List, [], _∷_, _++_}
@@ -11,6 +11,7 @@ use Rattle.model.specs.Path.{Path, slashless}
 use Rattle.model.specs.Tree.{View, aDirectory, kind}
 use Rattle.model.specs.Table.{padded}
 use Rattle.model.specs.Calls.{exists, says}
+use Rattle.model.specs.Answer.{accepted}
 use Rattle.model.specs.Outcome.{shownIn}
 use Rattle.model.specs.declared.Record.{Record}
 use Rattle.show_names.specs.Names.{nameBytes, showing}
@@ -53,3 +54,11 @@ pub record FoundIn (f : View) (k : Path) : Type 0 where
   pub is : k ≡ childPath parent name
   pub named : isName name ≡ true
   pub directory : kind f parent ≡ aDirectory
+
+-- The path k stands, by its name, among the names that an accepted showing of its parent wrote into the output.
+pub record StandsIn (listing table : Bytes) (rec : Record) (output : Bytes) (k : Path) : Type 0 where
+  pub found : FoundIn (shownIn listing table rec) k
+  pub answer : ℕ
+  pub is-accepted : showing listing table rec (found .parent) output .reply ≡ accepted answer
+  pub shows : Shows listing table rec (found .parent) output answer
+  pub stands : among (found .name) (shows .names) ≡ true
