@@ -5,8 +5,8 @@
 //! ends, and a refused call changes nothing. This crate keeps the buffers and gives the answers Rust's form.
 //!
 //! [`Overlay`] owns its buffers, [`OverlayMut`] borrows them, and [`raw`] has the calls on plain slices.
-//! [`Overlay::show`] shows a directory, and [`Overlay::walk`] goes through the whole visible tree. A [`Script`] is a list
-//! of calls, to be run as one. [`Overlay::save`] and [`Overlay::load`] keep a table and its listing in a file.
+//! [`Overlay::show`] shows a directory, and [`Overlay::walk`] goes through the whole visible tree. A [`Script`] is a
+//! list of calls, to be run as one. [`Overlay::save`] and [`Overlay::load`] keep a table and its listing in a file.
 //!
 //! ```
 //! use overlay::{EMPTY_LISTING, Mkdir, Overlay, Refusal};

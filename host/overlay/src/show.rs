@@ -245,12 +245,13 @@ impl Node {
 /// All that is visible below a directory, in tree order: a directory, then all below it; the children of each ascend by
 /// the bytes of their names. The directory itself is not among them, and links are left out as in showing.
 ///
-/// Each item is a [`Node`], or the refusal of the call that asked for it, which ends the walk. Where the first item is no
-/// refusal, none is: nothing can change between the calls.
+/// Each item is a [`Node`], or the refusal of the call that asked for it, which ends the walk. Only the directory from
+/// which the walk goes can be refused: a child that is shown as a directory can be shown itself, and nothing changes
+/// between the calls.
 ///
-/// Each directory costs one [`show`](OverlayRef::show), and each node one [`is_dir`](OverlayRef::is_dir), which tells its
-/// kind; both read listing and table a fixed number of times. What is held at a time is the names of the directories on
-/// the way from the start.
+/// Each directory costs one [`show`](OverlayRef::show), and each node one [`is_dir`](OverlayRef::is_dir), which tells
+/// its kind; both read listing and table a fixed number of times. What is held at a time is the names of the directories
+/// on the way from the start.
 ///
 /// ```
 /// use overlay::{EMPTY_LISTING, Mkdir, NodeKind, Overlay, Refusal};

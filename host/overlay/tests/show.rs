@@ -1,5 +1,5 @@
-//! Showing a directory: the cases of the request's definition, every number in its order, and an output that is as it was
-//! where the call is refused. The walk is held against a plain merge of listing and entries that is made here.
+//! Showing a directory: the cases of the request's definition, every number in its order, and an output that is as it
+//! was where the call is refused. The walk is held against a plain merge of listing and entries that is made here.
 use overlay::{EntryKind, Mkdir, NameList, NodeKind, Overlay, OverlayRef, Record, Refusal, raw};
 use std::collections::BTreeMap;
 
