@@ -188,44 +188,40 @@ impl Shown {
         }
     }
 
-    /// Each byte of listing, table and path changed in turn, each with paths of which all get their turn; each number of
-    /// the record; and listing and table cut at each length.
-    fn changed(&mut self, base: &Lent, all: bool) {
+    /// Each byte of one buffer changed in turn, and the buffer cut at each length; all paths get their turns.
+    fn changed(&mut self, base: &Lent, buffer: fn(&mut Lent) -> &mut Vec<u8>, all: bool) {
         let paths = paths();
-        let mut turn = paths.iter().cycle();
-        let mut next = || base.at(turn.next().expect("paths"));
-        for at in 0..base.listing.len() {
-            for byte in others(base.listing[at], all) {
-                let mut lent = next();
-                lent.listing[at] = byte;
+        let mut turns = paths.iter().cycle().map(|path| base.at(path));
+        for at in 0..buffer(&mut base.clone()).len() {
+            for byte in others(buffer(&mut base.clone())[at], all) {
+                let mut lent = turns.next().expect("paths");
+                buffer(&mut lent)[at] = byte;
                 self.try_path(&lent);
             }
-            let mut lent = next();
-            lent.listing.truncate(at);
+            let mut lent = turns.next().expect("paths");
+            buffer(&mut lent).truncate(at);
             self.try_path(&lent);
         }
-        for at in 0..base.table.len() {
-            for byte in others(base.table[at], all) {
-                let mut lent = next();
-                lent.table[at] = byte;
-                self.try_path(&lent);
-            }
-            let mut lent = next();
-            lent.table.truncate(at);
-            self.try_path(&lent);
-        }
-        for path in &paths {
+    }
+
+    /// Each byte of each path changed in turn, but for those far behind in a long one.
+    fn changed_paths(&mut self, base: &Lent, all: bool) {
+        for path in paths() {
             for at in 0..path.len().min(40) {
                 for byte in others(path.as_bytes()[at], all) {
-                    let mut lent = base.at(path);
+                    let mut lent = base.at(&path);
                     lent.path[at] = byte;
                     self.try_path(&lent);
                 }
             }
         }
+    }
+
+    /// Each number of the record changed.
+    fn changed_record(&mut self, base: &Lent) {
         for (at, number) in base.record.iter().enumerate() {
             for other in [0, 1, number.wrapping_add(1), number.wrapping_sub(1), 1 << 32, u64::MAX] {
-                let mut lent = next();
+                let mut lent = base.at("a");
                 lent.record[at] = other;
                 self.try_path(&lent);
             }
@@ -306,7 +302,10 @@ pub fn run(seed: u64, calls: u64, long: bool) {
     let mut shown = Shown::new(seed, 8192);
     for base in [small(), elsewhere(), bounds()] {
         shown.whole(&base);
-        shown.changed(&base, long);
+        shown.changed(&base, |lent| &mut lent.listing, long);
+        shown.changed(&base, |lent| &mut lent.table, long);
+        shown.changed_paths(&base, long);
+        shown.changed_record(&base);
     }
     let enough = shown.calls() + calls;
     while shown.calls() < enough {
@@ -314,6 +313,7 @@ pub fn run(seed: u64, calls: u64, long: bool) {
     }
     let mut large = Shown::new(seed, MAX_BUFFER + (1 << 20));
     large.large();
+    assert_eq!(large.counts, BTreeMap::from([(0, 3), (1, 1), (2, 1), (13, 1)]), "the large ones");
     shown.add(&large);
     println!("directories: {} shown", shown.calls());
     assert!(shown.counts.keys().eq(&NUMBERS), "the numbers {:?}, not {NUMBERS:?}", shown.counts.keys());
