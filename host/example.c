@@ -1,5 +1,6 @@
 /* A table over a listing, from C: directories and files are made, moved and deleted, by one call after the other and
- * by a script; table and listing are kept in a file's bytes and read again; and each answer is printed. */
+ * by a script; directories are shown; table and listing are kept in a file's bytes and read again; and each answer is
+ * printed. */
 #include <stdio.h>
 #include <string.h>
 
@@ -86,6 +87,39 @@ static void run_scripts(struct plan *plan) {
         differences++;
 }
 
+/* Prints the names that were written for a shown directory. Each stands behind its length in 16 bits. */
+static void print_names(const uint8_t *names, size_t length) {
+    for (size_t at = 0; at < length;) {
+        int name_length = names[at] | names[at + 1] << 8;
+        printf("  %.*s\n", name_length, (const char *)names + at + 2);
+        at += 2 + name_length;
+    }
+}
+
+/* Shows what lies in `b/c`, then what else can be asked of a path. */
+static void show_directories(const struct plan *plan) {
+    static const uint8_t children[] = {1, 0, 'a', 1, 0, 'd'};
+    uint8_t output[16];
+
+    expect("show b/c, a byte too short", overlay_show(LISTING, TABLE(plan), PATH("b/c"), output, sizeof children - 1),
+           OVERLAY_NO_ROOM, 0);
+    uint64_t answer = overlay_show(LISTING, TABLE(plan), PATH("b/c"), output, sizeof output);
+    expect("show b/c", answer, OVERLAY_ACCEPTED, sizeof children);
+    print_names(output, overlay_answer_value(answer));
+    if (memcmp(output, children, sizeof children) != 0)
+        differences++;
+    for (size_t at = sizeof children; at < sizeof output; at++)
+        if (output[at] != 0)
+            differences++;
+    answer = overlay_show(LISTING, TABLE(plan), PATH(""), output, sizeof output);
+    expect("show the root", answer, OVERLAY_ACCEPTED, 3);
+    print_names(output, overlay_answer_value(answer));
+    expect("show b/c/d, empty", overlay_show(LISTING, TABLE(plan), PATH("b/c/d"), NULL, 0), OVERLAY_ACCEPTED, 0);
+    expect("show b/c/a/f", overlay_show(LISTING, TABLE(plan), PATH("b/c/a/f"), output, sizeof output),
+           OVERLAY_NOT_A_DIRECTORY, 7);
+    expect("show a", overlay_show(LISTING, TABLE(plan), PATH("a"), output, sizeof output), OVERLAY_NOT_FOUND, 1);
+}
+
 /* Keeps the table with the listing in a file's bytes, reads them into another table, and goes on with a call over the
  * listing where it stands in the file. */
 static void keep_and_read(const struct plan *plan) {
@@ -135,6 +169,9 @@ int main(void) {
     expect("exists a", overlay_exists(LISTING, TABLE(&plan), PATH("a")), OVERLAY_ACCEPTED, 0);
     expect("rmdir b/c", overlay_rmdir(LISTING, LENT(&plan), PATH("b/c"), no_limit), OVERLAY_NOT_EMPTY, 3);
     expect("unlink b/c/g", overlay_unlink(LISTING, LENT(&plan), PATH("b/c/g"), no_limit), OVERLAY_ACCEPTED, 0);
+    expect("mkdir b/c/d", overlay_mkdir(LISTING, LENT(&plan), PATH("b/c/d"), false, false, one_second, no_limit),
+           OVERLAY_ACCEPTED, 0);
+    show_directories(&plan);
     expect("is_dir ..", overlay_is_dir(LISTING, TABLE(&plan), PATH("..")), OVERLAY_MALFORMED_PATH, 0);
 
     /* A record that does not agree with the table, or is not four numbers, is refused. */

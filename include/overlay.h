@@ -72,7 +72,8 @@ enum overlay_number {
     OVERLAY_BELOW_SOURCE = 10,      /* length: the destination lies below the source */
     OVERLAY_LIMIT = 11,             /* the charge, or what a rename plans, exceeds the limit */
     OVERLAY_KEY_TOO_LONG = 12,      /* a moved key has more than 512 bytes or 32 components */
-    OVERLAY_NO_ROOM = 13,           /* the entries after the call are longer than the table, a file than the output */
+    OVERLAY_NO_ROOM = 13,           /* the entries after the call are longer than the table, a file or names than the
+                                       output */
     OVERLAY_NOT_KEPT = 14,          /* not the mark and the version of a kept file, or too short for them */
     OVERLAY_DAMAGED = 15,           /* a kept file with any other damage */
     OVERLAY_OTHER_ENTRY_SIZE = 16,  /* only a table of entry size 40 is written to a kept file */
@@ -82,8 +83,8 @@ enum overlay_number {
 
 /* An answer is packed in one number: the number above in the low 8 bits, the path (0: only or source, 1: destination)
  * in the next 8, and from bit 16 on the length of that path, or of the ancestor at which mkdir with parents met a file.
- * Accepted, these 48 bits hold the value: the data's length for a write, the file's for overlay_write_kept, 1 or 0 for
- * a query, else 0. */
+ * Accepted, these 48 bits hold the value: the data's length for a write, the file's for overlay_write_kept, the number
+ * of bytes written for overlay_show, 1 or 0 for a query, else 0. */
 static inline int overlay_answer_number(uint64_t answer) { return (int)(answer & 0xff); }
 static inline int overlay_answer_path(uint64_t answer) { return (int)(answer >> 8 & 0xff); }
 static inline uint64_t overlay_answer_length(uint64_t answer) { return answer >> 16; }
@@ -106,6 +107,19 @@ uint64_t overlay_is_file(const uint8_t *listing, size_t listing_length, const ui
                          const uint64_t *record, size_t record_length, const uint8_t *path, size_t path_length);
 uint64_t overlay_is_dir(const uint8_t *listing, size_t listing_length, const uint8_t *table, size_t table_length,
                         const uint64_t *record, size_t record_length, const uint8_t *path, size_t path_length);
+
+/* Shows a directory: writes the name of each visible child of the path to the start of the output, each once, ascending
+ * by bytes, each with its length in 16 bits before it, and 0 to every byte of the output behind them. The value is the
+ * number of bytes written, 0 for an empty directory. A link that no entry covers is left out. The root is shown too.
+ * Refused with OVERLAY_MALFORMED_TABLE, OVERLAY_MALFORMED_LISTING or OVERLAY_MALFORMED_PATH, the first of them that
+ * holds. Then, for a path with an entry, with OVERLAY_NOT_A_DIRECTORY (a file) or OVERLAY_NOT_FOUND (deleted); for one
+ * without an entry with OVERLAY_LINK_OR_ROOT (a link is listed at it or at one of its ancestors, covered by an entry or
+ * not), else with OVERLAY_NOT_A_DIRECTORY or OVERLAY_NOT_FOUND by what is listed. Last with OVERLAY_NO_ROOM: the output
+ * is shorter than what would be written. It may be of any length, and is then as it was, so that asking again with a
+ * longer one is safe. */
+uint64_t overlay_show(const uint8_t *listing, size_t listing_length, const uint8_t *table, size_t table_length,
+                      const uint64_t *record, size_t record_length, const uint8_t *path, size_t path_length,
+                      uint8_t *output, size_t output_length);
 
 /* The changing calls. Each takes a work buffer that is at least as long as the table, whatever its bytes, and a limit
  * for the table's charge; a charge that equals it passes. An mtime is the bits of a double, stored as they are. */

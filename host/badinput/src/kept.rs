@@ -34,7 +34,7 @@ impl Base {
 }
 
 /// An entry's bytes.
-fn entry(key: &[u8], kind: u16, body: &[u8], mtime: u64, size: u64) -> Vec<u8> {
+pub fn entry(key: &[u8], kind: u16, body: &[u8], mtime: u64, size: u64) -> Vec<u8> {
     let mut bytes = (key.len() as u16).to_le_bytes().to_vec();
     bytes.extend(kind.to_le_bytes());
     bytes.extend((body.len() as u32).to_le_bytes());
@@ -108,7 +108,7 @@ fn made_entry(key: &str, random: &mut Random) -> Vec<u8> {
 }
 
 /// A few such entries, in order but for some.
-fn made_entries(random: &mut Random) -> Vec<u8> {
+pub fn made_entries(random: &mut Random) -> Vec<u8> {
     let mut keys: Vec<String> = (0..random.below(5)).map(|_| states::path(random)).collect();
     if !random.one_in(8) {
         keys.sort_unstable();
@@ -120,7 +120,7 @@ fn made_entries(random: &mut Random) -> Vec<u8> {
 }
 
 /// Other values for a byte: those beside it, its bits flipped, the ends; or all.
-fn others(byte: u8, all: bool) -> Vec<u8> {
+pub fn others(byte: u8, all: bool) -> Vec<u8> {
     let mut others: Vec<u8> = if all { (0..=255).collect() } else { (0..8).map(|bit| byte ^ 1 << bit).collect() };
     others.extend([0, 255, byte.wrapping_add(1), byte.wrapping_sub(1)]);
     others.sort_unstable();

@@ -3,13 +3,15 @@
 //! Every buffer has its exact length and touches a page that may not be touched; listing, path and data may not be written
 //! either. After each call: the number is 0 to 13; refused, table, record and work buffer are as they were; accepted, the work
 //! buffer is all 0 and the table agrees with its record. It prints how many calls gave each number. Scripts of calls are run
-//! so too, with each byte changed and at random (scripts.rs), and kept files are read and written (kept.rs).
+//! so too, with each byte changed and at random (scripts.rs), kept files are read and written (kept.rs), and directories
+//! are shown (shown.rs).
 //!
 //! `badinput` makes over 100,000 calls, `badinput --long` over two million; `--seed N` moves them.
 mod guarded;
 mod kept;
 mod plain;
 mod scripts;
+mod shown;
 mod states;
 
 use std::collections::BTreeMap;
@@ -103,4 +105,5 @@ fn main() {
         "no crash; no number above 13; nothing changed where a call was refused or a script was not run, but for the opening"
     );
     kept::run(seed, calls, words.long());
+    shown::run(seed, calls, words.long());
 }

@@ -1,6 +1,10 @@
-//! A plain reader and a plain writer of kept files, from the words of change request #101 and document 01's forms of a
-//! listing and a table alone. Nothing of the library is called: they are the opinion that its answers are held against.
-use std::{collections::BTreeMap, str};
+//! A plain reader and a plain writer of kept files and a plain showing of directories, from the words of change requests
+//! #101 and #102 and document 01's forms of a listing and a table alone. Nothing of the library is called: they are the
+//! opinion that its answers are held against.
+use std::{
+    collections::{BTreeMap, BTreeSet},
+    str,
+};
 
 use differential::model::in_form;
 
@@ -64,7 +68,7 @@ fn listed(bytes: &[u8]) -> Option<BTreeMap<&str, u64>> {
 }
 
 /// The record of a table whose entries are these bytes, where they are entries in form and end with the bytes.
-fn record_of(entries: &[u8], entry_size: u64) -> Option<[u64; 4]> {
+pub fn record_of(entries: &[u8], entry_size: u64) -> Option<[u64; 4]> {
     let (mut rest, mut last, mut count, mut charge) = (Rest(entries), "", 0, 0);
     while !rest.0.is_empty() {
         let (key_length, kind, body_length) = (rest.number(2)?, rest.number(2)?, rest.number(4)?);
@@ -91,6 +95,58 @@ fn entries<'a>(table: &'a [u8], record: &[u64]) -> Option<&'a [u8]> {
     let (entries, behind) = table.split_at_checked(usize::try_from(used).ok()?)?;
     let bounded = table.len() <= MIB_16 && entry_size <= 4096 && behind.iter().all(|byte| *byte == 0);
     (bounded && record_of(entries, entry_size)? == record).then_some(entries)
+}
+
+/// The kinds of the keys, of entries in form.
+fn held(entries: &[u8]) -> Option<BTreeMap<&str, u64>> {
+    let (mut rest, mut kinds) = (Rest(entries), BTreeMap::new());
+    while !rest.0.is_empty() {
+        let (key_length, kind, body_length) = (rest.number(2)?, rest.number(2)?, rest.number(4)?);
+        rest.take(16)?;
+        kinds.insert(path(rest.take(key_length)?)?, kind);
+        rest.take(body_length)?;
+    }
+    Some(kinds)
+}
+
+/// What is written for a path in an output of this length, or the refusal's number and length.
+pub fn show(listing: &[u8], table: &[u8], record: &[u64], path: &[u8], room: usize) -> Result<Vec<u8>, (u64, usize)> {
+    let held = entries(table, record).and_then(held).ok_or((1, 0))?;
+    let listed = Some(listing).filter(|bytes| is_listing(bytes)).and_then(listed).ok_or((2, 0))?;
+    let path = str::from_utf8(path).ok().filter(|path| in_form(path)).ok_or((3, 0))?;
+    // "A file is 7, a missing path 5, for a path without an entry a link at it or on the way 4"
+    let link_on_way = path.match_indices('/').any(|(at, _)| listed.get(&path[..at]) == Some(&3));
+    let listed_here = if path.is_empty() { Some(&1) } else { listed.get(path) };
+    match (held.get(path), listed_here) {
+        (Some(3), _) => {}
+        (Some(4), _) => return Err((5, path.len())),
+        (Some(_), _) => return Err((7, path.len())),
+        (None, _) if link_on_way => return Err((4, path.len())),
+        (None, Some(1)) => {}
+        (None, Some(2)) => return Err((7, path.len())),
+        (None, Some(_)) => return Err((4, path.len())),
+        (None, None) => return Err((5, path.len())),
+    }
+    let names = names(&held, &listed, path);
+    if names.len() > room { Err((13, 0)) } else { Ok(names) }
+}
+
+/// The paths right above those that are listed or have an entry: what may be a directory.
+pub fn parents(listing: &[u8], entries: &[u8]) -> Vec<String> {
+    let (listed, held) = (listed(listing).unwrap_or_default(), held(entries).unwrap_or_default());
+    let parent = |path: &&str| path.rsplit_once('/').map_or("", |(parent, _)| parent).to_owned();
+    let all: BTreeSet<String> = listed.keys().chain(held.keys()).map(parent).collect();
+    all.into_iter().collect()
+}
+
+/// "every visible child's name, each once, ascending by bytes, each with a 16-bit length before it ... A link that no
+/// entry covers is left out."
+fn names(held: &BTreeMap<&str, u64>, listed: &BTreeMap<&str, u64>, directory: &str) -> Vec<u8> {
+    let from_table = held.iter().filter(|(_, kind)| **kind != 4);
+    let from_listing = listed.iter().filter(|(path, kind)| **kind != 3 && !held.contains_key(*path));
+    let parts = from_table.chain(from_listing).map(|(path, _)| path.rsplit_once('/').unwrap_or(("", path)));
+    let names: BTreeSet<&str> = parts.filter(|(parent, _)| *parent == directory).map(|(_, name)| name).collect();
+    names.iter().flat_map(|name| [&(name.len() as u16).to_le_bytes(), name.as_bytes()].concat()).collect()
 }
 
 /// The kept file of a listing and entries.
@@ -171,4 +227,39 @@ fn the_request_read_by_hand() {
     assert_eq!(write(listing, &deleted, &[25, 1, 298, 41], 0), Err(16));
     assert_eq!(write(b"RDL", &deleted, &[25, 1, 298, 41], 0), Err(2));
     assert_eq!(write(b"RDL", &deleted, &[25, 1, 298, 40], 0), Err(1));
+}
+
+#[test]
+fn a_directory_shown_by_hand() {
+    let record = |path: &str, kind: u8| [&[path.len() as u8, 0, kind][..], &[0; 16], path.as_bytes()].concat();
+    let listing =
+        [b"RDL\x01\x00\x04\x00\x00\x00", &record("a", 1)[..], &record("a/f", 2), &record("a/l", 3), &record("l", 3)];
+    let listing = listing.concat();
+    let entry = |key: &str, kind: u8| [&[key.len() as u8, 0, kind][..], &[0; 21], key.as_bytes()].concat();
+    let shown = |entries: &[Vec<u8>], path: &str, room| {
+        let table = entries.concat();
+        let record = record_of(&table, 40).expect("entries in form");
+        show(&listing, &table, &record, path.as_bytes(), room)
+    };
+    assert_eq!(shown(&[], "", 3), Ok(b"\x01\x00a".to_vec()));
+    assert_eq!(shown(&[], "", 2), Err((13, 0)));
+    assert_eq!(shown(&[entry("a/f", 4), entry("a/g", 1), entry("a/l", 3)], "a", 6), Ok(b"\x01\x00g\x01\x00l".to_vec()));
+    assert_eq!(shown(&[entry("a/f", 4)], "a", 0), Ok(Vec::new()));
+    for (entries, path, number) in [
+        (&[][..], "a/f", 7),
+        (&[entry("b", 1)], "b", 7),
+        (&[], "b", 5),
+        (&[], "a/f/x", 5),
+        (&[entry("a", 4)], "a", 5),
+        (&[], "l", 4),
+        (&[], "a/l/x", 4),
+        (&[entry("l", 3)], "l/x", 4),
+        (&[entry("l/x", 4)], "l/x", 5),
+    ] {
+        assert_eq!(shown(entries, path, 9), Err((number, path.len())), "{path}");
+    }
+    assert_eq!(shown(&[], "a//f", 0), Err((3, 0)));
+    assert_eq!(show(b"RDL", b"", &[0, 0, 0, 40], b".", 0), Err((2, 0)));
+    assert_eq!(show(b"RDL", b"", &[0, 0, 1, 40], b".", 0), Err((1, 0)));
+    assert_eq!(show(&listing, b"", &[0, 0, 0], b"", 9), Err((1, 0)));
 }

@@ -9,17 +9,7 @@ use differential::{
 };
 use overlay::{KEPT_ENTRY_SIZE, KEPT_OVERHEAD, OverlayMut, OverlayRef, Record};
 
-use crate::{listing, median, named, now, pass, short, table};
-
-/// The median time of what is done, in microseconds.
-fn timed(rounds: usize, mut act: impl FnMut()) -> f64 {
-    let time = |_| {
-        let start = now();
-        act();
-        now() - start
-    };
-    median((0..rounds).map(time).collect())
-}
+use crate::{listing, named, pass, short, table, timed};
 
 pub fn rows(sizes: &[usize]) {
     println!(

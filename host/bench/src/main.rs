@@ -5,6 +5,7 @@
 //! The original keeps its table as a map and looks paths up; the port reads and checks all bytes with every call.
 
 mod kept;
+mod shows;
 mod walks;
 
 use std::{env, hint::black_box, rc::Rc, sync::OnceLock};
@@ -116,6 +117,16 @@ fn median(times: Vec<i64>) -> f64 {
     static CLOCK: OnceLock<i64> = OnceLock::new();
     let clock = CLOCK.get_or_init(|| middle((0..1000).map(|_| -now() + now()).collect()));
     (middle(times) - clock).max(1) as f64 / 1e3
+}
+
+/// The median time of what is done, in microseconds.
+fn timed(rounds: usize, mut act: impl FnMut()) -> f64 {
+    let time = |_| {
+        let start = now();
+        act();
+        now() - start
+    };
+    median((0..rounds).map(time).collect())
 }
 
 /// The median time of each call in microseconds, in the order of `calls`. A first round, not timed, brings the table
@@ -262,6 +273,9 @@ fn main() {
     }
     if word.as_deref() == Some("kept") {
         return kept::rows(&SIZES);
+    }
+    if word.as_deref() == Some("show") {
+        return shows::rows();
     }
     let most = word.and_then(|word| word.parse().ok()).unwrap_or(16 << 20);
     let sizes = SIZES.into_iter().filter(|size| *size <= most).collect::<Vec<_>>();

@@ -16,7 +16,7 @@ use crate::{median, now, short};
 const NODES: usize = 10_000;
 const ROUNDS: usize = 7;
 
-fn node(kind: Kind) -> Node {
+pub fn node(kind: Kind) -> Node {
     Node { kind, mtime: 1.5_f64.to_bits(), size: if kind == Kind::File { 7 } else { 0 } }
 }
 
@@ -35,7 +35,7 @@ fn siblings(tree: &mut Tree) {
 }
 
 /// Chains of 25 directories, each in the one before.
-fn chains(tree: &mut Tree) {
+pub fn chains(tree: &mut Tree) {
     for n in 0..NODES / 25 {
         let mut path = format!("d/c{n:03}");
         tree.insert(path.clone(), node(Kind::Directory));
@@ -48,7 +48,7 @@ fn chains(tree: &mut Tree) {
 
 /// Directories whose names begin with each other's, `a`, `a-`, `a--` and so on, and in each the same again, so that
 /// what is below one stands far behind it.
-fn nests(tree: &mut Tree) {
+pub fn nests(tree: &mut Tree) {
     fn below(tree: &mut Tree, path: &str, depth: usize, left: &mut usize) {
         for n in 0..20 {
             if *left == 0 {
@@ -67,7 +67,7 @@ fn nests(tree: &mut Tree) {
 
 /// Directories whose names begin with each other's, `a`, `a!`, `a!!` and so on, and below the longest all the files:
 /// each shorter name's own place comes behind all of them.
-fn ladder(tree: &mut Tree) {
+pub fn ladder(tree: &mut Tree) {
     let names = 250;
     for n in 0..names {
         tree.insert(format!("d/a{}", "!".repeat(n)), node(Kind::Directory));

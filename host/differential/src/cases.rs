@@ -1,5 +1,5 @@
-//! Document 01's cases and the inputs of docs/DIFFERENCES.md that the original can be asked, with the answers written
-//! out: the original, the model and the port are each held to them.
+//! Document 01's cases, those of change request #102 and the inputs of docs/DIFFERENCES.md that the original can be
+//! asked, with the answers written out: the original, the model and the port are each held to them.
 
 use differential::{
     listing::{listing_l, tree},
@@ -24,6 +24,9 @@ fn write(path: &str, data: &str) -> Call {
 }
 fn exists(path: &str) -> Call {
     Call::new(Op::Exists, path)
+}
+fn show(path: &str) -> Call {
+    Call::new(Op::Show, path)
 }
 
 pub type Case = (&'static str, Vec<(Call, &'static str, Option<u64>)>);
@@ -168,6 +171,31 @@ pub fn all() -> Vec<Case> {
     ]
 }
 
+/// The cases of change request #102. The value is the number of bytes written, two and the name for each child.
+fn shown() -> Vec<Case> {
+    vec![
+        (
+            "L",
+            vec![
+                (show(""), "0 (0, 6)", None),
+                (show("a"), "0 (0, 3)", None),
+                (show("z"), "7 (0, 1)", None),
+                (show("q"), "5 (0, 1)", None),
+                (show("z/n"), "5 (0, 3)", None),
+                (show("l"), "4 (0, 1)", None),
+                (show("l/x/y"), "4 (0, 5)", None),
+                (rename("a", "bb"), "0 (0, 0)", None),
+                (show(""), "0 (0, 7)", None),
+                (show("a"), "5 (0, 1)", None),
+                (show("bb"), "0 (0, 3)", None),
+                (show("bb/f"), "7 (0, 4)", None),
+            ],
+        ),
+        ("a/ a/l@", vec![(show("a"), "0 (0, 0)", None), (rmdir("a"), "9 (0, 1)", None)]),
+        ("a/ a-b a/b/ a/b/c a0", vec![(show(""), "0 (0, 12)", None), (show("a"), "0 (0, 3)", None)]),
+    ]
+}
+
 /// A listing, a table put there, a call, and the answers of document 01 and of the original.
 type Parting = (&'static str, Entries, Call, &'static str, &'static str);
 
@@ -184,6 +212,7 @@ fn partings() -> Vec<Parting> {
         ("a/", one("a/b/c", own.clone()), rmdir("a"), "0 (0, 0)", "9 (0, 1)"),
         ("a/ a/f", one("a", directory.clone()), rmdir("a"), "9 (0, 1)", "0 (0, 0)"),
         ("a/ d/", one("a/b/c", own), rename("d", "a"), "0 (0, 0)", "9 (1, 1)"),
+        ("a/ a/f", one("a", directory.clone()), show("a"), "0 (0, 3)", "0 (0, 0)"),
         ("l@", one("l", directory), mkdir("l/x", ""), "0 (0, 0)", "4 (0, 3)"),
         ("l@", one("l/x", Entry::deleted()), mkdir("l/x", "p"), "4 (0, 3)", "4 (0, 1)"),
     ]
@@ -216,7 +245,7 @@ fn run_partings() -> u64 {
 
 pub fn run() -> u64 {
     let (mut calls, mut faults) = (0, run_partings());
-    let cases = all();
+    let cases: Vec<Case> = all().into_iter().chain(shown()).collect();
     for (text, steps) in &cases {
         let listing = if *text == "L" { listing_l() } else { tree(text) };
         let mut world = World::new(&Setup::new(listing, 4096));
@@ -237,7 +266,7 @@ pub fn run() -> u64 {
         }
     }
     println!(
-        "{} cases of document 01, its readings and docs/DIFFERENCES.md: {calls} calls, {faults} differences",
+        "{} cases of document 01, its readings, #102 and docs/DIFFERENCES.md: {calls} calls, {faults} differences",
         cases.len()
     );
     faults

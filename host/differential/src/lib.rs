@@ -11,4 +11,4 @@ pub mod side;
 pub mod words;
 pub mod world;
 
-pub use cap_std::fs::Manner;
+pub use cap_std::fs::{Links, Manner};

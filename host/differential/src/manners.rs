@@ -74,8 +74,8 @@ pub fn run(long: bool, seed: u64) -> u64 {
     let lists = if long { 40_000 } else { 1500 };
     let mut faults = 0;
     for (name, manner) in [
-        ("entries descending", Manner { descending: true, below_file_fails: false }),
-        ("below a file \"not a directory\"", Manner { descending: false, below_file_fails: true }),
+        ("entries descending", Manner { descending: true, ..Manner::default() }),
+        ("below a file \"not a directory\"", Manner { below_file_fails: true, ..Manner::default() }),
     ] {
         let mut random = Random::new(seed * 1000 + 20);
         let mut classes: BTreeMap<(&str, u8, u8), (u64, String)> = BTreeMap::new();

@@ -1,7 +1,11 @@
-//! A plain model written from document 01 alone: a map of entries over a map of listed paths, every check in its order.
-//! A third opinion beside the original and the port, and the only one beside the port on 3, 12 and 13.
+//! A plain model written from document 01 and change request #102 alone: a map of entries over a map of listed paths,
+//! every check in its order. A third opinion beside the original and the port, and the only one beside the port on 3, 12
+//! and 13.
 
-use std::{collections::BTreeMap, rc::Rc};
+use std::{
+    collections::{BTreeMap, BTreeSet},
+    rc::Rc,
+};
 
 use crate::{
     listing::{Kind, Tree},
@@ -34,6 +38,11 @@ pub fn in_form(path: &str) -> bool {
 /// Whether a path has at most 512 bytes and 32 components.
 fn short(path: &str) -> bool {
     path.len() <= 512 && path.split('/').count() <= 32
+}
+
+/// The parent of a path, and its last component.
+fn split(path: &str) -> (&str, &str) {
+    path.rsplit_once('/').unwrap_or(("", path))
 }
 
 impl Model {
@@ -69,9 +78,39 @@ impl Model {
 
     /// Whether something is visible right below a path.
     fn has_child(&self, path: &str) -> bool {
-        let child = |key: &String| key.rsplit_once('/').map_or("", |(parent, _)| parent) == path;
-        let mut below = self.entries.keys().chain(self.listing.keys()).filter(|key| child(key));
-        below.any(|key| self.shown(key).is_some())
+        self.children(path).any(|key| self.shown(key).is_some())
+    }
+
+    /// The paths right below a path that have an entry or are listed, those with both twice.
+    fn children<'a>(&'a self, path: &'a str) -> impl Iterator<Item = &'a String> {
+        self.entries.keys().chain(self.listing.keys()).filter(move |key| split(key).0 == path)
+    }
+
+    /// The visible directories, the root too.
+    pub fn directories(&self) -> Vec<String> {
+        let all: BTreeSet<&String> = self.entries.keys().chain(self.listing.keys()).collect();
+        let below = all.into_iter().filter(|path| self.shown(path) == Some(Kind::Directory)).cloned();
+        [String::new()].into_iter().chain(below).collect()
+    }
+
+    /// The names of a path's visible children, ascending. "A link that no entry covers is left out."
+    pub fn show(&self, path: &str) -> Checked<Vec<String>> {
+        if !in_form(path) {
+            return Err(Answer::refused(3));
+        }
+        // "for a path without an entry a link at it or on the way 4"
+        if !self.covered(path) && ancestors(path).any(|above| self.listed(above) == Some(Kind::Link)) {
+            return Err(Answer::named(4, 0, path));
+        }
+        match self.shown(path) {
+            Some(Kind::Directory) => {}
+            Some(Kind::File) => return Err(Answer::named(7, 0, path)),
+            Some(Kind::Link) => return Err(Answer::named(4, 0, path)),
+            None => return Err(Answer::named(5, 0, path)),
+        }
+        let visible = |key: &&String| matches!(self.shown(key), Some(Kind::Directory | Kind::File));
+        let names: BTreeSet<&str> = self.children(path).filter(visible).map(|key| split(key).1).collect();
+        Ok(names.into_iter().map(str::to_owned).collect())
     }
 
     fn parents(&self, path: &str, which: u8) -> Checked {
@@ -271,6 +310,7 @@ impl Side for Model {
             Op::Rmdir => self.rmdir(path, limit),
             Op::Rename { to } if !in_form(to) => Err(Answer { number: 3, path: 1, value: 0 }),
             Op::Rename { to } => self.rename(path, to, limit),
+            Op::Show => return Answer::shown(&self.show(path)),
         };
         match (done, &call.op) {
             (Err(refusal), _) => refusal,

@@ -1,6 +1,7 @@
 //! The port as one side of a comparison: the calls of the library on plain slices.
 //! Every call also checks what the port owes beside its answer: a refused call or a query leaves table, record and work
-//! buffer as they were; an accepted one leaves the work buffer all 0, and a table that agrees with its record.
+//! buffer as they were; an accepted one leaves the work buffer all 0, and a table that agrees with its record. A
+//! directory that is shown is so in an output just long enough too, and not in one that is a byte shorter.
 
 use std::rc::Rc;
 
@@ -10,6 +11,8 @@ use crate::side::{Answer, Call, Entries, Entry, Op, Side, charge, encoded, used}
 
 /// Given instead of the answer where a refused call or a query changed the table or the record.
 const CHANGED: u8 = 251;
+/// Given instead of the answer where the output is not as it has to be left.
+const OUTPUT: u8 = 250;
 /// Given instead of the answer where the work buffer is not as it has to be left.
 const WORK: u8 = 252;
 
@@ -54,7 +57,38 @@ impl Port {
             Op::Unlink => raw::unlink(listing, &mut lent, path, limit),
             Op::Rmdir => raw::rmdir(listing, &mut lent, path, limit),
             Op::Rename { to } => raw::rename(listing, &mut lent, path, to.as_bytes(), limit),
+            Op::Show => return Answer::shown(&self.show(&call.path)),
         })
+    }
+
+    /// The answer with an output of so many bytes, and the output after it.
+    fn show_in(&self, path: &str, room: usize) -> (Answer, Vec<u8>) {
+        let mut output = vec![0x77; room];
+        let packed = raw::show(&self.listing, &self.table, &self.record, path.as_bytes(), &mut output);
+        (answer(packed), output)
+    }
+
+    /// The names of a path's visible children.
+    pub fn show(&self, path: &str) -> Result<Vec<String>, Answer> {
+        // Names take less than the buffers that they come from.
+        let (answer, output) = self.show_in(path, self.listing.len() + self.table.len());
+        if answer.number != 0 {
+            let unchanged = output.iter().all(|byte| *byte == 0x77);
+            return Err(if unchanged { answer } else { Answer::refused(OUTPUT) });
+        }
+        let (written, behind) = output.split_at(answer.value as usize);
+        let enough = self.show_in(path, written.len());
+        let short = written.len().checked_sub(1).map(|room| self.show_in(path, room));
+        let plan = OverlayRef::new(&self.table, Record::from(self.record));
+        let names = plan.show(&self.listing, path).map_err(|_| Answer::refused(OUTPUT))?;
+        let as_owed = behind.iter().all(|byte| *byte == 0)
+            && enough == (answer, written.to_vec())
+            && short.is_none_or(|(answer, output)| answer == Answer::refused(13) && output.iter().all(|b| *b == 0x77))
+            && names.as_bytes() == written;
+        if !as_owed {
+            return Err(Answer::refused(OUTPUT));
+        }
+        Ok(names.iter().strs().map(|name| name.expect("a name in UTF-8").to_owned()).collect())
     }
 }
 
@@ -63,7 +97,7 @@ impl Side for Port {
         self.work.fill(0x77);
         let before = (self.table.clone(), self.record);
         let answer = self.call_only(call, mtime);
-        let quiet = answer.number != 0 || matches!(call.op, Op::Exists | Op::IsFile | Op::IsDir);
+        let quiet = answer.number != 0 || call.op.only_asks();
         if quiet && (before.0 != self.table || before.1 != self.record) {
             return Answer::refused(CHANGED);
         }

@@ -12,7 +12,7 @@ use differential::{
     model::Model,
     port::Port,
     random::Random,
-    side::{Answer, Call, Side},
+    side::{Answer, Call, Op, Side},
     world::{Difference, Setup, World, reduce, run as run_list},
 };
 
@@ -24,6 +24,12 @@ pub struct Count {
     pub queries: u64,
     pub thresholds: u64,
     pub numbers: BTreeMap<u8, u64>,
+    /// The paths that were shown on all sides, by the number of the answer.
+    pub shows: BTreeMap<u8, u64>,
+    /// The links that the original listed there, which are left aside.
+    pub links: u64,
+    /// The paths that were shown by the port and the model alone.
+    pub shows_without: u64,
     pub differences: u64,
 }
 
@@ -39,13 +45,18 @@ impl Count {
         self.queries += other.queries;
         self.thresholds += other.thresholds;
         self.differences += other.differences;
-        for (number, count) in &other.numbers {
-            *self.numbers.entry(*number).or_default() += count;
+        self.links += other.links;
+        self.shows_without += other.shows_without;
+        for (counts, others) in [(&mut self.numbers, &other.numbers), (&mut self.shows, &other.shows)] {
+            for (number, count) in others {
+                *counts.entry(*number).or_default() += count;
+            }
         }
     }
 
     fn row(&self, name: &str, seconds: f64) {
-        print!("| {name} | {} | {} | {} | {} |", self.lists, self.calls, self.queries, self.thresholds);
+        let shows = self.shows.values().sum::<u64>() + self.shows_without;
+        print!("| {name} | {} | {} | {} | {shows} | {} |", self.lists, self.calls, self.queries, self.thresholds);
         for number in [0, 3, 4, 5, 6, 7, 8, 9, 10, 11, 12, 13] {
             print!(" {} |", self.numbers.get(&number).unwrap_or(&0));
         }
@@ -112,6 +123,16 @@ impl Place {
             })?;
             count.queries += 1;
         }
+        self.show(path, count)
+    }
+
+    fn show(&mut self, path: &str, count: &mut Count) -> Result<(), Difference> {
+        let (answer, links) = self.world.show(path).map_err(|what| {
+            let calls = self.calls.iter().cloned().chain([Call::new(Op::Show, path)]).collect();
+            Difference { what, listing: String::new(), calls }
+        })?;
+        *count.shows.entry(answer.number).or_default() += 1;
+        count.links += links as u64;
         Ok(())
     }
 }
@@ -137,6 +158,7 @@ fn exhaustive(setup: &Setup, paths: &[&str], most: usize, count: &mut Count) -> 
         for path in paths {
             place.ask(path, count)?;
         }
+        place.show("", count)?;
         for call in &calls {
             place.probe(call, &[], count)?;
             let mut after = place.copy();
@@ -162,6 +184,8 @@ fn random_list(
 ) -> Result<(), Difference> {
     let mut place = Place::new(setup);
     count.lists += 1;
+    // Which directories are shown: numbers of their own, so that the calls are the same with and without them.
+    let mut which = Random::new(count.lists);
     for _ in 0..length {
         let call = random_call(random, paths);
         let before = place.world.model.charge();
@@ -175,13 +199,15 @@ fn random_list(
         for path in [&call.path, random.pick(paths)] {
             place.ask(path, count)?;
         }
+        let directories = place.world.model.directories();
+        place.show(which.pick::<String>(&directories), count)?;
     }
     Ok(())
 }
 
 /// The port beside the model alone: entry sizes that the original cannot have, and paths out of form.
 fn other_entry_sizes(lists: u64, seed: u64, count: &mut Count) -> Result<(), Difference> {
-    let mut random = Random::new(seed);
+    let (mut random, mut which) = (Random::new(seed), Random::new(seed));
     for n in 0..lists {
         let size = [0, 1, 4096][n as usize % 3];
         let tree = Rc::new(random_tree(&mut random));
@@ -202,6 +228,13 @@ fn other_entry_sizes(lists: u64, seed: u64, count: &mut Count) -> Result<(), Dif
                 return Err(Difference { what, listing: differential::listing::text(&tree), calls });
             }
             count.add(answer);
+            let path = which.pick(&paths);
+            let (expected, given) = (model.show(path), port.show(path));
+            if expected != given {
+                let what = format!("show `{path}`, E {size}: the model gives {expected:?}, the port {given:?}");
+                return Err(Difference { what, listing: differential::listing::text(&tree), calls });
+            }
+            count.shows_without += 1;
         }
     }
     Ok(())
@@ -291,8 +324,8 @@ pub fn run(long: bool, seed: u64) -> u64 {
     let (most, share) = if long { (8000, 40) } else { (250, 1) };
     let numbers = "0 | 3 | 4 | 5 | 6 | 7 | 8 | 9 | 10 | 11 | 12 | 13";
     println!();
-    println!("| runs | lists or tables | calls | queries | limits found | {numbers} | differences | s |");
-    println!("|{}", "---|".repeat(19));
+    println!("| runs | lists or tables | calls | queries | shows | limits found | {numbers} | differences | s |");
+    println!("|{}", "---|".repeat(20));
     let (start, mut all) = (Instant::now(), Count::default());
     exhaustive_groups(&mut all, most);
     random_groups(&mut all, share, seed * 1000);
@@ -301,6 +334,12 @@ pub fn run(long: bool, seed: u64) -> u64 {
         done.map(|()| "").map_err(|found| (Setup::new(Tree::new(), 0), found))
     });
     all.row("all", start.elapsed().as_secs_f64());
+    println!();
+    let each: Vec<String> = all.shows.iter().map(|(number, count)| format!("{count} with {number}")).collect();
+    let shows: u64 = all.shows.values().sum();
+    println!("Shown beside `iterdir` of the original: {shows} paths, {}.", each.join(", "));
+    println!("The names are the same as a set; {} links that the original lists are left aside.", all.links);
+    println!("Shown by the port and the model alone: {} paths.", all.shows_without);
     println!();
     all.differences
 }

@@ -205,7 +205,7 @@ fn length(bytes: &[u8]) -> [u8; 4] {
 /// A changing call as a step of a script (docs/FORMATS.md, "The script"); a query has none.
 fn script_step(step: &Step) -> Option<Vec<u8>> {
     let kind = match step.call.op {
-        Op::Exists | Op::IsFile | Op::IsDir => return None,
+        Op::Exists | Op::IsFile | Op::IsDir | Op::Show => return None,
         Op::Write { .. } => 1,
         Op::Mkdir { .. } => 2,
         Op::Unlink => 3,

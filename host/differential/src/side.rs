@@ -12,6 +12,7 @@ pub enum Op {
     Unlink,
     Rmdir,
     Rename { to: String },
+    Show,
 }
 
 impl Op {
@@ -25,7 +26,13 @@ impl Op {
             Op::Unlink => "unlink",
             Op::Rmdir => "rmdir",
             Op::Rename { .. } => "rename",
+            Op::Show => "show",
         }
+    }
+
+    /// Whether it leaves table and record as they were, whatever it answers.
+    pub fn only_asks(&self) -> bool {
+        matches!(self, Op::Exists | Op::IsFile | Op::IsDir | Op::Show)
     }
 }
 
@@ -88,6 +95,14 @@ impl Answer {
 
     pub fn named(number: u8, path: u8, name: &str) -> Self {
         Self { number, path, value: name.len() as u64 }
+    }
+
+    /// The answer of a directory shown with these names: how many bytes they are, each with a length of two before it.
+    pub fn shown(names: &Result<Vec<String>, Answer>) -> Self {
+        match names {
+            Ok(names) => Self::accepted(names.iter().map(|name| 2 + name.len() as u64).sum()),
+            Err(refusal) => *refusal,
+        }
     }
 }
 

@@ -4,8 +4,8 @@
 use std::rc::Rc;
 
 use crate::{
-    Manner,
-    listing::{Tree, bytes, text},
+    Links, Manner,
+    listing::{Kind, Tree, bytes, text},
     model::Model,
     monty_fs::{Original, entry_size},
     port::Port,
@@ -60,6 +60,9 @@ impl World {
     /// Puts one call to all sides; what parts is told in words. Where the cause of 12 or 13 holds, the original is
     /// left out.
     pub fn call(&mut self, call: &Call) -> Result<Answer, String> {
+        if call.op == Op::Show {
+            return self.show(&call.path).map(|(answer, _)| answer);
+        }
         // The cause of 12 and 13 does not hang on the mtime, so the model is asked apart first.
         let mut tried = self.model.copy();
         let foretold = tried.call(call, UNUSED_MTIME);
@@ -78,6 +81,41 @@ impl World {
         self.same("model", &self.model, &entries)?;
         self.same("port", &self.port, &entries)?;
         Ok(answer)
+    }
+
+    /// Shows a path on all sides: the model and the port must give the same names in the same order, the original the
+    /// same as a set, over a host whose links lead nowhere, and with links aside over one whose links lead to files. The
+    /// answer, and how many links were left aside.
+    pub fn show(&mut self, path: &str) -> Result<(Answer, usize), String> {
+        let wanted = self.model.show(path);
+        let answer = Answer::shown(&wanted);
+        let port = self.port.show(path);
+        if port != wanted {
+            return Err(format!("show `{path}`: expected {answer} {wanted:?}, the port gives {port:?}"));
+        }
+        if answer.number == 3 {
+            return Ok((answer, 0));
+        }
+        let [mut dead, mut live] = [Links::Dead, Links::Live].map(|links| self.original.show(path, links));
+        for names in [&mut dead, &mut live].into_iter().flatten() {
+            names.sort_unstable();
+        }
+        let listed = live.as_ref().map_or(0, Vec::len);
+        if let Ok(names) = &mut live {
+            names.retain(|name| !self.is_link(path, name));
+        }
+        if dead != wanted || live != wanted {
+            return Err(format!(
+                "show `{path}`: the model gives {wanted:?}, the original {dead:?}, with links aside {live:?}"
+            ));
+        }
+        Ok((answer, listed - live.map_or(0, |names| names.len())))
+    }
+
+    /// Whether a link is visible at the child of this name.
+    fn is_link(&self, path: &str, name: &str) -> bool {
+        let child = if path.is_empty() { name.to_owned() } else { format!("{path}/{name}") };
+        self.model.shown(&child) == Some(Kind::Link)
     }
 
     fn others(&mut self, call: &Call, mtime: u64, answer: Answer) -> Result<Answer, String> {
@@ -112,7 +150,7 @@ impl World {
             (number, side.charge())
         };
         let (free, after) = at(u64::MAX);
-        if matches!(call.op, Op::Exists | Op::IsFile | Op::IsDir) || at(0).0 != 11 {
+        if call.op.only_asks() || at(0).0 != 11 {
             return None;
         }
         if free == 0 && at(after).0 != 11 && at(after - 1).0 == 11 {

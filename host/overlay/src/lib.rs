@@ -4,9 +4,9 @@
 //! those of the static library `overlay`, each proved against its definition: whatever bytes are given, a call
 //! ends, and a refused call changes nothing. This crate keeps the buffers and gives the answers Rust's form.
 //!
-//! [`Overlay`] owns its buffers, [`OverlayMut`] borrows them, and [`raw`] has the calls on plain slices. A [`Script`]
-//! is a list of calls, to be run as one. [`Overlay::save`] and [`Overlay::load`] keep a table and its listing in a
-//! file.
+//! [`Overlay`] owns its buffers, [`OverlayMut`] borrows them, and [`raw`] has the calls on plain slices.
+//! [`Overlay::show`] shows a directory, and [`Overlay::walk`] goes through the whole visible tree. A [`Script`] is a
+//! list of calls, to be run as one. [`Overlay::save`] and [`Overlay::load`] keep a table and its listing in a file.
 //!
 //! ```
 //! use overlay::{EMPTY_LISTING, Mkdir, Overlay, Refusal};
@@ -20,6 +20,10 @@
 //! assert!(plan.is_file(EMPTY_LISTING, "depot/west/track-4")?);
 //! assert!(!plan.exists(EMPTY_LISTING, "depot/east")?);
 //! assert_eq!(plan.rmdir(EMPTY_LISTING, "depot", u64::MAX), Err(Refusal::NotEmpty { path: 0, len: 5 }));
+//!
+//! for name in &plan.show(EMPTY_LISTING, "depot/west")? {
+//!     println!("{}", String::from_utf8_lossy(name));
+//! }
 //! # Ok::<(), Refusal>(())
 //! ```
 
@@ -28,11 +32,13 @@ mod kept;
 pub mod raw;
 mod refusal;
 mod script;
+mod show;
 
 pub use entries::{Entries, Entry, EntryKind};
 pub use kept::{FileError, KEPT_ENTRY_SIZE, KEPT_OVERHEAD, KeptListing};
 pub use refusal::{Refusal, unpack};
 pub use script::{NotRun, ROW_LENGTH, Row, Script};
+pub use show::{NameList, Names, Node, NodeKind, Walk};
 
 /// The bytes of the longest table, and of the longest listing.
 pub const MAX_BUFFER: usize = 16_777_216;

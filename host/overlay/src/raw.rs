@@ -29,6 +29,18 @@ mod exported {
             p: *mut u64,
             pn: usize,
         ) -> u64;
+        pub fn overlay_show(
+            l: *const u8,
+            ln: usize,
+            t: *const u8,
+            tn: usize,
+            r: *const u64,
+            rn: usize,
+            p: *const u8,
+            pn: usize,
+            o: *mut u8,
+            on: usize,
+        ) -> u64;
     }
 
     macro_rules! queries {
@@ -104,6 +116,25 @@ queries! {
     is_file = overlay_is_file;
     /// Whether a directory is visible at the path.
     is_dir = overlay_is_dir;
+}
+
+/// Writes the names of the path's visible children to the start of `output`, each with its length in 16 bits before it,
+/// with zeros behind. The value is the number of bytes written.
+pub fn show(listing: &[u8], table: &[u8], record: &[u64], path: &[u8], output: &mut [u8]) -> u64 {
+    unsafe {
+        exported::overlay_show(
+            listing.as_ptr(),
+            listing.len(),
+            table.as_ptr(),
+            table.len(),
+            record.as_ptr(),
+            record.len(),
+            path.as_ptr(),
+            path.len(),
+            output.as_mut_ptr(),
+            output.len(),
+        )
+    }
 }
 
 /// What every changing call is lent: a table with its record, and a work buffer at least as long as the table.

@@ -32,7 +32,7 @@ pub enum Refusal {
     Limit,
     /// 12: a moved key has more than 512 bytes or 32 components.
     KeyTooLong,
-    /// 13: the entries after the call are longer than the table buffer, or a kept file than the output.
+    /// 13: the entries after the call are longer than the table buffer, or a kept file or names than the output.
     NoRoom,
     /// 14: not the mark and the version of a kept file, or too short for them.
     NotKept,

@@ -118,6 +118,18 @@ impl Field {
         tree
     }
 
+    /// The names in a directory as the kernel lists it, ascending, links left out; refused, its errno.
+    pub fn names(&self, path: &str) -> Result<Vec<String>, i32> {
+        let listed = fs::read_dir(self.at(path)).map_err(|error| error.raw_os_error().unwrap_or(-1))?;
+        let kept = listed
+            .map(|entry| entry.expect("an entry"))
+            .filter(|entry| !entry.file_type().expect("a type").is_symlink());
+        let mut names: Vec<String> =
+            kept.map(|entry| entry.file_name().into_string().expect("a name in UTF-8")).collect();
+        names.sort_unstable();
+        Ok(names)
+    }
+
     /// The call done by the kernel; refused, its errno.
     pub fn call(&self, call: &Call, mtime: u64) -> Result<(), i32> {
         let path = self.at(&call.path);
@@ -127,7 +139,7 @@ impl Field {
             Op::Unlink => fs::remove_file(path),
             Op::Rmdir => fs::remove_dir(path),
             Op::Rename { to } => fs::rename(path, self.at(to)),
-            Op::Exists | Op::IsFile | Op::IsDir => Ok(()),
+            Op::Exists | Op::IsFile | Op::IsDir | Op::Show => Ok(()),
         };
         done.map_err(|error| error.raw_os_error().unwrap_or(-1))
     }

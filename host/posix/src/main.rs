@@ -1,5 +1,6 @@
 //! The same calls done to a real directory by the kernel: after every accepted call the tree on disk must be the
-//! visible one, and for every refused call the kernel's answer is counted by class.
+//! visible one, with the same names shown for each of its paths as the kernel lists, links aside; and for every refused
+//! call the kernel's answer is counted by class.
 //! The directory is made anew for each list in memory (/dev/shm, else the system's folder for such), where a listed
 //! file holds its own path and a link leads nowhere. Modification times are compared for files; those of directories
 //! are not (docs/DIFFERENCES.md, 1). Calls that name the root are not tried: the directory is not a mount of its own.
@@ -76,6 +77,8 @@ struct Count {
     lists: u64,
     accepted: BTreeMap<&'static str, u64>,
     refused: BTreeMap<(&'static str, u8, i32, Class), (u64, String)>,
+    /// The paths that were shown, by the number here and the kernel's answer.
+    shows: BTreeMap<(u8, i32), u64>,
     memory: u64,
     roots: u64,
     findings: u64,
@@ -92,6 +95,18 @@ impl Count {
         }
         self.findings += u64::from(class == Class::Unlisted);
     }
+}
+
+/// Shows a path on both sides: the same names, or refused by both with a meaning that is the same or listed.
+fn show(port: &Port, field: &Field, path: &str, count: &mut Count) -> Result<(), String> {
+    let (here, kernel) = (port.show(path), field.names(path));
+    let classes = [(0, 0), (4, ENOENT), (5, ENOENT), (5, ENOTDIR), (7, ENOTDIR)];
+    let class = (Answer::shown(&here).number, kernel.as_ref().err().copied().unwrap_or(0));
+    if !classes.contains(&class) || here.as_ref().ok() != kernel.as_ref().ok() {
+        return Err(format!("show `{path}` gives {here:?}, the kernel {kernel:?}"));
+    }
+    *count.shows.entry(class).or_default() += 1;
+    Ok(())
 }
 
 /// One list on both sides; what is found ends it.
@@ -115,6 +130,9 @@ fn run(mut port: Port, listing: &Tree, calls: &[Call], count: &mut Count) -> Res
                 let (expected, found) = (shown(listing, &port.entries()), field.read());
                 if expected != found {
                     return Err(format!("another tree after {}\n  expected {expected:?}\n  found {found:?}", list()));
+                }
+                for path in ["", &call.path].into_iter().chain(expected.keys().map(String::as_str)) {
+                    show(&port, &field, path, count).map_err(|what| format!("{what} after {}", list()))?;
                 }
                 continue;
             }
@@ -173,6 +191,12 @@ fn report(count: &Count, seconds: f64) {
     println!("|---|---|");
     for (op, calls) in &count.accepted {
         println!("| {op} | {calls} |");
+    }
+    println!();
+    println!("| shown after accepted calls | kernel | paths |");
+    println!("|---|---|---|");
+    for ((number, errno), paths) in &count.shows {
+        println!("| {number} | {} | {paths} |", errno_name(*errno));
     }
     for (class, title) in [
         (Class::Same, "refused by both, same meaning"),

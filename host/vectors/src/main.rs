@@ -1,15 +1,19 @@
-//! Replays the vectors of calls.jsonl, worked.jsonl and kept.jsonl against the library: every answer, record, table, work
-//! buffer, output and place must be as they say. The rows of docs/WORKED-CALLS.md must be those of worked.jsonl, and
-//! docs/DEFINITION.md may cite no other row of those calls; the page's rows that write and read kept files are put to
-//! the library, and the kept files that docs/FORMATS.md shows must be read as it says. With the name of a file it
-//! replays that one alone; with `--rows` it prints the rows of worked.jsonl. It says what it compared, and ends with
-//! status 1 at the first difference, and where a file has nothing of a kind that it is there for.
+//! Replays the vectors of calls.jsonl, worked.jsonl, kept.jsonl and show.jsonl against the library: every answer, record,
+//! table, work buffer, output and place must be as they say. The rows of docs/WORKED-CALLS.md must be those of
+//! worked.jsonl, and docs/DEFINITION.md may cite no other row of those calls; the page's rows that write and read kept
+//! files and that show directories are put to the library, and the kept files that docs/FORMATS.md shows must be read as
+//! it says. With the name of a file it replays that one alone; with `--rows` it prints the rows of worked.jsonl. It says
+//! what it compared, and ends with status 1 at the first difference, and where a file has nothing of a kind that it is
+//! there for.
 mod json;
 mod kept;
 mod page;
+mod rows;
 mod sha256;
+mod show;
 mod worked;
 mod worked_kept;
+mod worked_show;
 
 use json::{Json, parse};
 use overlay::{OverlayMut, Record, Refusal, raw, unpack};
@@ -21,6 +25,9 @@ const CALLS: [&str; 9] = ["open", "exists", "is_file", "is_dir", "write", "mkdir
 
 /// The numbers of the writer and of the reader of kept files, each of which kept.jsonl and the worked rows have.
 const KEPT: [(&str, &[u64]); 2] = [("keep", &[0, 1, 2, 13, 16]), ("read", &[0, 1, 13, 14, 15])];
+
+/// The numbers of showing a directory, each of which show.jsonl and the worked rows have.
+const SHOWN: (&str, &[u64]) = ("show", &[0, 1, 2, 3, 4, 5, 7, 13]);
 
 /// A vector's answer as an answer of the library: number, path, length, value.
 fn four(answer: Result<u64, Refusal>) -> [u64; 4] {
@@ -73,8 +80,10 @@ impl State {
     /// Makes a call and compares what it answers and leaves. A call without a record leaves table and record as they
     /// were.
     fn compare(&mut self, listing: &[u8], call: &Json) -> Result<(), String> {
-        if call.get("op").text() == "keep" {
-            return kept::keep(self, listing, call);
+        match call.get("op").text() {
+            "keep" => return kept::keep(self, listing, call),
+            "show" => return show::show(self, listing, call),
+            _ => {}
         }
         let (before, record_before) = (self.table.clone(), self.record);
         let (answer, work) = self.call(listing, call);
@@ -111,6 +120,9 @@ fn open(vector: &Json, number: u64) -> Result<State, String> {
 /// How many calls of each name were compared, by the number of the answer.
 type Counts = BTreeMap<(String, u64), u64>;
 
+/// Counted apart: the answer is another one, where the request leaves it open.
+const OTHERWISE: &str = "otherwise";
+
 fn replay(line: &str, counts: &mut Counts) -> Result<(), String> {
     let vector = parse(line)?;
     let mut count = |name: &str, number: u64| *counts.entry((name.to_string(), number)).or_default() += 1;
@@ -139,8 +151,13 @@ fn replay(line: &str, counts: &mut Counts) -> Result<(), String> {
             let call = vector.get("call");
             let record = Record::from(vector.get("record").four());
             let mut state = State { table: vector.get("table").bytes(), record };
-            state.compare(&vector.get("listing").bytes(), call)?;
-            count_call(call);
+            let listing = vector.get("listing").bytes();
+            if vector.find("elsewhere").is_some() && show::answers_otherwise(&state, &listing, call) {
+                count(OTHERWISE, 0);
+            } else {
+                state.compare(&listing, call)?;
+                count_call(call);
+            }
         }
         other => return Err(format!("no vector {other}")),
     }
@@ -161,6 +178,7 @@ fn replay_file(file: &str) -> Result<Counts, String> {
     for (number, line) in read(file)?.lines().enumerate() {
         replay(line, &mut counts).map_err(|difference| format!("{file}:{}: {difference}", number + 1))?;
     }
+    let otherwise = counts.remove(&(OTHERWISE.to_string(), 0));
     if counts.is_empty() {
         return Err(format!("{file}: no calls"));
     }
@@ -170,6 +188,9 @@ fn replay_file(file: &str) -> Result<Counts, String> {
     }
     let each: Vec<String> = names.iter().map(|(name, count)| format!("{name} {count}")).collect();
     println!("vectors: {} calls, all as they say: {}", counts.values().sum::<u64>(), each.join(", "));
+    if let Some(calls) = otherwise {
+        println!("  and {calls} on tables that no call builds, with 4 below a covered link where the vector has 5");
+    }
     Ok(counts)
 }
 
@@ -182,12 +203,12 @@ fn replay_own(name: &str) -> Result<Counts, String> {
     }
 }
 
-/// The file of kept files has each number of their writer and their reader.
-fn replay_kept(name: &str) -> Result<(), String> {
+/// A file of the repository that is there for some calls, and has each number that they can give.
+fn replay_numbers(name: &str, calls: &[(&str, &[u64])]) -> Result<(), String> {
     let counts = replay_own(name)?;
-    for (call, numbers) in KEPT {
+    for (call, numbers) in calls {
         let mut each = Vec::new();
-        for number in numbers {
+        for number in *numbers {
             let count = counts.get(&(call.to_string(), *number));
             each.push(format!("{} with {number}", count.ok_or(format!("{name}: no {call} with {number}"))?));
         }
@@ -214,13 +235,16 @@ fn compare() -> Result<(), String> {
         None => {
             replay_own("calls.jsonl")?;
             replay_own("worked.jsonl")?;
-            replay_kept("kept.jsonl")?;
+            replay_numbers("kept.jsonl", &KEPT)?;
+            replay_numbers("show.jsonl", &[SHOWN])?;
             let rows = worked_rows(&worked)?;
             rows.stand_in(&read(&page)?).map_err(|error| format!("{page}: {error}"))?;
             rows.cited_in(&read(&definition)?).map_err(|error| format!("{definition}: {error}"))?;
             println!("worked calls: {} rows, in the page as in the vectors", rows.len());
             let (keep, read_rows) = worked_kept::compare(&read(&page)?).map_err(|error| format!("{page}: {error}"))?;
             println!("worked kept files: {keep} rows of writing, {read_rows} of reading, all as the page says");
+            let shown = worked_show::compare(&read(&page)?).map_err(|error| format!("{page}: {error}"))?;
+            println!("worked showings: {shown} rows, all as the page says");
             let formats = beside("../../docs/FORMATS.md");
             let (refused, length) = page::compare(&read(&formats)?).map_err(|error| format!("{formats}: {error}"))?;
             println!("kept files in the page: {refused} refused as it says, one of {length} bytes read as it says");

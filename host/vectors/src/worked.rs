@@ -21,7 +21,8 @@ const CAN_GIVE: [(&str, &[&str]); 9] = [
 const HEAD: &str = "| id | listing | table before | call | where it matters | answer | charge | entries after | why |";
 
 /// Document 01's listing L: path, kind, mtime and size of each record.
-const L: [(&[u8], u8, f64, u64); 4] = [(b"a", 1, 1.0, 0), (b"a/f", 2, 2.0, 5), (b"l", 3, 0.0, 0), (b"z", 2, 0.0, 0)];
+pub const L: [(&[u8], u8, f64, u64); 4] =
+    [(b"a", 1, 1.0, 0), (b"a/f", 2, 2.0, 5), (b"l", 3, 0.0, 0), (b"z", 2, 0.0, 0)];
 
 /// What is taken as given where a row does not say it.
 const ENTRY_SIZE: u64 = 40;

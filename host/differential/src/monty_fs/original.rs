@@ -3,7 +3,7 @@
 
 use std::{io::ErrorKind, mem};
 
-use cap_std::fs::{Dir, Manner};
+use cap_std::fs::{Dir, Links, Manner};
 use monty_types::MontyObject;
 
 use super::{
@@ -42,6 +42,7 @@ impl Original {
             Op::Mkdir { parents, exist_ok } => FsRequest::Mkdir { path, parents: *parents, exist_ok: *exist_ok },
             Op::Unlink => FsRequest::Unlink { path },
             Op::Rmdir => FsRequest::Rmdir { path },
+            Op::Show => FsRequest::Iterdir { path },
             Op::Rename { to } => {
                 let dot = if again { "./" } else { "" };
                 FsRequest::Rename { src: path, dst: format!("{}/{dot}{to}", self.mount) }
@@ -55,6 +56,27 @@ impl Original {
             memory_usage_limit: call.limit,
         };
         execute(request, &mut context, &mut self.state)
+    }
+
+    /// The names that `iterdir` gives, in its order, over a host with links of this sort.
+    pub fn show(&mut self, path: &str, links: Links) -> Result<Vec<String>, Answer> {
+        let call = Call::new(Op::Show, path);
+        let other = self.dir.with_links(links);
+        let dir = mem::replace(&mut self.dir, other);
+        let given = self.execute(&call, false);
+        self.dir = dir;
+        let above = format!("{}/{path}", self.mount);
+        let name = |child: MontyObject| match child {
+            MontyObject::Path(child) => child.strip_prefix(&above).map(|name| name.trim_start_matches('/').to_owned()),
+            _ => None,
+        };
+        match given {
+            Ok(MontyObject::List(children)) => {
+                children.into_iter().map(name).collect::<Option<_>>().ok_or(Answer::refused(253))
+            }
+            Ok(_) => Err(Answer::refused(253)),
+            Err(error) => Err(self.refusal(&call, &error)),
+        }
     }
 
     /// The number of a refusal with its path (0 or 1) and that path's length, read off the path in the error's text.
@@ -103,11 +125,14 @@ fn io_number(kind: ErrorKind) -> u8 {
 
 impl Side for Original {
     fn call(&mut self, call: &Call, _mtime: u64) -> Answer {
+        if call.op == Op::Show {
+            return Answer::shown(&self.show(&call.path, Links::Dead));
+        }
         match self.execute(call, false) {
             Ok(MontyObject::None) => Answer::accepted(0),
             Ok(MontyObject::Bool(yes)) => Answer::accepted(u64::from(yes)),
             Ok(MontyObject::Int(length)) => Answer::accepted(length.unsigned_abs()),
-            Ok(MontyObject::Other) => Answer::refused(253),
+            Ok(_) => Answer::refused(253),
             Err(error) => self.refusal(call, &error),
         }
     }

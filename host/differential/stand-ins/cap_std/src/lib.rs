@@ -2,7 +2,8 @@
 //! Assumes a well-formed listing (document 01) whose mtimes are times that a host can give: at least 0 and whole
 //! nanoseconds, so that the originals' way from a time to an f64 gives the listed bits back.
 //! Nothing changes during a call, no lookup fails but for a path that is not there, and a directory's entries come
-//! ascending. A link has no target: following one stops the program, so a run that ends has followed none.
+//! ascending. A link has no target: following one stops the program, so a run that ends has followed none. Only where a
+//! directory's links are to be told apart (`Links`) may the metadata of what a link leads to be asked.
 //! Files are never opened: no compared call reads or writes a host file.
 
 pub mod time {
@@ -34,6 +35,19 @@ pub mod fs {
         pub descending: bool,
         /// A lookup below a file fails with "not a directory" instead of "not found".
         pub below_file_fails: bool,
+        pub links: Links,
+    }
+
+    /// What the metadata of a link's target is.
+    #[derive(Debug, Clone, Copy, Default)]
+    pub enum Links {
+        /// Asking for it stops the program.
+        #[default]
+        Unasked,
+        /// There is none: the link leads nowhere.
+        Dead,
+        /// That of a file.
+        Live,
     }
 
     #[derive(Debug, Clone, Copy, PartialEq, Eq)]
@@ -91,6 +105,11 @@ pub mod fs {
             Self { node: Rc::new(root), manner }
         }
 
+        /// The same tree with links of this sort.
+        pub fn with_links(&self, links: Links) -> Self {
+            Self { node: Rc::clone(&self.node), manner: Manner { links, ..self.manner } }
+        }
+
         /// What is at `path` from here, a link as itself if it is the last component.
         fn look(&self, path: &Path) -> io::Result<&Rc<Node>> {
             let mut here = &self.node;
@@ -118,7 +137,12 @@ pub mod fs {
         }
 
         pub fn metadata(&self, path: impl AsRef<Path>) -> io::Result<Metadata> {
-            self.follow(path.as_ref()).map(|node| Metadata::of(node))
+            let node = self.look(path.as_ref())?;
+            match (node.kind, self.manner.links) {
+                (Kind::Link, Links::Dead) => Err(ErrorKind::NotFound.into()),
+                (Kind::Link, Links::Live) => Ok(Metadata { kind: Kind::File, mtime: 0.0, size: 0 }),
+                _ => self.follow(path.as_ref()).map(|node| Metadata::of(node)),
+            }
         }
 
         pub fn exists(&self, path: impl AsRef<Path>) -> bool {

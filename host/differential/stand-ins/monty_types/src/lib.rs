@@ -1,7 +1,7 @@
 //! Stands for the crate `monty_types`: answers, file modes and the path form of the Python side.
-//! Assumes that an answer is no more than what is read off here (nothing, yes or no, a number), and that
+//! Assumes that an answer is no more than what is read off here (nothing, yes or no, a number, a list of paths), and that
 //! `normalize_virtual_path` drops empty and `.` components, resolves `..`, and leaves any other absolute path as it is.
-//! What only the calls left out need (texts, lists, stat results, decoding errors) is there to compile and holds nothing.
+//! What only the calls left out need (texts, stat results, decoding errors) is there to compile and holds nothing.
 
 use std::borrow::Cow;
 
@@ -11,6 +11,8 @@ pub enum MontyObject {
     None,
     Bool(bool),
     Int(i64),
+    Path(String),
+    List(Vec<MontyObject>),
     Other,
 }
 
@@ -30,11 +32,11 @@ impl MontyObject {
     pub fn bytes(_: Vec<u8>) -> Self {
         Self::Other
     }
-    pub fn path(_: String) -> Self {
-        Self::Other
+    pub fn path(path: String) -> Self {
+        Self::Path(path)
     }
-    pub fn list(_: Vec<MontyObject>) -> Self {
-        Self::Other
+    pub fn list(items: Vec<MontyObject>) -> Self {
+        Self::List(items)
     }
 }
 
