@@ -116,7 +116,7 @@ uint64_t overlay_is_dir(const uint8_t *listing, size_t listing_length, const uin
  * without an entry with OVERLAY_LINK_OR_ROOT (a link is listed at it or at one of its ancestors, covered by an entry or
  * not), else with OVERLAY_NOT_A_DIRECTORY or OVERLAY_NOT_FOUND by what is listed. Last with OVERLAY_NO_ROOM: the output
  * is shorter than what would be written. It may be of any length, and is then as it was, so that asking again with a
- * longer one is safe. */
+ * longer one is safe; one as long as listing and table together always suffices. */
 uint64_t overlay_show(const uint8_t *listing, size_t listing_length, const uint8_t *table, size_t table_length,
                       const uint64_t *record, size_t record_length, const uint8_t *path, size_t path_length,
                       uint8_t *output, size_t output_length);
