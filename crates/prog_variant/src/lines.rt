@@ -14,7 +14,7 @@ use listing_records::Found;
 use view_merge::Merge;
 
 fn directory(path: &[u8]) {
-    show::text(b"         -  ");
+    show::text(b"       dir  ");
     shown::bytes(STDOUT_FILENO, path);
     show::text(b"/");
 }
