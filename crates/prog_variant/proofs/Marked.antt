@@ -1,7 +1,7 @@
 -- The marks by what the code reads: an entry's stored fields and body, and what a record lists.
 use mathlib.Core.Path.{_≡_, refl, ap, sym, _∙_}
 use mathlib.Core.Bool.{Bool, true, false, _&&_}
-use mathlib.Core.Option.{Option, none, some}
+use mathlib.Core.Option.{none, some}
 use Prim.Native.Nat.{ℕ, zero, suc, _<_, _≤_, _+_}
 use native.Mathlib.Omega.{arith}
 use lib.Dec.{eqb}
@@ -23,7 +23,6 @@ use Rattle.listing_records.specs.declared.Found.the-variants as found
 use Rattle.view_merge.specs.Merges.{passed, Merging, Next, headNode}
 use Rattle.view_merge.specs.declared.Merge.{Merge}
 use Rattle.view_merge.specs.declared.Head.{Head}
-use Rattle.view_merge.specs.declared.Head.the-variants as head
 use Rattle.prog_variant.specs.Marks.{Tells, listedNode, Marks, There}
 use Rattle.prog_variant.specs.declared.marks.Mark.{Mark}
 
