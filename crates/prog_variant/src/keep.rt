@@ -1,21 +1,15 @@
-// What a run left (#101): shown in a line and, where the arguments name a file for it, kept in that file. The kept file
-// is made in the work buffer, which is free by then. A file that is there already is left as it is.
+// What a run left (#101): shown in a line and in the views that are asked for, and, where the arguments name a file for
+// it, kept in that file. The kept file is made in the work buffer, which is free by then. A file that is there already
+// is left as it is.
 ghost use Prim.Native.Nat.{_<_};
 ghost use lib.ListN.{length};
+use crate::args::Asked;
 use crate::said;
 use crate::show;
+use crate::views;
 use kept_file::Writing;
 use libc::STDOUT_FILENO;
 use model::Record;
-
-// Ends a line, and answers whether it could be printed; where not, it says so.
-fn end_line() -> bool {
-    if io::write_all(STDOUT_FILENO, b"\n") {
-        return true;
-    }
-    said::text(b"variant: standard output cannot be written to\n");
-    false
-}
 
 // What the table holds. Where standard output cannot be written to, this line shows it, and the answer is false.
 fn show_left(rec: Record) -> bool {
@@ -25,7 +19,7 @@ fn show_left(rec: Record) -> bool {
     io::print_decimal(STDOUT_FILENO, rec.used);
     show::text(b" bytes, charged ");
     io::print_decimal(STDOUT_FILENO, rec.charge);
-    end_line()
+    show::end_line()
 }
 
 // The length of the kept file that was written.
@@ -33,7 +27,7 @@ fn show_length(len: u64) {
     show::text(b"the kept file has ");
     io::print_decimal(STDOUT_FILENO, len);
     show::text(b" bytes");
-    end_line();
+    show::end_line();
 }
 
 // Makes the file that argument i names, and answers a descriptor, or -1 with errno set, as where there is one already.
@@ -106,10 +100,13 @@ fn keep(i: usize, listing: &[u8], table: &[u8], rec: Record, work: &mut [u8])
 }
 
 // Shows what the run left, and keeps it. Where standard output cannot be written to, nothing is kept.
-pub fn show_and_keep(i: usize, listing: &[u8], table: &[u8], rec: Record, work: &mut [u8])
+pub fn show_and_keep(asked: Asked, listing: &[u8], table: &[u8], rec: Record, work: &mut [u8])
     requires { ⌜ 0 < length (now work) ⌝ }
 {
-    if show_left(rec) {
-        keep(i, listing, table, rec, work);
+    if !show_left(rec) {
+        return;
+    }
+    if views::show(asked, listing, table, rec) {
+        keep(asked.kept, listing, table, rec, work);
     }
 }

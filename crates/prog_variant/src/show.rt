@@ -2,6 +2,7 @@
 // Where the script or the report ends early, so do the lines.
 ghost use Prim.Native.Nat.{_+_, _≤_};
 ghost use lib.ListN.{length};
+use crate::said;
 use crate::shown;
 use libc::STDOUT_FILENO;
 use run_script::ROW_SIZE;
@@ -12,8 +13,17 @@ pub fn text(s: &[u8]) {
     io::write_all(STDOUT_FILENO, s);
 }
 
+// Ends a line, and answers whether it could be printed; where not, it says so.
+pub fn end_line() -> bool {
+    if io::write_all(STDOUT_FILENO, b"\n") {
+        return true;
+    }
+    said::text(b"variant: standard output cannot be written to\n");
+    false
+}
+
 // A number at the right of a column of this width. A blank stands before it however wide it is.
-fn column(n: u64, width: usize) {
+pub fn column(n: u64, width: usize) {
     let mut digits = [0u8; 20];
     let k = io::decimal(n, &mut digits);
     let blanks = [b' '; 20];

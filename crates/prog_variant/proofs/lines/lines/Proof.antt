@@ -1,0 +1,60 @@
+-- `lines::lines` is safe and ends: the measure is how many entries and records are to come.
+use Rattle.view_merge.specs.Merges.{Merging, remaining}
+use borrow.Author.Needs.{needs}
+use Rattle.prog_variant.proofs.lines.lines.Statement.{statement}
+use Rattle.prog_variant.proofs.lines.lines.Tie as tie
+
+abbrev Inv-loop : tie.InvT-loop
+Inv-loop own part changes merge₀ merge = Merging own part merge
+
+abbrev μ-loop : tie.MeasureT-loop
+μ-loop own part changes merge₀ merge = remaining merge
+
+loop-holds : tie.Need-loop-holds Inv-loop μ-loop
+loop-holds c = search needs
+
+has-next-requires : tie.Need-has-next-requires Inv-loop μ-loop
+has-next-requires c κs = search needs
+
+head-at-requires : tie.Need-head-at-requires Inv-loop μ-loop
+head-at-requires c κs = search needs
+
+mark-at-requires : tie.Need-mark-at-requires Inv-loop μ-loop
+mark-at-requires c κs = search needs
+
+line-requires : tie.Need-line-requires Inv-loop μ-loop
+line-requires c κs = search needs
+
+returns : tie.Need-returns Inv-loop μ-loop
+returns c = search needs
+
+advance-requires : tie.Need-advance-requires Inv-loop μ-loop
+advance-requires c κs =
+    let n = c .before .before .before .before .before .has-next in
+    (c .before .before .before .before .before .before .loop .inv, (c .before .before .before .head-at .ensures, n .ensures .0 (c .before .before .before .before .if1 .taken)))
+
+loop-less : tie.Need-loop-less Inv-loop μ-loop
+loop-less c = c .advance .ensures .0
+
+loop-again : tie.Need-loop-again Inv-loop μ-loop
+loop-again c = c .advance .ensures .1 .0
+
+returns-2 : tie.Need-returns-2 Inv-loop μ-loop
+returns-2 c = search needs
+
+pub lines-spec : {M : Type 1} → statement M
+lines-spec =
+    tie.close
+    (tie.spec
+    Inv-loop
+    μ-loop
+    loop-holds
+    has-next-requires
+    head-at-requires
+    mark-at-requires
+    line-requires
+    returns
+    advance-requires
+    loop-less
+    loop-again
+    returns-2)

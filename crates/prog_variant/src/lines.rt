@@ -1,0 +1,169 @@
+// The lines of the tree and of the changes (#102): the size of a file, and the path with a slash behind a directory's.
+// Behind a file whose content is listed at another path stands that path. Assumes a checked listing and table.
+ghost use Prim.Native.Nat.{_<_};
+ghost use Rattle.listing_records.specs.Place as listing;
+ghost use Rattle.table_entries.specs.Place.{Standing};
+ghost use Rattle.view_merge.specs.Merges.{Merging};
+ghost use Rattle.prog_variant.specs.Marks.{There};
+use crate::marks;
+use crate::marks::Mark;
+use crate::show;
+use crate::shown;
+use libc::STDOUT_FILENO;
+use listing_records::Found;
+use view_merge::Merge;
+
+fn directory(path: &[u8]) {
+    show::text(b"       dir  ");
+    shown::bytes(STDOUT_FILENO, path);
+    show::text(b"/");
+}
+
+fn file(path: &[u8], size: u64) {
+    show::column(size, 10);
+    show::text(b"  ");
+    shown::bytes(STDOUT_FILENO, path);
+}
+
+fn link(path: &[u8]) {
+    show::text(b"      link  ");
+    shown::bytes(STDOUT_FILENO, path);
+}
+
+// Where the content of the file at a path is listed, if that is another path.
+fn source(path: &[u8], listed: &[u8]) {
+    if base_fields::is_same(path, listed) {
+        return;
+    }
+    show::text(b" <- ");
+    shown::bytes(STDOUT_FILENO, listed);
+}
+
+// What the entry at a place shows; the entry is not a deleted one.
+fn of_entry(own: &[u8], entries: table_entries::Place)
+    requires { ⌜ Standing (now own) (entries .left) (entries .at) ⌝ }
+    requires { ⌜ 0 < entries .left ⌝ }
+{
+    let fields = table_entries::entry_fields(own, entries);
+    let key = table_entries::entry_key(own, entries);
+    let body = table_entries::entry_body(own, entries);
+    if fields.kind == model::DIRECTORY {
+        directory(key);
+    } else if fields.kind == model::REFERENCE {
+        file(key, fields.size);
+        source(key, body);
+    } else {
+        file(key, body.len() as u64);
+    }
+}
+
+// What the record at a place lists.
+fn of_record(part: &[u8], records: listing_records::Place)
+    requires { ⌜ listing.Standing (now part) (records .left) (records .at) ⌝ }
+    requires { ⌜ 0 < records .left ⌝ }
+{
+    let path = listing_records::record_path(part, records);
+    let found = listing_records::node_at(part, records.at);
+    match found {
+        Found::Directory(mtime) => {
+            directory(path);
+        }
+        Found::File(mtime, size) => {
+            file(path, size);
+        }
+        Found::Link | Found::Absent => {
+            link(path);
+        }
+    }
+}
+
+// Whether a line is shown for what has this mark, among the changes or in the tree.
+fn is_shown(mark: Mark, changes: bool) -> bool {
+    match mark {
+        Mark::Same => {
+            return !changes;
+        }
+        Mark::New | Mark::Changed => {
+            return true;
+        }
+        Mark::Gone => {
+            return changes;
+        }
+        Mark::Nothing => {
+            return false;
+        }
+    }
+}
+
+// The start of a change's line.
+fn sign(mark: Mark) {
+    match mark {
+        Mark::New => {
+            show::text(b"  +");
+        }
+        Mark::Gone => {
+            show::text(b"  -");
+        }
+        Mark::Changed => {
+            show::text(b"  ~");
+        }
+        Mark::Same | Mark::Nothing => {
+            show::text(b"   ");
+        }
+    }
+}
+
+// What is visible at what is next; where nothing is, what is listed there.
+fn node(own: &[u8], part: &[u8], merge: Merge, mark: Mark)
+    requires { ⌜ Merging (now own) (now part) merge ⌝ }
+    requires { ⌜ There merge mark ⌝ }
+{
+    let entries = merge.entries;
+    let records = merge.records;
+    match mark {
+        Mark::Same => {
+            of_record(part, records);
+        }
+        Mark::New => {
+            of_entry(own, entries);
+        }
+        Mark::Gone => {
+            of_record(part, records);
+        }
+        Mark::Changed => {
+            of_entry(own, entries);
+        }
+        Mark::Nothing => {}
+    }
+}
+
+// The line of what is next, if one is shown for it; false where it could not be printed.
+fn line(own: &[u8], part: &[u8], merge: Merge, mark: Mark, changes: bool) -> bool
+    requires { ⌜ Merging (now own) (now part) merge ⌝ }
+    requires { ⌜ There merge mark ⌝ }
+{
+    if !is_shown(mark, changes) {
+        return true;
+    }
+    if changes {
+        sign(mark);
+    }
+    node(own, part, merge, mark);
+    show::end_line()
+}
+
+// The lines of all that is to come, in one pass; false where one could not be printed, which ends it.
+pub fn lines(own: &[u8], part: &[u8], first: Merge, changes: bool) -> bool
+    requires { ⌜ Merging (now own) (now part) first ⌝ }
+{
+    let mut merge = first;
+    while view_merge::has_next(merge) {
+        let head = view_merge::head_at(own, part, merge);
+        let mark = marks::mark_at(own, part, merge, head);
+        if !line(own, part, merge, mark, changes) {
+            return false;
+        }
+        merge = view_merge::advance(own, part, merge, head);
+    }
+    true
+}
