@@ -4,13 +4,12 @@ ghost use Prim.Native.Nat.{_<_};
 ghost use Rattle.listing_records.specs.Place as listing;
 ghost use Rattle.table_entries.specs.Place.{Standing};
 ghost use Rattle.view_merge.specs.Merges.{Merging};
-ghost use Rattle.prog_variant.specs.Marks.{There};
-use crate::marks;
-use crate::marks::Mark;
+ghost use Rattle.view_marks.specs.Marks.{There};
 use crate::show;
 use crate::shown;
 use libc::STDOUT_FILENO;
 use listing_records::Found;
+use view_marks::Mark;
 use view_merge::Merge;
 
 fn directory(path: &[u8]) {
@@ -159,7 +158,7 @@ pub fn lines(own: &[u8], part: &[u8], first: Merge, changes: bool) -> bool
     let mut merge = first;
     while view_merge::has_next(merge) {
         let head = view_merge::head_at(own, part, merge);
-        let mark = marks::mark_at(own, part, merge, head);
+        let mark = view_marks::mark_at(own, part, merge, head);
         if !line(own, part, merge, mark, changes) {
             return false;
         }

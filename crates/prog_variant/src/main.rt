@@ -8,10 +8,10 @@
 // What it does not take it says on standard error, in a line with the file's name. A program of Rattle has no exit
 // status; `tools/variant` gives one, by whether anything was said there.
 mod args;
+mod counts;
 mod files;
 mod keep;
 mod lines;
-mod marks;
 mod said;
 mod show;
 mod shown;

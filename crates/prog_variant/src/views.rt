@@ -6,11 +6,11 @@ ghost use Prim.Native.Nat.{_≤_};
 ghost use Rattle.model.specs.Listing.{isListing};
 ghost use Rattle.model.specs.Table.{isTable};
 ghost use Rattle.view_merge.specs.Merges.{Merging};
-ghost use Rattle.prog_variant.specs.Marks.{total};
+ghost use Rattle.prog_variant.specs.Totals.{total};
 use crate::args::Asked;
+use crate::counts;
+use crate::counts::Counts;
 use crate::lines;
-use crate::marks;
-use crate::marks::Counts;
 use crate::said;
 use crate::show;
 use libc::STDOUT_FILENO;
@@ -58,7 +58,7 @@ fn show_checked(asked: Asked, listing: &[u8], table: &[u8], rec: Record) -> bool
         entries: entries,
         records: records,
     };
-    let counts = marks::count(table, listing, first);
+    let counts = counts::count(table, listing, first);
     if asked.tree {
         if !tree(table, listing, first, counts) {
             return false;

@@ -13,14 +13,12 @@ use Rattle.model.specs.Tree.{Tree, kindOf}
 use Rattle.model.specs.Table.{padded, entriesAt}
 use Rattle.model.specs.Plain.{visibleTree}
 use Rattle.model.specs.Calls.{exists, says}
-use Rattle.model.proofs.Orders.{eqb-eq}
 use Rattle.base_fields.specs.Write.{overwritten}
 use Rattle.base_fields.proofs.Writes.{overwritten-none, length-overwritten, two-writes}
 use Rattle.base_fields.proofs.Zeros.{zeroed-behind}
 use Rattle.listing_records.specs.Place.{treeAt}
-use Rattle.listing_records.specs.Place as listing
-use Rattle.listing_records.proofs.Places.{stands}
 use Rattle.view_merge.specs.Merges.{ahead, remaining, passed, Merging, headPath, headNode, treeOf}
+use Rattle.view_merge.proofs.Steps.{merge-within}
 use Rattle.view_merge.specs.declared.Merge.{Merge}
 use Rattle.view_merge.specs.declared.Head.{Head}
 use Rattle.show_names.specs.Names.{nameStart, names, nameBytes}
@@ -96,19 +94,6 @@ module _ (p : Path) (own part : Bytes) (m : Merge) (h : Head) where
         go : (n : ℕ) → Sized p own part m h n → n ≤ length path + 2
         go zero w = omega arith
         go (suc n) w = w .named (omega arith) .1
-
--- both places stand within what is read
-records-within : (s : Bytes) (n at : ℕ) → listing.Standing s n at → at ≤ length s
-records-within s zero at w = let e = eqb-eq at (length s) (w .full) in omega arith
-records-within s (suc n) at w = let x = stands s (suc n) at (omega arith) w .head in omega arith
-
-pub merge-within : (own part : Bytes) (m : Merge) → Merging own part m → (passed m ≤ length own + length part) × (passed m ≤ 33554432)
-merge-within own part m w =
-    let a = w .entries .within in
-    let b = w .entries .small in
-    let c = records-within part (m .records .left) (m .records .at) (w .records) in
-    let d = w .records .small in
-    (omega arith, omega arith)
 
 -- at the end nothing is shown
 ended : (own part : Bytes) (m : Merge) → remaining m ≤ 0 → ahead own part m ≡ []

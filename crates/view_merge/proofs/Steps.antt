@@ -12,12 +12,13 @@ use Rattle.model.specs.Tree.{Entry, Node, Table, Tree}
 use Rattle.model.specs.Listing.{recordAt, recordEnd, nodeOf, treeFrom}
 use Rattle.model.specs.Table.{keyAt, entryAt, entryEnd, entriesAt}
 use Rattle.model.specs.Plain.{visibleTree}
+use Rattle.model.proofs.Orders.{eqb-eq}
 use Rattle.model.proofs.Maps.{Above, Ascending, ascends-is}
 use Rattle.base_fields.proofs.Common.{before-Lt}
 use Rattle.listing_records.specs.Place.{treeAt}
 use Rattle.listing_records.specs.Place as listing
 use Rattle.listing_records.specs.declared.Place as records
-use Rattle.listing_records.proofs.Places.{first-record, climbs}
+use Rattle.listing_records.proofs.Places.{stands, first-record, climbs}
 use Rattle.table_entries.specs.Place.{Standing}
 use Rattle.table_entries.specs.declared.Place.{Place}
 use Rattle.table_entries.proofs.Entries.{first-entry, stands-here}
@@ -174,3 +175,16 @@ module _ (own part : Bytes) (m : Merge) (w : Merging own part m) where
 
     pub not-ended : h ≡ head.End → 0 < remaining m → ⊥
     not-ended z g = let u : Next own part m head.End = rw z at x in let a = u .0 in let b = u .1 in omega arith
+
+-- both places stand within what is read
+records-within : (s : Bytes) (n at : ℕ) → listing.Standing s n at → at ≤ length s
+records-within s zero at w = let e = eqb-eq at (length s) (w .full) in omega arith
+records-within s (suc n) at w = let x = stands s (suc n) at (omega arith) w .head in omega arith
+
+pub merge-within : (own part : Bytes) (m : Merge) → Merging own part m → (passed m ≤ length own + length part) × (passed m ≤ 33554432)
+merge-within own part m w =
+    let a = w .entries .within in
+    let b = w .entries .small in
+    let c = records-within part (m .records .left) (m .records .at) (w .records) in
+    let d = w .records .small in
+    (omega arith, omega arith)

@@ -1,5 +1,5 @@
 -- `lines::node` is safe: the entry or the record that a mark speaks of is there.
-use Rattle.prog_variant.proofs.Marked.{there-told}
+use Rattle.view_marks.proofs.Marked.{there-told}
 use borrow.Author.Needs.{needs}
 use Rattle.prog_variant.proofs.lines.node.Statement.{statement}
 use Rattle.prog_variant.proofs.lines.node.Tie as tie

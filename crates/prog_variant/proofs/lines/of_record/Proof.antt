@@ -1,5 +1,5 @@
 -- `lines::of_record` is safe: a record that is there can be read.
-use Rattle.prog_variant.proofs.Marked.{node-there}
+use Rattle.view_marks.proofs.Marked.{node-there}
 use borrow.Author.Needs.{needs}
 use Rattle.prog_variant.proofs.lines.of_record.Statement.{statement}
 use Rattle.prog_variant.proofs.lines.of_record.Tie as tie

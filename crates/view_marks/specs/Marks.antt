@@ -2,7 +2,7 @@
 use mathlib.Core.Path.{_≡_}
 use mathlib.Core.Bool.{Bool, true, false}
 use mathlib.Core.Option.{Option, none, some}
-use Prim.Native.Nat.{ℕ, _+_, _<_}
+use Prim.Native.Nat.{_<_}
 use Rattle.model.specs.Bytes.{Bytes}
 use Rattle.model.specs.Map.{isNone}
 use Rattle.model.specs.Tree.{Node}
@@ -10,9 +10,8 @@ use Rattle.model.specs.Listing.{recordAt, nodeOf}
 use Rattle.view_merge.specs.declared.Merge.{Merge}
 use Rattle.view_merge.specs.declared.Head.{Head}
 use Rattle.view_merge.specs.declared.Head.the-variants as head
-use Rattle.prog_variant.specs.declared.marks.Mark.{Mark}
-use Rattle.prog_variant.specs.declared.marks.Mark.the-variants as mark
-use Rattle.prog_variant.specs.declared.marks.Counts.{Counts}
+use Rattle.view_marks.specs.declared.Mark.{Mark}
+use Rattle.view_marks.specs.declared.Mark.the-variants as mark
 
 -- b is true exactly if P holds
 abbrev pub Tells : Bool → Type 0 → Type 0
@@ -40,6 +39,3 @@ There m mark.New = 0 < m .entries .left
 There m mark.Gone = 0 < m .records .left
 There m mark.Changed = 0 < m .entries .left
 There m mark.Nothing = Unit
-
-abbrev pub total : Counts → ℕ
-total c = c .same + c .new + c .gone + c .changed

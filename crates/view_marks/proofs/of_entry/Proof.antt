@@ -1,10 +1,10 @@
--- `marks::of_entry` meets its contract: a deleted entry shows nothing.
+-- `of_entry` meets its contract: a deleted entry shows nothing.
 use mathlib.Core.Path.{refl}
 use Rattle.model.specs.Table.{entryAt}
-use Rattle.prog_variant.proofs.Marked.{shows-nothing, shows-something}
+use Rattle.view_marks.proofs.Marked.{shows-nothing, shows-something}
 use borrow.Author.Needs.{needs}
-use Rattle.prog_variant.proofs.marks.of_entry.Statement.{statement}
-use Rattle.prog_variant.proofs.marks.of_entry.Tie as tie
+use Rattle.view_marks.proofs.of_entry.Statement.{statement}
+use Rattle.view_marks.proofs.of_entry.Tie as tie
 
 entry-fields-requires : tie.Need-entry-fields-requires
 entry-fields-requires c κs = search needs

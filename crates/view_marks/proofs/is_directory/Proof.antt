@@ -1,9 +1,9 @@
--- `marks::is_directory` meets its contract, by the fields that the entry is stored with.
+-- `is_directory` meets its contract, by the fields that the entry is stored with.
 use Rattle.model.specs.Table.{entryAt}
-use Rattle.prog_variant.proofs.Marked.{tells-directory}
+use Rattle.view_marks.proofs.Marked.{tells-directory}
 use borrow.Author.Needs.{needs}
-use Rattle.prog_variant.proofs.marks.is_directory.Statement.{statement}
-use Rattle.prog_variant.proofs.marks.is_directory.Tie as tie
+use Rattle.view_marks.proofs.is_directory.Statement.{statement}
+use Rattle.view_marks.proofs.is_directory.Tie as tie
 
 entry-fields-requires : tie.Need-entry-fields-requires
 entry-fields-requires c κs = search needs

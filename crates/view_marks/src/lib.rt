@@ -1,15 +1,16 @@
-// How what is visible at a path stands to what the published plan lists there, and how many paths there are of each
-// kind (#102). Assumes a checked listing and table: `views` checks them.
+// How what is visible at a path stands to what is listed there: the same, new, gone, changed, or neither (#102).
+// Assumes a merge over a checked table and a checked listing: only this repository's crates call. Each function reads
+// the entry and the record that are next, once.
 ghost use mathlib.Core.Path.{_≡_};
 ghost use mathlib.Core.Option.{some};
-ghost use Prim.Native.Nat.{_+_, _≤_, _<_};
+ghost use Prim.Native.Nat.{_<_};
 ghost use Rattle.model.specs.Tree.{view, dir, file, listed};
 ghost use Rattle.model.specs.Listing.{recordAt, nodeOf};
 ghost use Rattle.model.specs.Table.{entryAt, keyAt};
 ghost use Rattle.table_entries.specs.Place.{Standing};
 ghost use Rattle.view_merge.specs.Merges.{Merging, Next, headNode};
 ghost use Rattle.view_merge.specs.declared.Head.the-variants as head;
-ghost use Rattle.prog_variant.specs.Marks.{Tells, listedNode, Marks, There, total};
+ghost use Rattle.view_marks.specs.Marks.{Tells, listedNode, Marks, There};
 use listing_records::Found;
 use view_merge::Head;
 use view_merge::Merge;
@@ -21,14 +22,6 @@ pub enum Mark {
     Gone,
     Changed,
     Nothing,
-}
-
-// How many paths have each mark.
-pub struct Counts {
-    pub same: u64,
-    pub new: u64,
-    pub gone: u64,
-    pub changed: u64,
 }
 
 // Whether the entry at a place shows a directory with this mtime.
@@ -137,51 +130,4 @@ pub fn mark_at(own: &[u8], part: &[u8], merge: Merge, head: Head) -> Mark
             return Mark::Nothing;
         }
     }
-}
-
-// One more with this mark.
-fn counted(counts: Counts, mark: Mark) -> Counts
-    requires { ⌜ total counts ≤ 0x1_0000_0000 ⌝ }
-    ensures { λ r. ⌜ total r ≤ total counts + 1 ⌝ }
-{
-    let mut next = counts;
-    match mark {
-        Mark::Same => {
-            next.same += 1;
-        }
-        Mark::New => {
-            next.new += 1;
-        }
-        Mark::Gone => {
-            next.gone += 1;
-        }
-        Mark::Changed => {
-            next.changed += 1;
-        }
-        Mark::Nothing => {
-            return counts;
-        }
-    }
-    next
-}
-
-// The marks of all that is to come, in one pass.
-pub fn count(own: &[u8], part: &[u8], first: Merge) -> Counts
-    requires { ⌜ Merging (now own) (now part) first ⌝ }
-    ensures { λ r. ⌜ total r ≤ 0x1_0000_0000 ⌝ }
-{
-    let mut counts = Counts {
-        same: 0,
-        new: 0,
-        gone: 0,
-        changed: 0,
-    };
-    let mut merge = first;
-    while view_merge::has_next(merge) {
-        let head = view_merge::head_at(own, part, merge);
-        let mark = mark_at(own, part, merge, head);
-        counts = counted(counts, mark);
-        merge = view_merge::advance(own, part, merge, head);
-    }
-    counts
 }

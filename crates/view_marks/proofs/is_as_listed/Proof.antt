@@ -1,10 +1,10 @@
--- `marks::is_as_listed` meets its contract, by the cases of what is listed.
+-- `is_as_listed` meets its contract, by the cases of what is listed.
 use Rattle.model.specs.Listing.{recordAt}
 use Rattle.model.specs.Table.{entryAt}
-use Rattle.prog_variant.proofs.Marked.{node-there, as-directory, as-file, as-link, as-absent}
+use Rattle.view_marks.proofs.Marked.{node-there, as-directory, as-file, as-link, as-absent}
 use borrow.Author.Needs.{needs}
-use Rattle.prog_variant.proofs.marks.is_as_listed.Statement.{statement}
-use Rattle.prog_variant.proofs.marks.is_as_listed.Tie as tie
+use Rattle.view_marks.proofs.is_as_listed.Statement.{statement}
+use Rattle.view_marks.proofs.is_as_listed.Tie as tie
 
 node-at-requires : tie.Need-node-at-requires
 node-at-requires c κs =

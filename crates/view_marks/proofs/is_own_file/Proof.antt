@@ -1,9 +1,9 @@
--- `marks::is_own_file` meets its contract, by the fields and the body that the entry is stored with.
+-- `is_own_file` meets its contract, by the fields and the body that the entry is stored with.
 use Rattle.model.specs.Table.{entryAt}
-use Rattle.prog_variant.proofs.Marked.{tells-own-file}
+use Rattle.view_marks.proofs.Marked.{tells-own-file}
 use borrow.Author.Needs.{needs}
-use Rattle.prog_variant.proofs.marks.is_own_file.Statement.{statement}
-use Rattle.prog_variant.proofs.marks.is_own_file.Tie as tie
+use Rattle.view_marks.proofs.is_own_file.Statement.{statement}
+use Rattle.view_marks.proofs.is_own_file.Tie as tie
 
 entry-fields-requires : tie.Need-entry-fields-requires
 entry-fields-requires c κs = search needs

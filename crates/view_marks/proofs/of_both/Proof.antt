@@ -1,11 +1,11 @@
--- `marks::of_both` meets its contract: a deleted entry shows nothing, and of another it was asked whether it shows what is
+-- `of_both` meets its contract: a deleted entry shows nothing, and of another it was asked whether it shows what is
 -- listed.
 use mathlib.Core.Path.{refl}
 use Rattle.model.specs.Table.{entryAt}
-use Rattle.prog_variant.proofs.Marked.{shows-nothing, shows-something}
+use Rattle.view_marks.proofs.Marked.{shows-nothing, shows-something}
 use borrow.Author.Needs.{needs}
-use Rattle.prog_variant.proofs.marks.of_both.Statement.{statement}
-use Rattle.prog_variant.proofs.marks.of_both.Tie as tie
+use Rattle.view_marks.proofs.of_both.Statement.{statement}
+use Rattle.view_marks.proofs.of_both.Tie as tie
 
 entry-fields-requires : tie.Need-entry-fields-requires
 entry-fields-requires c κs = search needs

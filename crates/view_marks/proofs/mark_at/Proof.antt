@@ -1,11 +1,11 @@
--- `marks::mark_at` meets its contract, by the cases of what is next.
+-- `mark_at` meets its contract, by the cases of what is next.
 use mathlib.Core.Path.{refl}
 use Rattle.view_merge.specs.declared.Head.the-variants as head
-use Rattle.prog_variant.specs.declared.marks.Mark.the-variants as mark
-use Rattle.prog_variant.proofs.Marked.{next-told, marks-told}
+use Rattle.view_marks.specs.declared.Mark.the-variants as mark
+use Rattle.view_marks.proofs.Marked.{next-told, marks-told}
 use borrow.Author.Needs.{needs}
-use Rattle.prog_variant.proofs.marks.mark_at.Statement.{statement}
-use Rattle.prog_variant.proofs.marks.mark_at.Tie as tie
+use Rattle.view_marks.proofs.mark_at.Statement.{statement}
+use Rattle.view_marks.proofs.mark_at.Tie as tie
 
 enum-told : tie.Need-enum-told
 enum-told c = search needs

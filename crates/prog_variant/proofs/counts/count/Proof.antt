@@ -1,13 +1,13 @@
--- `marks::count` meets its contract and ends: no more paths are counted than bytes were passed. The measure is how many
+-- `counts::count` meets its contract and ends: no more paths are counted than bytes were passed. The measure is how many
 -- entries and records are to come.
 use Prim.Native.Nat.{_≤_}
 use native.Mathlib.Omega.{arith}
 use Rattle.view_merge.specs.Merges.{Merging, remaining, passed}
-use Rattle.prog_variant.specs.Marks.{total}
-use Rattle.prog_variant.proofs.Marked.{passed-small}
+use Rattle.prog_variant.specs.Totals.{total}
+use Rattle.view_merge.proofs.Steps.{merge-within}
 use borrow.Author.Needs.{needs}
-use Rattle.prog_variant.proofs.marks.count.Statement.{statement}
-use Rattle.prog_variant.proofs.marks.count.Tie as tie
+use Rattle.prog_variant.proofs.counts.count.Statement.{statement}
+use Rattle.prog_variant.proofs.counts.count.Tie as tie
 
 abbrev Inv-loop : tie.InvT-loop
 Inv-loop own part counts₀ merge₀ counts merge = Merging own part merge × (total counts ≤ passed merge)
@@ -31,7 +31,7 @@ counted-requires : tie.Need-counted-requires Inv-loop μ-loop
 counted-requires c κs =
     let a = c .before .before .before .before .before .before .before .args in
     let l = c .before .before .before .before .loop in
-    let p = passed-small (a .own .now) (a .part .now) (l .merge) (l .inv .0) in
+    let p = merge-within (a .own .now) (a .part .now) (l .merge) (l .inv .0) .1 in
     let t = l .inv .1 in
     omega arith
 
@@ -54,7 +54,7 @@ returns : tie.Need-returns Inv-loop μ-loop
 returns c =
     let a = c .before .before .before .before .before .args in
     let l = c .before .before .loop in
-    let p = passed-small (a .own .now) (a .part .now) (l .merge) (l .inv .0) in
+    let p = merge-within (a .own .now) (a .part .now) (l .merge) (l .inv .0) .1 in
     let t = l .inv .1 in
     omega arith
 

@@ -2,7 +2,7 @@
 use mathlib.Core.Path.{_≡_, refl, ap, sym, _∙_}
 use mathlib.Core.Bool.{Bool, true, false, _&&_}
 use mathlib.Core.Option.{none, some}
-use Prim.Native.Nat.{ℕ, zero, suc, _<_, _≤_, _+_}
+use Prim.Native.Nat.{ℕ, _<_, _≤_, _+_}
 use native.Mathlib.Omega.{arith}
 use lib.Dec.{eqb}
 use lib.ListN.{length}
@@ -20,11 +20,11 @@ use Rattle.listing_records.specs.Place.{Standing}
 use Rattle.listing_records.proofs.Places.{stands}
 use Rattle.listing_records.specs.declared.Found.{Found}
 use Rattle.listing_records.specs.declared.Found.the-variants as found
-use Rattle.view_merge.specs.Merges.{passed, Merging, Next, headNode}
+use Rattle.view_merge.specs.Merges.{Next, headNode}
 use Rattle.view_merge.specs.declared.Merge.{Merge}
 use Rattle.view_merge.specs.declared.Head.{Head}
-use Rattle.prog_variant.specs.Marks.{Tells, listedNode, Marks, There}
-use Rattle.prog_variant.specs.declared.marks.Mark.{Mark}
+use Rattle.view_marks.specs.Marks.{Tells, listedNode, Marks, There}
+use Rattle.view_marks.specs.declared.Mark.{Mark}
 
 -- a test that is answered
 tells-no : {P : Type 0} (b : Bool) → b ≡ false → (P → ⊥) → Tells b P
@@ -159,16 +159,3 @@ there-told m k z x = rw z at x
 -- a record that is next can be read
 pub node-there : (s : Bytes) (n at : ℕ) → 0 < n → Standing s n at → (at + 19 ≤ length s) × (length s ≤ 16777216)
 node-there s n at h w = (stands s n at h w .head, w .small)
-
--- both places are within their bytes
-records-within : (s : Bytes) (n at : ℕ) → Standing s n at → at ≤ length s
-records-within s zero at w = let e = eqb-true at (length s) (w .full) in omega arith
-records-within s (suc n) at w = let h = stands s (suc n) at (omega arith) w .head in omega arith
-
-pub passed-small : (o part : Bytes) (m : Merge) → Merging o part m → passed m ≤ 33554432
-passed-small o part m w =
-    let a = w .entries .within in
-    let b = w .entries .small in
-    let c = records-within part (m .records .left) (m .records .at) (w .records) in
-    let d = w .records .small in
-    omega arith
