@@ -10,24 +10,25 @@ use crate::views;
 use kept_file::Writing;
 use libc::STDOUT_FILENO;
 use model::Record;
+use test_lines::text;
 
 // What the table holds. Where standard output cannot be written to, this line shows it, and the answer is false.
 fn show_left(rec: Record) -> bool {
-    show::text(b"the table holds ");
+    text(b"the table holds ");
     io::print_decimal(STDOUT_FILENO, rec.count);
-    show::text(b" entries in ");
+    text(b" entries in ");
     io::print_decimal(STDOUT_FILENO, rec.used);
-    show::text(b" bytes, charged ");
+    text(b" bytes, charged ");
     io::print_decimal(STDOUT_FILENO, rec.charge);
-    show::end_line()
+    show::printed(test_lines::end_line())
 }
 
 // The length of the kept file that was written.
 fn show_length(len: u64) {
-    show::text(b"the kept file has ");
+    text(b"the kept file has ");
     io::print_decimal(STDOUT_FILENO, len);
-    show::text(b" bytes");
-    show::end_line();
+    text(b" bytes");
+    show::printed(test_lines::end_line());
 }
 
 // Makes the file that argument i names, and answers a descriptor, or -1 with errno set, as where there is one already.

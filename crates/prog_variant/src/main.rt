@@ -8,13 +8,10 @@
 // What it does not take it says on standard error, in a line with the file's name. A program of Rattle has no exit
 // status; `tools/variant` gives one, by whether anything was said there.
 mod args;
-mod counts;
 mod files;
 mod keep;
-mod lines;
 mod said;
 mod show;
-mod shown;
 mod views;
 
 ghost use Prim.Native.Nat.{_<_};

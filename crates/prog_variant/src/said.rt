@@ -1,5 +1,4 @@
 // What is said on standard error: a line, with the name of the file that it is about.
-use crate::shown;
 use libc::STDERR_FILENO;
 
 pub fn text(s: &[u8]) {
@@ -15,7 +14,7 @@ fn name(i: usize) {
         text(b"argument ");
         io::print_decimal(STDERR_FILENO, i as u64);
     }
-    shown::bytes(STDERR_FILENO, &name[..length]);
+    test_lines::bytes(STDERR_FILENO, &name[..length]);
     text(b": ");
 }
 

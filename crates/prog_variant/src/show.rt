@@ -1,40 +1,25 @@
 // The lines that are printed of a script's calls: a head, and one line for each.
 // Where the script or the report ends early, so do the lines.
+ghost use mathlib.Core.Path.{_≡_};
 ghost use Prim.Native.Nat.{_+_, _≤_};
 ghost use lib.ListN.{length};
 use crate::said;
-use crate::shown;
 use libc::STDOUT_FILENO;
 use run_script::ROW_SIZE;
 use run_script::SCRIPT_HEAD;
 use run_script::STEP_HEAD;
+use test_lines::bytes;
+use test_lines::column;
+use test_lines::text;
 
-pub fn text(s: &[u8]) {
-    io::write_all(STDOUT_FILENO, s);
-}
-
-// Ends a line, and answers whether it could be printed; where not, it says so.
-pub fn end_line() -> bool {
-    if io::write_all(STDOUT_FILENO, b"\n") {
-        return true;
+// What is said where standard output could not be written to; gives whether it could.
+pub fn printed(ok: bool) -> bool
+    ensures { λ r. ⌜ r ≡ ok ⌝ }
+{
+    if !ok {
+        said::text(b"variant: standard output cannot be written to\n");
     }
-    said::text(b"variant: standard output cannot be written to\n");
-    false
-}
-
-// A number at the right of a column of this width. A blank stands before it however wide it is.
-pub fn column(n: u64, width: usize) {
-    let mut digits = [0u8; 20];
-    let k = io::decimal(n, &mut digits);
-    let blanks = [b' '; 20];
-    text(b" ");
-    if k < width {
-        if width <= 20 {
-            let from = k + 1;
-            io::write_all(STDOUT_FILENO, &blanks[from..width]);
-        }
-    }
-    io::write_all(STDOUT_FILENO, &digits[..k]);
+    ok
 }
 
 // A call's name, in a column.
@@ -112,11 +97,11 @@ fn paths(script: &[u8], at: usize, kind: u8) -> usize
         return script.len();
     }
     let first = run_script::first_part(script, at);
-    shown::bytes(STDOUT_FILENO, first);
+    bytes(STDOUT_FILENO, first);
     if kind == 5 {
         let second = run_script::second_part(script, at);
         text(b" -> ");
-        shown::bytes(STDOUT_FILENO, second);
+        bytes(STDOUT_FILENO, second);
     }
     text(b"\n");
     end

@@ -6,15 +6,14 @@ ghost use Prim.Native.Nat.{_≤_};
 ghost use Rattle.model.specs.Listing.{isListing};
 ghost use Rattle.model.specs.Table.{isTable};
 ghost use Rattle.view_merge.specs.Merges.{Merging};
-ghost use Rattle.prog_variant.specs.Totals.{total};
+ghost use Rattle.test_lines.specs.Totals.{total};
 use crate::args::Asked;
-use crate::counts;
-use crate::counts::Counts;
-use crate::lines;
 use crate::said;
 use crate::show;
 use libc::STDOUT_FILENO;
 use model::Record;
+use test_lines::Counts;
+use test_lines::text;
 use view_merge::Merge;
 
 // Every visible path; false where standard output cannot be written to.
@@ -22,30 +21,30 @@ fn tree(own: &[u8], part: &[u8], first: Merge, counts: Counts) -> bool
     requires { ⌜ Merging (now own) (now part) first ⌝ }
     requires { ⌜ total counts ≤ 0x1_0000_0000 ⌝ }
 {
-    show::text(b"the tree has ");
+    text(b"the tree has ");
     io::print_decimal(STDOUT_FILENO, counts.same + counts.new + counts.changed);
-    show::text(b" paths:");
-    if !show::end_line() {
+    text(b" paths:");
+    if !show::printed(test_lines::end_line()) {
         return false;
     }
-    lines::lines(own, part, first, false)
+    show::printed(test_lines::print_lines(own, part, first, false))
 }
 
 // Every path whose mark is a change.
 fn changes(own: &[u8], part: &[u8], first: Merge, counts: Counts) -> bool
     requires { ⌜ Merging (now own) (now part) first ⌝ }
 {
-    show::text(b"against the published plan ");
+    text(b"against the published plan ");
     io::print_decimal(STDOUT_FILENO, counts.new);
-    show::text(b" paths are new, ");
+    text(b" paths are new, ");
     io::print_decimal(STDOUT_FILENO, counts.gone);
-    show::text(b" gone, ");
+    text(b" gone, ");
     io::print_decimal(STDOUT_FILENO, counts.changed);
-    show::text(b" changed:");
-    if !show::end_line() {
+    text(b" changed:");
+    if !show::printed(test_lines::end_line()) {
         return false;
     }
-    lines::lines(own, part, first, true)
+    show::printed(test_lines::print_lines(own, part, first, true))
 }
 
 // The marks are counted once, for both.
@@ -58,7 +57,7 @@ fn show_checked(asked: Asked, listing: &[u8], table: &[u8], rec: Record) -> bool
         entries: entries,
         records: records,
     };
-    let counts = counts::count(table, listing, first);
+    let counts = test_lines::count(table, listing, first);
     if asked.tree {
         if !tree(table, listing, first, counts) {
             return false;

@@ -1,8 +1,8 @@
--- `lines::lines` is safe and ends: the measure is how many entries and records are to come.
+-- `lines::print_lines` is safe and ends: the measure is how many entries and records are to come.
 use Rattle.view_merge.specs.Merges.{Merging, remaining}
 use borrow.Author.Needs.{needs}
-use Rattle.prog_variant.proofs.lines.lines.Statement.{statement}
-use Rattle.prog_variant.proofs.lines.lines.Tie as tie
+use Rattle.test_lines.proofs.lines.print_lines.Statement.{statement}
+use Rattle.test_lines.proofs.lines.print_lines.Tie as tie
 
 abbrev Inv-loop : tie.InvT-loop
 Inv-loop own part changes merge₀ merge = Merging own part merge
@@ -42,8 +42,8 @@ loop-again c = c .advance .ensures .1 .0
 returns-2 : tie.Need-returns-2 Inv-loop μ-loop
 returns-2 c = search needs
 
-pub lines-spec : {M : Type 1} → statement M
-lines-spec =
+pub print-lines-spec : {M : Type 1} → statement M
+print-lines-spec =
     tie.close
     (tie.spec
     Inv-loop

@@ -5,28 +5,30 @@ ghost use Rattle.listing_records.specs.Place as listing;
 ghost use Rattle.table_entries.specs.Place.{Standing};
 ghost use Rattle.view_merge.specs.Merges.{Merging};
 ghost use Rattle.view_marks.specs.Marks.{There};
-use crate::show;
-use crate::shown;
+use crate::bytes;
+use crate::column;
+use crate::end_line;
+use crate::text;
 use libc::STDOUT_FILENO;
 use listing_records::Found;
 use view_marks::Mark;
 use view_merge::Merge;
 
 fn directory(path: &[u8]) {
-    show::text(b"       dir  ");
-    shown::bytes(STDOUT_FILENO, path);
-    show::text(b"/");
+    text(b"       dir  ");
+    bytes(STDOUT_FILENO, path);
+    text(b"/");
 }
 
 fn file(path: &[u8], size: u64) {
-    show::column(size, 10);
-    show::text(b"  ");
-    shown::bytes(STDOUT_FILENO, path);
+    column(size, 10);
+    text(b"  ");
+    bytes(STDOUT_FILENO, path);
 }
 
 fn link(path: &[u8]) {
-    show::text(b"      link  ");
-    shown::bytes(STDOUT_FILENO, path);
+    text(b"      link  ");
+    bytes(STDOUT_FILENO, path);
 }
 
 // Where the content of the file at a path is listed, if that is another path.
@@ -34,8 +36,8 @@ fn source(path: &[u8], listed: &[u8]) {
     if base_fields::is_same(path, listed) {
         return;
     }
-    show::text(b" <- ");
-    shown::bytes(STDOUT_FILENO, listed);
+    text(b" <- ");
+    bytes(STDOUT_FILENO, listed);
 }
 
 // What the entry at a place shows; the entry is not a deleted one.
@@ -98,16 +100,16 @@ fn is_shown(mark: Mark, changes: bool) -> bool {
 fn sign(mark: Mark) {
     match mark {
         Mark::New => {
-            show::text(b"  +");
+            text(b"  +");
         }
         Mark::Gone => {
-            show::text(b"  -");
+            text(b"  -");
         }
         Mark::Changed => {
-            show::text(b"  ~");
+            text(b"  ~");
         }
         Mark::Same | Mark::Nothing => {
-            show::text(b"   ");
+            text(b"   ");
         }
     }
 }
@@ -148,11 +150,11 @@ fn line(own: &[u8], part: &[u8], merge: Merge, mark: Mark, changes: bool) -> boo
         sign(mark);
     }
     node(own, part, merge, mark);
-    show::end_line()
+    end_line()
 }
 
 // The lines of all that is to come, in one pass; false where one could not be printed, which ends it.
-pub fn lines(own: &[u8], part: &[u8], first: Merge, changes: bool) -> bool
+pub fn print_lines(own: &[u8], part: &[u8], first: Merge, changes: bool) -> bool
     requires { ⌜ Merging (now own) (now part) first ⌝ }
 {
     let mut merge = first;

@@ -2,8 +2,8 @@
 use Prim.Native.Nat.{_≤_, _-_}
 use lib.ListN.{length}
 use borrow.Author.Needs.{needs}
-use Rattle.prog_variant.proofs.shown.bytes.Statement.{statement}
-use Rattle.prog_variant.proofs.shown.bytes.Tie as tie
+use Rattle.test_lines.proofs.shown.bytes.Statement.{statement}
+use Rattle.test_lines.proofs.shown.bytes.Tie as tie
 
 abbrev Inv-loop : tie.InvT-loop
 Inv-loop fd s at₀ at = at ≤ length s

@@ -1,8 +1,7 @@
-// How many paths stand how to what the published plan lists there (#102). Assumes a checked listing and table: `views`
-// checks them.
+// How many paths stand how to what the published plan lists there (#102). Assumes a checked listing and table.
 ghost use Prim.Native.Nat.{_+_, _≤_};
 ghost use Rattle.view_merge.specs.Merges.{Merging};
-ghost use Rattle.prog_variant.specs.Totals.{total};
+ghost use Rattle.test_lines.specs.Totals.{total};
 use view_marks::Mark;
 use view_merge::Merge;
 

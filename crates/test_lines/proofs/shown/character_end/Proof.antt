@@ -5,9 +5,9 @@ use native.Mathlib.Omega.{arith}
 use lib.ListN.{length}
 use borrow.Author.Needs.{needs}
 use Rattle.base_paths.specs.Scan.{pending}
-use Rattle.prog_variant.proofs.Characters.{Needed, needed-on, needed-first, whole}
-use Rattle.prog_variant.proofs.shown.character_end.Statement.{statement}
-use Rattle.prog_variant.proofs.shown.character_end.Tie as tie
+use Rattle.test_lines.proofs.Characters.{Needed, needed-on, needed-first, whole}
+use Rattle.test_lines.proofs.shown.character_end.Statement.{statement}
+use Rattle.test_lines.proofs.shown.character_end.Tie as tie
 
 abbrev Inv-loop : tie.InvT-loop
 Inv-loop s at tail₀ i₀ tail i = (at < i) × ((i ≤ length s) × Needed s at (pending tail) i)

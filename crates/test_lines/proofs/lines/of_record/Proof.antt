@@ -1,8 +1,8 @@
 -- `lines::of_record` is safe: a record that is there can be read.
 use Rattle.view_marks.proofs.Marked.{node-there}
 use borrow.Author.Needs.{needs}
-use Rattle.prog_variant.proofs.lines.of_record.Statement.{statement}
-use Rattle.prog_variant.proofs.lines.of_record.Tie as tie
+use Rattle.test_lines.proofs.lines.of_record.Statement.{statement}
+use Rattle.test_lines.proofs.lines.of_record.Tie as tie
 
 record-path-requires : tie.Need-record-path-requires
 record-path-requires c κs = search needs

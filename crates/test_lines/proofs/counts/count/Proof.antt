@@ -3,11 +3,11 @@
 use Prim.Native.Nat.{_≤_}
 use native.Mathlib.Omega.{arith}
 use Rattle.view_merge.specs.Merges.{Merging, remaining, passed}
-use Rattle.prog_variant.specs.Totals.{total}
+use Rattle.test_lines.specs.Totals.{total}
 use Rattle.view_merge.proofs.Steps.{merge-within}
 use borrow.Author.Needs.{needs}
-use Rattle.prog_variant.proofs.counts.count.Statement.{statement}
-use Rattle.prog_variant.proofs.counts.count.Tie as tie
+use Rattle.test_lines.proofs.counts.count.Statement.{statement}
+use Rattle.test_lines.proofs.counts.count.Tie as tie
 
 abbrev Inv-loop : tie.InvT-loop
 Inv-loop own part counts₀ merge₀ counts merge = Merging own part merge × (total counts ≤ passed merge)

@@ -1,8 +1,8 @@
 -- `lines::node` is safe: the entry or the record that a mark speaks of is there.
 use Rattle.view_marks.proofs.Marked.{there-told}
 use borrow.Author.Needs.{needs}
-use Rattle.prog_variant.proofs.lines.node.Statement.{statement}
-use Rattle.prog_variant.proofs.lines.node.Tie as tie
+use Rattle.test_lines.proofs.lines.node.Statement.{statement}
+use Rattle.test_lines.proofs.lines.node.Tie as tie
 
 enum-told : tie.Need-enum-told
 enum-told c = search needs
