@@ -1,5 +1,8 @@
 // The arguments: [--tree] [--changes] PLAN SCRIPT [KEPT]. What begins with two hyphens is an option, and options stand
 // before the files, in any order, each at most once. A file of such a name can be given as `./--name`.
+ghost use mathlib.Core.Path.{_≡_};
+ghost use mathlib.Core.Bool.{true};
+ghost use Prim.Native.Nat.{_<_};
 
 // What the program is asked for: which arguments name the files, and whether the tree and the changes are shown. The
 // kept file's argument may be missing.
@@ -82,7 +85,9 @@ fn words(count: usize) -> Asked {
 }
 
 // What is asked for; `right` is false for wrong usage, as where there are not two or three names.
-pub fn given() -> Asked {
+pub fn given() -> Asked
+    ensures { λ r. ⌜ (r .right ≡ true → (0 < r .plan) × (r .plan < r .script) × (r .script < r .kept)) ⌝ }
+{
     let count = os::arg_count();
     let mut asked = words(count);
     let plan = asked.plan;

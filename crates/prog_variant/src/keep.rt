@@ -20,7 +20,7 @@ fn show_left(rec: Record) -> bool {
     io::print_decimal(STDOUT_FILENO, rec.used);
     text(b" bytes, charged ");
     io::print_decimal(STDOUT_FILENO, rec.charge);
-    show::printed(test_lines::end_line())
+    show::printed(io::write_all(STDOUT_FILENO, b"\n"))
 }
 
 // The length of the kept file that was written.
@@ -28,7 +28,7 @@ fn show_length(len: u64) {
     text(b"the kept file has ");
     io::print_decimal(STDOUT_FILENO, len);
     text(b" bytes");
-    show::printed(test_lines::end_line());
+    show::printed(io::write_all(STDOUT_FILENO, b"\n"));
 }
 
 // Makes the file that argument i names, and answers a descriptor, or -1 with errno set, as where there is one already.

@@ -1,7 +1,7 @@
 // The tree that a run leaves, and what it changed against the published plan, where the arguments ask for them (#102).
 // What the run left is checked here, and what is behind stands on that.
 ghost use mathlib.Core.Path.{_≡_};
-ghost use mathlib.Core.Bool.{true};
+ghost use mathlib.Core.Bool.{true, false, _||_};
 ghost use Prim.Native.Nat.{_≤_};
 ghost use Rattle.model.specs.Listing.{isListing};
 ghost use Rattle.model.specs.Table.{isTable};
@@ -24,7 +24,7 @@ fn tree(own: &[u8], part: &[u8], first: Merge, counts: Counts) -> bool
     text(b"the tree has ");
     io::print_decimal(STDOUT_FILENO, counts.same + counts.new + counts.changed);
     text(b" paths:");
-    if !show::printed(test_lines::end_line()) {
+    if !show::printed(io::write_all(STDOUT_FILENO, b"\n")) {
         return false;
     }
     show::printed(test_lines::print_lines(own, part, first, false))
@@ -41,7 +41,7 @@ fn changes(own: &[u8], part: &[u8], first: Merge, counts: Counts) -> bool
     text(b" gone, ");
     io::print_decimal(STDOUT_FILENO, counts.changed);
     text(b" changed:");
-    if !show::printed(test_lines::end_line()) {
+    if !show::printed(io::write_all(STDOUT_FILENO, b"\n")) {
         return false;
     }
     show::printed(test_lines::print_lines(own, part, first, true))
@@ -70,7 +70,9 @@ fn show_checked(asked: Asked, listing: &[u8], table: &[u8], rec: Record) -> bool
 }
 
 // Shows what is asked for, and answers whether it could be.
-pub fn show(asked: Asked, listing: &[u8], table: &[u8], rec: Record) -> bool {
+pub fn show(asked: Asked, listing: &[u8], table: &[u8], rec: Record) -> bool
+    ensures { λ r. ⌜ ((asked .tree || asked .changes) ≡ false → r ≡ true) ⌝ }
+{
     if !(asked.tree | asked.changes) {
         return true;
     }

@@ -14,11 +14,6 @@ pub fn text(s: &[u8]) {
     io::write_all(STDOUT_FILENO, s);
 }
 
-// Ends a line, and answers whether it could be printed.
-pub fn end_line() -> bool {
-    io::write_all(STDOUT_FILENO, b"\n")
-}
-
 // A number at the right of a column of this width. A blank stands before it however wide it is.
 pub fn column(n: u64, width: usize) {
     let mut digits = [0u8; 20];

@@ -1,13 +1,14 @@
 // The lines of the tree and of the changes (#102): the size of a file, and the path with a slash behind a directory's.
 // Behind a file whose content is listed at another path stands that path. Assumes a checked listing and table.
-ghost use Prim.Native.Nat.{_<_};
+ghost use mathlib.Core.Path.{_≡_};
+ghost use mathlib.Core.Bool.{true};
+ghost use Prim.Native.Nat.{_≤_, _<_};
 ghost use Rattle.listing_records.specs.Place as listing;
 ghost use Rattle.table_entries.specs.Place.{Standing};
-ghost use Rattle.view_merge.specs.Merges.{Merging};
+ghost use Rattle.view_merge.specs.Merges.{remaining, Merging};
 ghost use Rattle.view_marks.specs.Marks.{There};
 use crate::bytes;
 use crate::column;
-use crate::end_line;
 use crate::text;
 use libc::STDOUT_FILENO;
 use listing_records::Found;
@@ -150,12 +151,13 @@ fn line(own: &[u8], part: &[u8], merge: Merge, mark: Mark, changes: bool) -> boo
         sign(mark);
     }
     node(own, part, merge, mark);
-    end_line()
+    io::write_all(STDOUT_FILENO, b"\n")
 }
 
 // The lines of all that is to come, in one pass; false where one could not be printed, which ends it.
 pub fn print_lines(own: &[u8], part: &[u8], first: Merge, changes: bool) -> bool
     requires { ⌜ Merging (now own) (now part) first ⌝ }
+    ensures { λ r. ⌜ (remaining first ≤ 0 → r ≡ true) ⌝ }
 {
     let mut merge = first;
     while view_merge::has_next(merge) {

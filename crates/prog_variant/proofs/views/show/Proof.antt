@@ -1,12 +1,14 @@
--- `views::show` is safe: what is shown was checked.
-use mathlib.Core.Path.{sym, _∙_}
+-- `views::show` meets its contract: where nothing is asked for it gives true; and what is shown was checked.
+use mathlib.Core.Path.{refl, sym, _∙_}
+use mathlib.Core.Bool.{_||_}
 use borrow.Author.Tests.{not-false}
 use borrow.Author.Needs.{needs}
+use Rattle.prog_variant.proofs.Arguments.{asked-both}
 use Rattle.prog_variant.proofs.views.show.Statement.{statement}
 use Rattle.prog_variant.proofs.views.show.Tie as tie
 
 returns : tie.Need-returns
-returns c = search needs
+returns c = λ h. refl
 
 check-requires : tie.Need-check-requires
 check-requires c κs = search needs
@@ -18,7 +20,9 @@ text-requires : tie.Need-text-requires
 text-requires c κs = search needs
 
 returns-2 : tie.Need-returns-2
-returns-2 c = search needs
+returns-2 c =
+    let a = c .before .before .before .before .before .before .before .before .args .asked in
+    λ h. absurd (asked-both (a .tree || a .changes) (c .before .before .before .before .if1 .left) h)
 
 check-requires-2 : tie.Need-check-requires-2
 check-requires-2 c κs = search needs
@@ -30,7 +34,9 @@ text-requires-2 : tie.Need-text-requires-2
 text-requires-2 c κs = search needs
 
 returns-3 : tie.Need-returns-3
-returns-3 c = search needs
+returns-3 c =
+    let a = c .before .before .before .before .before .before .before .before .before .before .args .asked in
+    λ h. absurd (asked-both (a .tree || a .changes) (c .before .before .before .before .before .before .if1 .left) h)
 
 show-checked-requires : tie.Need-show-checked-requires
 show-checked-requires c κs =
@@ -41,7 +47,9 @@ show-checked-requires c κs =
     )
 
 returns-4 : tie.Need-returns-4
-returns-4 c = search needs
+returns-4 c =
+    let a = c .before .before .before .before .before .before .before .before .before .args .asked in
+    λ h. absurd (asked-both (a .tree || a .changes) (c .before .before .before .before .before .if1 .left) h)
 
 pub show-spec : {M : Type 1} → statement M
 show-spec =
