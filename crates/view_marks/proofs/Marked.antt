@@ -71,10 +71,10 @@ tells-file (directory x) k m z n y b p hk hm hz hb = rw hk (tells-no false refl 
 tells-file deleted k m z n y b p hk hm hz hb = rw hk (tells-no false refl (λ q. bot (cc)))
 
 -- as the code asks it: s tells whether the body b is q, which is p
-pub tells-own-file : (e : Entry) (k m z n y : ℕ) (b q p : Path) (s : Bool) → k ≡ typeOf e → m ≡ mtimeOf e
+pub tells-listed-file : (e : Entry) (k m z n y : ℕ) (b q p : Path) (s : Bool) → k ≡ typeOf e → m ≡ mtimeOf e
     → z ≡ sizeOf e → b ≡ bodyOf e → q ≡ p → s ≡ same b q
     → Tells (eqb k 2 && (eqb m n && (eqb z y && s))) (view e ≡ some (file n y (listed p)))
-tells-own-file e k m z n y b q p s hk hm hz hb hq hs = rw (hs, hq) (tells-file e k m z n y b p hk hm hz hb)
+tells-listed-file e k m z n y b q p s hk hm hz hb hq hs = rw (hs, hq) (tells-file e k m z n y b p hk hm hz hb)
 
 -- what a record lists
 data Lists (r : ListingRecord) : Type 0 where

@@ -35,7 +35,7 @@ fn is_directory(own: &[u8], entries: table_entries::Place, mtime: u64) -> bool
 }
 
 // Whether the entry at a place shows the file that is listed at its own path with this mtime and size.
-fn is_own_file(own: &[u8], entries: table_entries::Place, mtime: u64, size: u64) -> bool
+fn is_listed_file(own: &[u8], entries: table_entries::Place, mtime: u64, size: u64) -> bool
     requires { ⌜ Standing (now own) (entries .left) (entries .at) ⌝ }
     requires { ⌜ 0 < entries .left ⌝ }
     ensures { λ r. ⌜ Tells r (view (entryAt (now (own .entry)) (entries .at))
@@ -63,7 +63,7 @@ fn is_as_listed(own: &[u8], part: &[u8], merge: Merge) -> bool
             return is_directory(own, entries, mtime);
         }
         Found::File(mtime, size) => {
-            return is_own_file(own, entries, mtime, size);
+            return is_listed_file(own, entries, mtime, size);
         }
         Found::Link => {
             return false;

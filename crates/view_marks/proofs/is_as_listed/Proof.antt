@@ -30,8 +30,8 @@ returns c =
 enum-known-found-2 : tie.Need-enum-known-found-2
 enum-known-found-2 c = search needs
 
-is-own-file-requires : tie.Need-is-own-file-requires
-is-own-file-requires c κs = search needs
+is-listed-file-requires : tie.Need-is-listed-file-requires
+is-listed-file-requires c κs = search needs
 
 returns-2 : tie.Need-returns-2
 returns-2 c =
@@ -40,8 +40,8 @@ returns-2 c =
     let r = recordAt (a .part .now) (a .merge .records .at) in
     let e = entryAt (a .own .now) (a .merge .entries .at) in
     let n = c .before .before .before .before .node-at in
-    as-file r e (n .result) (n .ensures) (c .is-own-file .result) _ _ _ (c .before .before .found2 .given .1) (i .pre .1 .2)
-    (c .is-own-file .ensures)
+    as-file r e (n .result) (n .ensures) (c .is-listed-file .result) _ _ _ (c .before .before .found2 .given .1) (i .pre .1 .2)
+    (c .is-listed-file .ensures)
 
 enum-told : tie.Need-enum-told
 enum-told c = search needs
@@ -76,7 +76,7 @@ is-as-listed-spec =
     is-directory-requires
     returns
     enum-known-found-2
-    is-own-file-requires
+    is-listed-file-requires
     returns-2
     enum-told
     returns-3

@@ -1,9 +1,9 @@
--- `is_own_file` meets its contract, by the fields and the body that the entry is stored with.
+-- `is_listed_file` meets its contract, by the fields and the body that the entry is stored with.
 use Rattle.model.specs.Table.{entryAt}
-use Rattle.view_marks.proofs.Marked.{tells-own-file}
+use Rattle.view_marks.proofs.Marked.{tells-listed-file}
 use borrow.Author.Needs.{needs}
-use Rattle.view_marks.proofs.is_own_file.Statement.{statement}
-use Rattle.view_marks.proofs.is_own_file.Tie as tie
+use Rattle.view_marks.proofs.is_listed_file.Statement.{statement}
+use Rattle.view_marks.proofs.is_listed_file.Tie as tie
 
 entry-fields-requires : tie.Need-entry-fields-requires
 entry-fields-requires c κs = search needs
@@ -24,11 +24,11 @@ returns c =
     let k = c .before .before .before .before .before .entry-key in
     let d = c .before .before .before .before .entry-body in
     let s = c .before .before .before .is-same in
-    tells-own-file (entryAt (a .own .now) (a .entries .at)) _ _ _ (a .mtime) (a .size) _ _ _ (s .result) (f .ensures .0)
+    tells-listed-file (entryAt (a .own .now) (a .entries .at)) _ _ _ (a .mtime) (a .size) _ _ _ (s .result) (f .ensures .0)
     (f .ensures .1 .0) (f .ensures .1 .1) (d .ensures) (k .ensures) (s .ensures)
 
-pub is-own-file-spec : {M : Type 1} → statement M
-is-own-file-spec =
+pub is-listed-file-spec : {M : Type 1} → statement M
+is-listed-file-spec =
     tie.close
     (tie.spec
     entry-fields-requires
