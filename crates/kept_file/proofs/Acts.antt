@@ -24,11 +24,12 @@ use Rattle.model.proofs.Words.{IsBytes, Words}
 use Rattle.model.proofs.Codec.{decoded}
 use Rattle.model.proofs.Formed.{fine-is}
 use Rattle.model.proofs.Built.{built-reached, built-runs}
+use Rattle.model.proofs.Listings.{checked}
 use Rattle.kept_file.specs.Kept.{kept, entriesIn, marked, undamaged, fileOf, written, ReadBack, mayRead, readBy, readBack}
 use Rattle.kept_file.specs.Acts.{Act, call, write, read, Filed, Held, nthBack, writtenOf, filed, resumed, readInto, act}
 use Rattle.kept_file.specs.Acts.{WordedActs, ActHolds, HoldsOfActs}
 use Rattle.kept_file.specs.declared.Content.{Content}
-use Rattle.kept_file.proofs.Files.{listing-short, kept-length, kept-listing, kept-entries}
+use Rattle.kept_file.proofs.Files.{kept-length, kept-listing, kept-entries}
 use Rattle.kept_file.proofs.RoundTrip.{all-passed, written-passed, written-file, kept-read-words}
 
 module _ (listing : Bytes) (E : ℕ) (bytes : IsBytes listing) where
@@ -110,7 +111,7 @@ module _ (listing : Bytes) (E : ℕ) (bytes : IsBytes listing) where
     is-ready = ready x (w .built)
 
     short : length listing < 0x1_0000_0000
-    short = let m = listing-short listing (w .well) in omega arith
+    short = let m = checked listing (w .well) .small in omega arith
 
     entries-are : entriesIn (f .file) ≡ entries
     entries-are = ap entriesIn (w .file-is) ∙ kept-entries listing entries short

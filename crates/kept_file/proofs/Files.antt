@@ -2,33 +2,19 @@
 -- undamaged; and that a marked and undamaged file is the file of its parts. Assumes a listing whose length has 32 bits;
 -- each listing in form has one.
 use mathlib.Core.Path.{_≡_, refl, ap, ap₂, sym, _∙_}
-use mathlib.Core.List.{[], _∷_, _++_}
+use mathlib.Core.List.{_++_}
 use mathlib.Core.Bool.{Bool, true, _&&_}
-use Prim.Native.Nat.{ℕ, _+_, _<_, _≤_}
+use Prim.Native.Nat.{ℕ, _+_, _<_}
 use native.Mathlib.Omega.{arith}
-use lib.Dec.{leb, eqb}
 use lib.ListN.{length, take, drop, take-append-drop, length-append}
 use lib.Seq.{drop-drop, take-append-seam, drop-append-seam}
-use borrow.Author.Tests.{leb-true}
-use Rattle.model.specs.Bytes.{Bytes, every, number, numberAt, bytes, same}
-use Rattle.model.specs.Map.{ascends}
-use Rattle.model.specs.Listing.{recordCount, filled, records, headed, treeIn, formedRecord, isListing}
+use Rattle.model.specs.Bytes.{Bytes, number, numberAt, bytes, same}
+use Rattle.model.specs.Listing.{isListing}
 use Rattle.model.proofs.Orders.{same-refl, and-true}
+use Rattle.model.proofs.Listings.{checked}
 use Rattle.model.proofs.Codec.{same-is, number-bytes}
 use Rattle.kept_file.specs.Kept.{head, kept, versionIn, listingStart, listingLength, listingIn, entriesIn}
 use Rattle.kept_file.specs.Kept.{entrySizeIn, isEntries, marked, undamaged}
-
--- a listing in form has at most 16 MiB
-pub listing-short : (l : Bytes) → isListing l ≡ true → length l ≤ 16777216
-listing-short l h =
-    let up : Bool = ascends [] (treeIn l) in
-    let mark : Bool = same (take 3 l) (82 ∷ 68 ∷ 76 ∷ []) in
-    let a = and-true (headed l && filled l (recordCount l) 9 && up) (every (formedRecord (treeIn l)) (records l)) h in
-    let b = and-true (headed l && filled l (recordCount l) 9) up (a .0) in
-    let c = and-true (headed l) (filled l (recordCount l) 9) (b .0) in
-    let d = and-true (leb 9 (length l) && leb (length l) 16777216 && mark) (eqb (numberAt l 3 2) 1) (c .0) in
-    let e = and-true (leb 9 (length l) && leb (length l) 16777216) mark (d .0) in
-    leb-true (length l) 16777216 (and-true (leb 9 (length l)) (leb (length l) 16777216) (e .0) .1)
 
 module _ (l e : Bytes) where
   pub kept-size : length (kept 1 l e) ≡ 13 + length l + length e
@@ -74,7 +60,7 @@ all-three a b c h i j = cc
 pub kept-undamaged : (l e : Bytes) → isListing l ≡ true → isEntries 40 e ≡ true → undamaged (kept 1 l e) ≡ true
 kept-undamaged l e h i =
     let s : Bytes = kept 1 l e in
-    let m = listing-short l h in
+    let m = checked l h .small in
     let short : length l < 0x1_0000_0000 = omega arith in
     let a : listingIn s ≡ l = kept-listing l e short in
     let b : entriesIn s ≡ e = kept-entries l e short in

@@ -24,12 +24,13 @@ use Rattle.model.proofs.Invariant.{then-pass, unless-pass}
 use Rattle.model.proofs.Outputs.{writing-accepted}
 use Rattle.model.proofs.Formed.{bytes-drop}
 use Rattle.model.proofs.Resumed.{words-read}
+use Rattle.model.proofs.Listings.{checked}
 use Rattle.kept_file.specs.Kept.{kept, listingStart, listingLength, listingIn, entriesIn, summed}
 use Rattle.kept_file.specs.Kept.{isEntries, marked, undamaged, fileOf, mayWrite, written, contentOf}
 use Rattle.kept_file.specs.Kept.{mayRead, readBy, readBack}
 use Rattle.kept_file.specs.declared.Content.{Content}
 use Rattle.kept_file.proofs.Entries.{entries-of, are-entries}
-use Rattle.kept_file.proofs.Files.{listing-short, kept-marked, kept-length, kept-listing, kept-entries}
+use Rattle.kept_file.proofs.Files.{kept-marked, kept-length, kept-listing, kept-entries}
 use Rattle.kept_file.proofs.Files.{kept-undamaged, parts}
 
 -- four checks, one after the other, pass where each of the tests does
@@ -108,7 +109,7 @@ read-whole : (listing entries : Bytes) (rec : Record) (buffer : Bytes) → isLis
     }
 read-whole listing entries rec buffer l i r fits small =
     let file : Bytes = kept 1 listing entries in
-    let m = listing-short listing l in
+    let m = checked listing l .small in
     let short : length listing < 0x1_0000_0000 = omega arith in
     let len : listingLength file ≡ length listing = kept-length listing entries short in
     let part : entriesIn file ≡ entries = kept-entries listing entries short in
@@ -137,7 +138,7 @@ module _ (listing table : Bytes) (rec : Record) (l : isListing listing ≡ true)
       let entries : Bytes = encode (tableIn table rec) in
       let d = decoded table rec t in
       let i = entries-of 40 (tableIn table rec) (d .ascending) (d .formed) w (omega arith) (omega arith) in
-      let m = listing-short listing l in
+      let m = checked listing l .small in
       let short : length listing < 0x1_0000_0000 = omega arith in
       let n = moved-table table rec t w (length buffer) fits small in
       record {

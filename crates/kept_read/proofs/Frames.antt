@@ -16,11 +16,12 @@ use Rattle.model.specs.Listing.{isListing}
 use Rattle.model.proofs.Orders.{bot, yea, nay, test, same-no, same-refl, eqb-eq, and-true}
 use Rattle.model.proofs.Words.{IsBytes}
 use Rattle.model.proofs.Codec.{same-is}
+use Rattle.model.proofs.Listings.{checked}
 use Rattle.base_fields.proofs.Pieces.{cut, part-length, piece}
 use Rattle.kept_file.specs.Kept.{head, kept, versionIn, listingLength, listingIn, entriesIn}
 use Rattle.kept_file.specs.Kept.{isEntries, marked, undamaged}
 use Rattle.kept_file.proofs.Entries.{are-entries}
-use Rattle.kept_file.proofs.Files.{listing-short, kept-length, kept-entries-length, marked-begins, marked-version, parts}
+use Rattle.kept_file.proofs.Files.{kept-length, kept-entries-length, marked-begins, marked-version, parts}
 use Rattle.kept_read.specs.Frame.{listingEnd, framed}
 
 abbrev mark : Bytes
@@ -150,7 +151,7 @@ module _ (s : Bytes) (m : marked s ≡ true) where
       let p = parts s m u in
       let l : Bytes = listingIn s in
       let e : Bytes = entriesIn s in
-      let sl = listing-short l (p .listing) in
+      let sl = checked l (p .listing) .small in
       let se = are-entries 40 e (p .entries) .short in
       let ll : length l < 0x1_0000_0000 = omega arith in
       let n : listingLength s ≡ length l = ap listingLength (p .file) ∙ kept-length l e ll in

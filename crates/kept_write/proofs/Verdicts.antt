@@ -19,18 +19,19 @@ use Rattle.model.specs.declared.Record.{Record}
 use Rattle.model.proofs.Orders.{and-true}
 use Rattle.model.proofs.Codec.{decoded}
 use Rattle.model.proofs.Outputs.{writing-accepted, writing-refused}
+use Rattle.model.proofs.Listings.{checked}
 use Rattle.kept_file.specs.Kept.{kept, fileOf, mayWrite, written, toldWriting}
 use Rattle.kept_file.specs.declared.Writing.{Writing}
 use Rattle.kept_file.specs.declared.Writing.the-variants as writing
 use Rattle.kept_file.proofs.Writing.{the-type}
-use Rattle.kept_file.proofs.Files.{listing-short, kept-size}
+use Rattle.kept_file.proofs.Files.{kept-size}
 use Rattle.kept_file.proofs.RoundTrip.{all-passed}
 use Rattle.kept_write.proofs.Files.{used-is, used-bytes, used-within}
 
 -- listing and entries together: no sum wraps
 pub small : (l s : Bytes) (r : Record) → isTable s r ≡ true → isListing l ≡ true → length l + r .used ≤ 33554432
 small l s r t i =
-    let a = listing-short l i in
+    let a = checked l i .small in
     let z = and-true (leb (r .«entry_size») 4096) (leb (length s) 16777216) (decoded s r t .size) in
     let b = leb-true (length s) 16777216 (z .1) in
     let c = used-within s r t in

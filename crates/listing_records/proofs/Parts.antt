@@ -21,7 +21,8 @@ use Rattle.model.proofs.Maps.{Above, Ascending, ascends-is}
 use Rattle.base_fields.specs.Read.{part}
 use Rattle.listing_records.specs.Place.{treeAt, Standing}
 use Rattle.listing_records.specs.Parts.{recordsBelow, PartOf}
-use Rattle.listing_records.proofs.Places.{checked, standing-all, stands, first-record, climbs, path-here}
+use Rattle.model.proofs.Listings.{checked}
+use Rattle.listing_records.proofs.Places.{standing-all, stands, first-record, climbs, path-here}
 
 -- every path between two that are below d is below d
 closed : (x y z : ℕ) (a b c : Path) → Lt (x ∷ a) (y ∷ b) → Lt (y ∷ b) (z ∷ c) → x ≡ z → (x ≡ y) × (Lt a b × Lt b c)

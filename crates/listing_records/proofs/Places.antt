@@ -5,48 +5,23 @@ use mathlib.Core.List.{[], _∷_}
 use mathlib.Core.Option.{none, some}
 use Prim.Native.Nat.{ℕ, zero, suc, _+_, _-_, _<_, _≤_}
 use native.Mathlib.Omega.{arith}
-use lib.Dec.{leb, eqb}
+use lib.Dec.{leb}
 use native.Mathlib.Nat.{add-sub-cancel-left}
 use lib.ListN.{length, take, drop, getD}
 use borrow.Author.Tests.{leb-true, eq-eqb, ne-eqb}
-use Rattle.model.specs.Bytes.{Bytes, every, numberAt, same, before}
+use Rattle.model.specs.Bytes.{Bytes, numberAt, same, before}
 use Rattle.model.specs.Path.{Path}
-use Rattle.model.specs.Map.{lookup, ascends}
+use Rattle.model.specs.Map.{lookup}
 use Rattle.model.specs.Tree.{Tree}
-use Rattle.model.specs.Listing.{recordAt, recordEnd, recordCount, recordsFrom, records, filled, headed, nodeOf, treeFrom, treeIn, formedRecord, isListing}
+use Rattle.model.specs.Listing.{recordAt, recordEnd, recordCount, recordsFrom, records, filled, nodeOf, treeFrom, treeIn, isListing}
 use Rattle.model.proofs.Orders.{Lt, Cmp, cmp, yea, nay, test, and-true}
+use Rattle.model.proofs.Listings.{checked}
 use Rattle.model.proofs.Maps.{Above, Ascending, ascends-is, is-ascends, above-trans, lookup-low}
 use Rattle.listing_records.specs.Place.{treeAt, Standing, seekFrom, nodeIf}
 use Rattle.listing_records.specs.Found.{foundOf}
 use Rattle.listing_records.specs.declared.Place.{Place}
 use Rattle.listing_records.specs.declared.Found.{Found}
 use Rattle.listing_records.specs.declared.Found.the-variants as found
-
--- the rules of a listing, one by one
-pub record Checked (s : Bytes) : Type 0 where
-  pub long : 9 ≤ length s
-  pub small : length s ≤ 16777216
-  pub full : filled s (recordCount s) 9 ≡ true
-  pub up : ascends [] (treeIn s) ≡ true
-  pub formed : every (formedRecord (treeIn s)) (records s) ≡ true
-
-pub checked : (s : Bytes) → isListing s ≡ true → Checked s
-checked s h =
-    let l = treeIn s in
-    let a = and-true (headed s && filled s (recordCount s) 9 && ascends [] l) (every (formedRecord l) (records s)) h in
-    let b = and-true (headed s && filled s (recordCount s) 9) (ascends [] l) (a .0) in
-    let c = and-true (headed s) (filled s (recordCount s) 9) (b .0) in
-    let mark = same (take 3 s) (82 ∷ 68 ∷ 76 ∷ []) in
-    let d = and-true (leb 9 (length s) && leb (length s) 16777216 && mark) (eqb (numberAt s 3 2) 1) (c .0) in
-    let e = and-true (leb 9 (length s) && leb (length s) 16777216) mark (d .0) in
-    let f = and-true (leb 9 (length s)) (leb (length s) 16777216) (e .0) in
-    record {
-      long = leb-true 9 (length s) (f .0);
-      small = leb-true (length s) 16777216 (f .1);
-      full = c .1;
-      up = b .1;
-      formed = a .1;
-    }
 
 -- all records stand from the first on
 pub standing-all : (s : Bytes) (n : ℕ) → isListing s ≡ true → n ≡ recordCount s → Standing s n 9

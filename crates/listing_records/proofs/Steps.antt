@@ -26,7 +26,8 @@ use Rattle.listing_records.specs.declared.Place.{Place}
 use Rattle.listing_records.specs.declared.Found.{Found}
 use Rattle.listing_records.specs.declared.RealTarget.{RealTarget}
 use Rattle.listing_records.specs.declared.ComponentWalk.{ComponentWalk}
-use Rattle.listing_records.proofs.Places.{checked, standing-all, seek-stands, found-first}
+use Rattle.model.proofs.Listings.{checked}
+use Rattle.listing_records.proofs.Places.{standing-all, seek-stands, found-first}
 
 pub found-kind : (n : Option Node) → foundKind (foundOf n) ≡ kindOf n
 found-kind none = refl

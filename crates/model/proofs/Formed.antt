@@ -3,7 +3,7 @@
 -- Assumes that a listing's bytes are bytes, and that a call's mtime is a 64-bit number.
 use mathlib.Core.Path.{_≡_, refl, ap, sym, subst, _∙_}
 use mathlib.Core.List.{List, [], _∷_, _++_}
-use mathlib.Core.Bool.{Bool, true, false, cond, _&&_}
+use mathlib.Core.Bool.{Bool, true, false, cond}
 use mathlib.Core.Logic.{_⊎_, inl, inr}
 use mathlib.Core.Option.{Option, none, some}
 use Prim.Native.Nat.{ℕ, zero, suc, _+_, _^_, _<_}
@@ -17,14 +17,15 @@ use Rattle.model.specs.Path.{Path, short, isPath, ancestors, below, rest
 use Rattle.model.specs.Map.{Map, byRest, lookup, ascends, put, puts, only, each, keys, rekey, mapped}
 use Rattle.model.specs.Tree.{Body, listed, Node, dir, file, link, Entry, own, directory, deleted, Table, Tree, View, shown}
 use Rattle.model.specs.Tree.{Kind, nothing, aDirectory, aFile, aLink, kind, isNothing, isDirectory}
-use Rattle.model.specs.Listing.{ListingRecord, recordAt, recordEnd, recordCount, filled, recordsFrom, records, headed, ruled, nodeOf}
-use Rattle.model.specs.Listing.{treeFrom, treeIn, placed, formedRecord, isListing}
+use Rattle.model.specs.Listing.{ListingRecord, recordAt, recordEnd, recordCount, recordsFrom, records, ruled, nodeOf}
+use Rattle.model.specs.Listing.{treeFrom, treeIn, formedRecord, isListing}
 use Rattle.model.specs.Table.{formedBody, formedEntry}
 use Rattle.model.specs.Checks.{pass, form, writeChecks, missing, makes, unlinkChecks, notRoot, rmdirChecks}
 use Rattle.model.specs.Checks.{limited, charged}
 use Rattle.model.specs.Rename.{asEntry, uncovered, along, carried, moved, renameChecks}
 use Rattle.model.specs.Calls.{Call, write, mkdir, unlink, rmdir, rename, changed, forms, rules}
 use Rattle.model.proofs.Orders.{bot, yea, nay, test, and-true, is-none, is-some, opt, eqb-eq, same-refl, Split, split}
+use Rattle.model.proofs.Listings.{parts, checked}
 use Rattle.model.proofs.Orders.{Lt, mem, mem-ancestors, rest-is}
 use Rattle.model.proofs.Maps.{Above, Ascending, lookup-low, ascends-is, is-ascends, ascending-put, ascending-puts}
 use Rattle.model.proofs.Maps.{orElse, mapO, lookup-put, lookup-puts, lookup-each, lookup-keys, lookup-mapped, lookup-only, lookup-rekey}
@@ -221,18 +222,6 @@ is-dir aDirectory h = refl
 is-dir aFile h = cc
 is-dir aLink h = cc
 
--- the parts of a record's form
-record Parts (l : Tree) (r : ListingRecord) : Type 0 where
-  path-is : isPath (r .path) ≡ true
-  rules-are : ruled r ≡ true
-  placed-is : placed l r ≡ true
-
-parts : (l : Tree) (r : ListingRecord) → formedRecord l r ≡ true → Parts l r
-parts l r h =
-    let e = and-true (isPath (r .path) && ruled r) (placed l r) h in
-    let f = and-true (isPath (r .path)) (ruled r) (e .0) in
-    record { path-is = f .0; rules-are = f .1; placed-is = e .1 }
-
 node-held : (r : ListingRecord) → ruled r ≡ true → (m z : ℕ) (d : Body) → nodeOf r ≡ file m z d → d ≡ listed (r .path)
 node-held r u m z d h = elim (node-of r u) [ of-dir e ↦ cc | of-file e y ↦ cc | of-link e ↦ cc ]
 
@@ -268,10 +257,8 @@ module _ (rs : List ListingRecord) (a : AllSound (treeFrom rs) rs) (o : ascends 
 
 pub listing-fine : (s : Bytes) → IsBytes s → isListing s ≡ true → Listing (treeIn s)
 listing-fine s b h =
-    let l = treeIn s in
-    let e = and-true (headed s && filled s (recordCount s) 9 && ascends [] l) (every (formedRecord l) (records s)) h in
-    let f = and-true (headed s && filled s (recordCount s) 9) (ascends [] l) (e .0) in
-    tree-listing (records s) (all-sound l s b (recordCount s) 9 (e .1)) (f .1)
+    let c = checked s h in
+    tree-listing (records s) (all-sound (treeIn s) s b (recordCount s) 9 (c .formed)) (c .up)
 
 -- an entry put, and many
 fine-put : (t : Table) (k : Path) (e : Entry) → FineTable t → Fine k e → FineTable (put k e t)

@@ -15,6 +15,7 @@ pub mod Moves
 pub mod Passed
 pub mod Agree
 pub mod Effects
+pub mod Listings
 pub mod Formed
 pub mod Shapes
 pub mod Outputs

@@ -65,6 +65,17 @@ Lt-trans (x ∷ xs) (y ∷ ys) (z ∷ zs) (inl h) (inr k) = inl (omega arith)
 Lt-trans (x ∷ xs) (y ∷ ys) (z ∷ zs) (inr h) (inl k) = inl (omega arith)
 Lt-trans (x ∷ xs) (y ∷ ys) (z ∷ zs) (inr h) (inr k) = inr (omega arith, Lt-trans xs ys zs (h .1) (k .1))
 
+-- two paths with the same beginning stand as what follows it in them
+pub Lt-same : (a r s : Path) → Lt r s → Lt (a ++ r) (a ++ s)
+Lt-same [] r s h = h
+Lt-same (x ∷ a) r s h = inr (refl, Lt-same a r s h)
+
+-- and the other way round
+pub Lt-after : (a r s : Path) → Lt (a ++ r) (a ++ s) → Lt r s
+Lt-after [] r s h = h
+Lt-after (x ∷ a) r s (inl h) = absurd (omega arith)
+Lt-after (x ∷ a) r s (inr h) = Lt-after a r s (h .1)
+
 pub data PathOrder (a b : Path) : Ordering → Type 0 where
   less : Lt a b → PathOrder a b Ordering·lt
   equal : a ≡ b → PathOrder a b Ordering·eq

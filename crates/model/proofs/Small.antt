@@ -232,11 +232,11 @@ module _ (t : Table) (l : Tree) (p : Path) (w : ℕ) where
       ] in
       cc (none-visible (shown t l) p (keys t) v, none-visible (shown t l) p (keys l) v)
 
-rmdir-dir : (n : ℕ) (k : Kind) → directoryAt n k ≡ pass → k ≡ aDirectory
-rmdir-dir n nothing h = cc
-rmdir-dir n aDirectory h = refl
-rmdir-dir n aFile h = cc
-rmdir-dir n aLink h = cc
+pub is-directory : (n : ℕ) (k : Kind) → directoryAt n k ≡ pass → k ≡ aDirectory
+is-directory n nothing h = cc
+is-directory n aDirectory h = refl
+is-directory n aFile h = cc
+is-directory n aLink h = cc
 
 pub root-refused : (w : ℕ) (p : Path) → notRoot w p ≡ pass → p ≡ [] → ⊥
 root-refused w [] h e = bot (cc)
@@ -263,7 +263,7 @@ module _ (t : Table) (l : Tree) (i : Inv t l) (p : Path) where
       record {
         proper = root-refused 0 p (a .0);
         isDir = rmdir-entry (length p) (lookup t p) (parentChecks 0 (shown t l) p then directoryAt (length p) (kind (shown t l) p)) (kind (shown t l) p) (b .0)
-            (λ y. rmdir-dir (length p) (kind (shown t l) p) (then-pass (parentChecks 0 (shown t l) p) (directoryAt (length p) (kind (shown t l) p)) y .1))
+            (λ y. is-directory (length p) (kind (shown t l) p) (then-pass (parentChecks 0 (shown t l) p) (directoryAt (length p) (kind (shown t l) p)) y .1))
             (λ m e. kind-entry t l i p (directory m) e);
         empty = childless-empty t l p 0 (i .closed) (b .1);
       }

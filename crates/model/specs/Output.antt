@@ -1,9 +1,9 @@
 -- A call that fills an output buffer: what it answers, and what it leaves in the buffer.
+use lib.ListN.{length}
 use Rattle.model.specs.Bytes.{Bytes}
 use Rattle.model.specs.Table.{padded}
 use Rattle.model.specs.Checks.{Check, pass, refuse}
 use Rattle.model.specs.Answer.{Reply, accepted, refused}
-use lib.ListN.{length}
 
 pub record Written : Type 0 where
   pub reply : Reply

@@ -16,10 +16,11 @@ use Rattle.model.specs.Output.{writtenBy}
 use Rattle.model.specs.declared.Record.{Record}
 use Rattle.model.proofs.Orders.{and-true}
 use Rattle.model.proofs.Codec.{decoded}
+use Rattle.model.proofs.Listings.{checked}
 use Rattle.kept_file.specs.Kept.{fileOf, written, ReadBack, readBack, toldWriting, toldReading, toldContent}
 use Rattle.kept_file.specs.declared.Writing.{Writing}
 use Rattle.kept_file.specs.declared.Reading.{Reading}
-use Rattle.kept_file.proofs.Files.{listing-short, kept-size}
+use Rattle.kept_file.proofs.Files.{kept-size}
 use Rattle.kept_file.proofs.RoundTrip.{all-passed}
 use Rattle.overlay_packed.specs.Packed.{packed, Fits, recordIn, contentNumbers, contentPlace}
 use Rattle.overlay.specs.Exported.{isFour, isTwo, writeLeft, keptWritten, readLeft, keptRead}
@@ -37,7 +38,7 @@ module _ (l t : Bytes) (r : Record) (o : Bytes) where
       let d = decoded t r h in
       let a = d .fits in
       let b = leb-true (length t) 16777216 (and-true (leb (r .«entry_size») 4096) (leb (length t) 16777216) (d .size) .1) in
-      let c = listing-short l g in
+      let c = checked l g .small in
       omega arith
 
   checks-fit : (a b c d : Bool) → ((unless 1 a then unless 2 b then unless 16 c then unless 13 d) ≡ pass → length file < 0x1_0000_0000_0000)

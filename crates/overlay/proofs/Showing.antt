@@ -21,9 +21,9 @@ use Rattle.model.specs.declared.Answer.{Answer}
 use Rattle.model.specs.declared.Record.{Record}
 use Rattle.model.proofs.Orders.{and-true}
 use Rattle.model.proofs.Codec.{decoded, path-short}
+use Rattle.model.proofs.Listings.{checked}
 use Rattle.show_names.specs.Names.{linkOnWay, childNames, showing}
 use Rattle.show_names.proofs.Bounds.{names-bound}
-use Rattle.kept_file.proofs.Files.{listing-short}
 use Rattle.overlay_packed.specs.Packed.{packed, Fits, recordIn}
 use Rattle.overlay.specs.Exported.{writeLeft, childrenShown}
 use Rattle.overlay.proofs.Filling.{not-filled, fill-settled}
@@ -37,7 +37,7 @@ module _ (l t : Bytes) (r : Record) (p : Path) (o : Bytes) where
   names-small h g =
       let a = names-bound l t r p (record { is-listing = g; is-table = h }) in
       let b = leb-true (length t) 16777216 (and-true (leb (r .«entry_size») 4096) (leb (length t) 16777216) (decoded t r h .size) .1) in
-      let c = listing-short l g in
+      let c = checked l g .small in
       omega arith
 
   checks-fit : (a b f x : Bool) (k : Kind) (d : Bool) → (f ≡ true → length p ≤ 512) → (a ≡ true → b ≡ true → length names < 0x1_0000_0000_0000)

@@ -15,7 +15,8 @@ use Rattle.model.proofs.Orders.{and-true}
 use Rattle.base_fields.specs.Read.{part}
 use Rattle.listing_records.specs.Place.{treeAt}
 use Rattle.listing_records.specs.Parts.{PartOf}
-use Rattle.listing_records.proofs.Places.{checked, first-record}
+use Rattle.model.proofs.Listings.{checked}
+use Rattle.listing_records.proofs.Places.{first-record}
 use Rattle.listing_records.proofs.Parts.{part-tree}
 use Rattle.rename_uncovered.specs.Ahead.{fitting}
 use Rattle.rename_carried.specs.Streams.{remaining, Streaming, Next}

@@ -1,7 +1,6 @@
 -- What rename moves: its keys and their order, and when nothing that moves meets what is deleted.
 -- Assumes nothing but what each law names: lists whose keys ascend, and keys at or below the source.
 use mathlib.Core.Path.{_≡_, refl, ap, ap₂, sym, _∙_}
-use mathlib.Core.Logic.{inl, inr}
 use mathlib.Core.List.{List, [], _∷_, _++_}
 use mathlib.Core.Bool.{Bool, true, false, not, _||_}
 use mathlib.Core.Option.{Option, none, some}
@@ -13,7 +12,7 @@ use Rattle.model.specs.Path.{Path, ancestors, below, rest}
 use Rattle.model.specs.Map.{Map, isNone, lookup, puts, only, each, keys, rekey, mapped}
 use Rattle.model.specs.Tree.{Node, Entry, deleted, Table, Tree, shown, aDirectory, aFile, kind, isDirectory}
 use Rattle.model.specs.Rename.{newKey, asEntry, uncovered, along, carried, moved}
-use Rattle.model.proofs.Orders.{Lt, Split, split, yea, nay, test, is-none, is-some, opt}
+use Rattle.model.proofs.Orders.{Lt, Lt-same, Lt-after, Split, split, yea, nay, test, is-none, is-some, opt}
 use Rattle.model.proofs.Orders.{bot, and-true, same-refl, mem, mem-ancestors, below-irrefl, below-trans, below-rest, rest-is, rest-self}
 use Rattle.model.proofs.Maps.{Above, Ascending, above-trans, orElse, mapO, map-ext, ascending-mapped}
 use Rattle.model.proofs.Maps.{lookup-puts, lookup-rekey, lookup-keys, lookup-mapped, lookup-only, ascending-puts, ascending-only}
@@ -34,17 +33,6 @@ new-length a b q r h =
     let n = ap length (new-key a b q r h) ∙ length-append b r in
     let o = ap length (rest-is a q r h .0) ∙ length-append a r in
     omega arith
-
--- two paths with the same beginning stand as what follows it in them
-Lt-same : (a r s : Path) → Lt r s → Lt (a ++ r) (a ++ s)
-Lt-same [] r s h = h
-Lt-same (x ∷ a) r s h = inr (refl, Lt-same a r s h)
-
--- and the other way round
-Lt-after : (a r s : Path) → Lt (a ++ r) (a ++ s) → Lt r s
-Lt-after [] r s h = h
-Lt-after (x ∷ a) r s (inl h) = absurd (omega arith)
-Lt-after (x ∷ a) r s (inr h) = Lt-after a r s (h .1)
 
 -- the order of two paths at or below a is that of their new keys
 pub new-order : (a b p q r s : Path) → rest a p ≡ some r → rest a q ≡ some s → Lt p q → Lt (b ++ r) (b ++ s)

@@ -21,7 +21,7 @@ use Rattle.model.proofs.Orders.{bot, and-true, yea, nay, test, Split, split}
 use Rattle.model.proofs.Maps.{Ascending, ascends-is}
 use Rattle.model.proofs.Maps.{lookup-puts, lookup-only, lookup-mapped, lookup-keys, lookup-low, ascending-puts}
 use Rattle.model.proofs.Codec.{decoded, same-is, path-short}
-use Rattle.listing_records.proofs.Places.{checked}
+use Rattle.model.proofs.Listings.{checked}
 use Rattle.table_insert.proofs.Inserts.{bounds}
 use Rattle.rename_carried.specs.Streams.{carriedBelow}
 use Rattle.rename_laws.proofs.Records.{Apart, weight, total-put, apart-used, apart-count, apart-charge, charge-total}

@@ -20,7 +20,7 @@ use Rattle.model.proofs.Orders.{bot, and-true, Split, split, is-none, is-some, 
 use Rattle.model.proofs.Maps.{orElse, mapO}
 use Rattle.model.proofs.Codec.{decoded, path-short}
 use Rattle.model.proofs.Invariant.{kind-at}
-use Rattle.listing_records.proofs.Places.{checked}
+use Rattle.model.proofs.Listings.{checked}
 use Rattle.table_measure.proofs.Passes.{bytes-cons}
 use Rattle.rename_laws.proofs.Moves.{loose-top, found-top}
 use Rattle.rename_measure.specs.Tallies.{Source}

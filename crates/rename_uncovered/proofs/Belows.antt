@@ -21,7 +21,7 @@ use Rattle.model.proofs.Codec.{path-short}
 use Rattle.base_fields.specs.Read.{part}
 use Rattle.listing_records.specs.Place.{treeAt, Standing}
 use Rattle.listing_records.specs.Parts.{PartOf}
-use Rattle.listing_records.proofs.Places.{checked}
+use Rattle.model.proofs.Listings.{checked}
 use Rattle.listing_records.proofs.Parts.{part-tree}
 use Rattle.listing_records.proofs.Steps.{not-listed-below}
 use Rattle.rename_uncovered.specs.Ahead.{fitting, Placed, PartBelow, toCome}

@@ -18,7 +18,8 @@ use Rattle.model.proofs.Orders.{Lt, below-Lt}
 use Rattle.model.proofs.Maps.{Ascending}
 use Rattle.listing_records.specs.Place.{treeAt, Standing}
 use Rattle.listing_records.specs.declared.Place.{Place}
-use Rattle.listing_records.proofs.Places.{checked, standing-all, first-record}
+use Rattle.model.proofs.Listings.{checked}
+use Rattle.listing_records.proofs.Places.{standing-all, first-record}
 use Rattle.table_entries.specs.declared.Place as entry
 use Rattle.table_entries.specs.Place.{Sought}
 use Rattle.table_entries.proofs.Cuts.{lookup-since}

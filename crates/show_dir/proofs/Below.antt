@@ -24,7 +24,7 @@ use Rattle.base_fields.specs.Read.{part}
 use Rattle.listing_records.specs.Place as listing
 use Rattle.listing_records.specs.Parts as listed
 use Rattle.listing_records.specs.declared.Place as records
-use Rattle.listing_records.proofs.Places.{checked}
+use Rattle.model.proofs.Listings.{checked}
 use Rattle.listing_records.proofs.Parts.{part-tree}
 use Rattle.table_entries.specs.Place as table
 use Rattle.table_entries.specs.declared.Place as entries

@@ -10,18 +10,18 @@ use lib.Dec.{leb}
 use lib.ListN.{length, drop, length-append, length-drop}
 use lib.Seq.{length-take-le}
 use borrow.Author.Tests.{leb-true}
-use Rattle.model.specs.Bytes.{Bytes, every, numberAt}
+use Rattle.model.specs.Bytes.{Bytes, numberAt}
 use Rattle.model.specs.Path.{Path}
-use Rattle.model.specs.Map.{Map, put, del, ascends}
+use Rattle.model.specs.Map.{Map, put, del}
 use Rattle.model.specs.Tree.{Node, Table, Tree, view, kindOf}
-use Rattle.model.specs.Listing.{recordAt, recordEnd, recordCount, filled, recordsFrom, records, headed, treeFrom, treeIn}
-use Rattle.model.specs.Listing.{formedRecord, isListing}
+use Rattle.model.specs.Listing.{recordAt, recordEnd, recordCount, filled, recordsFrom, treeFrom, treeIn}
 use Rattle.model.specs.Table.{entryBytes, encode, tableIn}
 use Rattle.model.specs.Outcome.{Given}
 use Rattle.model.specs.Plain.{laid, visibleTree}
 use Rattle.model.specs.declared.Record.{Record}
 use Rattle.model.proofs.Orders.{yea, nay, test, eqb-eq, and-true, Split, split, Cmp, cmp}
 use Rattle.model.proofs.Codec.{entry-length, decoded}
+use Rattle.model.proofs.Listings.{checked}
 use Rattle.show_names.specs.Names.{childOf, nameStart, isLink, names, nameBytes, childNames}
 
 -- what a map's paths take as names, were each shown whole: two bytes of length and the path
@@ -91,13 +91,6 @@ weight-listed s (suc n) at h =
     let i = weight-listed s n (recordEnd s at) (e .1) in
     omega arith
 
-listing-filled : (s : Bytes) → isListing s ≡ true → filled s (recordCount s) 9 ≡ true
-listing-filled s h =
-    let l = treeIn s in
-    let u = and-true (headed s && filled s (recordCount s) 9 && ascends [] l) (every (formedRecord l) (records s)) h in
-    let v = and-true (headed s && filled s (recordCount s) 9) (ascends [] l) (u .0) in
-    and-true (headed s) (filled s (recordCount s) 9) (v .0) .1
-
 pub names-bound : (listing table : Bytes) (rec : Record) (p : Path) → Given listing table rec
     → length (childNames listing table rec p) ≤ length listing + length table
 names-bound listing table rec p given =
@@ -107,5 +100,5 @@ names-bound listing table rec p given =
     let b = weight-visible t l in
     let c = weight-encoded t in
     let d = decoded table rec (given .is-table) .fits in
-    let e = weight-listed listing (recordCount listing) 9 (listing-filled listing (given .is-listing)) in
+    let e = weight-listed listing (recordCount listing) 9 (checked listing (given .is-listing) .full) in
     omega arith

@@ -17,12 +17,13 @@ use Rattle.model.specs.Map.{lookup, ascends}
 use Rattle.model.specs.Tree.{Node, dir, file, link, Table, Tree, shown, kindOf}
 use Rattle.model.specs.Calls.{exists, says}
 use Rattle.model.specs.Plain.{visibleTree}
-use Rattle.model.proofs.Orders.{bot, yea, nay, test, eqb-true, eqb-eq, and-true, same-refl, Split, split, Lt, Cmp, cmp}
-use Rattle.model.proofs.Orders.{is-none, is-some, opt, Lt-irrefl, Lt-trans, Lt-≢}
+use Rattle.model.proofs.Orders.{bot, yea, nay, test, eqb-true, eqb-eq, and-true, same-refl, Split, split, Lt, Lt-after}
+use Rattle.model.proofs.Orders.{is-none, is-some, opt}
 use Rattle.model.proofs.Maps.{Above, Ascending, above-trans, lookup-low, ascends-is}
 use Rattle.model.proofs.Codec.{number-bytes, path-short}
 use Rattle.model.proofs.Texts.{path-moved}
 use Rattle.model.proofs.Resumed.{visible-is, visible-sorted}
+use Rattle.base_fields.proofs.Common.{Lt-before}
 use Rattle.show_names.specs.Names.{childOf, nameStart, isLink, names, nameBytes}
 use Rattle.show_names.specs.Shows.{isName, childPath, among, rising, showsAt}
 
@@ -91,23 +92,11 @@ module _ (p n : Path) where
       ]
 
 -- children of one path stand in the order of their names
-Lt-behind : (a r s : Path) → Lt (a ++ r) (a ++ s) → Lt r s
-Lt-behind [] r s h = h
-Lt-behind (c ∷ a) r s (inl h) = absurd (omega arith)
-Lt-behind (c ∷ a) r s (inr h) = Lt-behind a r s (h .1)
-
 child-order : (p m n : Path) → Lt (childPath p m) (childPath p n) → Lt m n
 child-order [] m n h = h
-child-order (c ∷ p) m n h = elim (Lt-behind (c ∷ p) (47 ∷ m) (47 ∷ n) h) [
+child-order (c ∷ p) m n h = elim (Lt-after (c ∷ p) (47 ∷ m) (47 ∷ n) h) [
   | inl g ↦ absurd (omega arith)
   | inr g ↦ g .1
-]
-
-before-is : (m n : Path) → Lt m n → before m n ≡ true
-before-is m n h = elim (cmp m n) [
-  | Cmp.lt g w ↦ cc
-  | Cmp.eq g w ↦ absurd (Lt-≢ m n h g)
-  | Cmp.gt g w ↦ absurd (Lt-irrefl m (Lt-trans m n m h g))
 ]
 
 module _ (p : Path) where
@@ -121,7 +110,7 @@ module _ (p : Path) where
         | yea e ↦
             let n : Path = drop (nameStart p) (x .0) in
             let k : x .0 ≡ childPath p n = child-is p (x .0) e in
-            let o = before-is m n (child-order p m n (subst (Lt (childPath p m)) k h)) in
+            let o = Lt-before m n (child-order p m n (subst (Lt (childPath p m)) k h)) in
             let ih = rising-behind n xs (subst (λ (q : Path). Above q xs) k (a .0)) (a .1) in
             elim (test (isLink (kindOf (some (x .1))))) [ yea z ↦ cc | nay z ↦ cc ]
       ]

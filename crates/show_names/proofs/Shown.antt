@@ -10,10 +10,10 @@ use lib.ListN.{length}
 use borrow.Author.Tests.{le-leb}
 use Rattle.model.specs.Bytes.{Bytes, every, some?}
 use Rattle.model.specs.Path.{Path, isPath, ancestors}
-use Rattle.model.specs.Map.{isNone, lookup, ascends}
+use Rattle.model.specs.Map.{isNone, lookup}
 use Rattle.model.specs.Tree.{Node, Entry, Table, Tree, shown, Kind, nothing, aDirectory, aFile, aLink, kind}
 use Rattle.model.specs.Tree.{isDirectory}
-use Rattle.model.specs.Listing.{ListingRecord, recordCount, filled, records, headed, ruled, treeFrom, treeIn, placed}
+use Rattle.model.specs.Listing.{ListingRecord, records, treeFrom, treeIn}
 use Rattle.model.specs.Listing.{formedRecord, isListing}
 use Rattle.model.specs.Table.{formedBody, formedEntry, tableIn, isTable}
 use Rattle.model.specs.Checks.{Check, pass, refuse, _then_, unless, form, directoryAt}
@@ -26,6 +26,8 @@ use Rattle.model.proofs.Orders.{bot, yea, nay, test, and-true, Split, split, is
 use Rattle.model.proofs.Maps.{ascends-is}
 use Rattle.model.proofs.Codec.{decoded}
 use Rattle.model.proofs.Invariant.{then-pass, unless-pass, form-is}
+use Rattle.model.proofs.Listings.{parts, checked}
+use Rattle.model.proofs.Small.{is-directory}
 use Rattle.model.proofs.Outputs.{writing-accepted, writing-refused}
 use Rattle.model.proofs.Resumed.{visible-is, visible-sorted}
 use Rattle.show_names.specs.Names.{isLink, names, nameBytes, linkOnWay, showChecks, childNames, mayShow, showing}
@@ -51,21 +53,15 @@ listed-in : (l : Tree) (rs : List ListingRecord) (k : Path) (n : Node) → every
 listed-in l [] k n f h = absurd (bot (cc))
 listed-in l (r ∷ rs) k n f h =
     let u = and-true (formedRecord l r) (every (formedRecord l) rs) f in
-    let v = and-true (isPath (r .path) && ruled r) (placed l r) (u .0) in
+    let v = parts l r (u .0) in
     elim (split (r .path) k) [
-      | Split.eq a w ↦ subst (InDirectories l) a (and-true (isPath (r .path)) (ruled r) (v .0) .0, v .1)
+      | Split.eq a w ↦ subst (InDirectories l) a (v .path-is, v .placed-is)
       | Split.ne a w ↦ listed-in l rs k n (u .1) (cc)
     ]
 
--- a listing in form: it ascends, and lists paths in listed directories
-listing-parts : (s : Bytes) → isListing s ≡ true
-    → (ascends [] (treeIn s) ≡ true)
-    × ((k : Path) (n : Node) → lookup (treeIn s) k ≡ some n → InDirectories (treeIn s) k)
-listing-parts s h =
-    let l = treeIn s in
-    let u = and-true (headed s && filled s (recordCount s) 9 && ascends [] l) (every (formedRecord l) (records s)) h in
-    let v = and-true (headed s && filled s (recordCount s) 9) (ascends [] l) (u .0) in
-    (v .1, λ k n g. listed-in l (records s) k n (u .1) g)
+listing-in : (s : Bytes) → isListing s ≡ true → (k : Path) (n : Node) → lookup (treeIn s) k ≡ some n
+    → InDirectories (treeIn s) k
+listing-in s h k n g = listed-in (treeIn s) (records s) k n (checked s h .formed) g
 
 -- among directories is no link
 none-link : (g : Path → Kind) (ks : List Path) → every (λ q. isDirectory (g q)) ks ≡ true
@@ -98,7 +94,7 @@ module _ (listing table : Bytes) (rec : Record) (given : Given listing table rec
       let g = visible-is t l k in
       elim (opt (lookup t k)) [
         | is-some e w ↦ entry-path t k e (decoded table rec (given .is-table) .formed) w
-        | is-none w ↦ listing-parts listing (given .is-listing) .1 k v (cc) .0
+        | is-none w ↦ listing-in listing (given .is-listing) k v (cc) .0
       ]
 
   -- every name that is shown has a length of 16 bits
@@ -106,7 +102,7 @@ module _ (listing table : Bytes) (rec : Record) (given : Given listing table rec
   shown-fit p =
       let t = tableIn table rec in
       let l = treeIn listing in
-      let al = listing-parts listing (given .is-listing) .0 in
+      let al = checked listing (given .is-listing) .up in
       names-fit p (visibleTree t l) (visible-sorted t l (ascends-is [] l al .1)) visible-formed
 
   -- so no other names, with lengths of 16 bits, have the bytes that are shown
@@ -123,7 +119,7 @@ module _ (listing table : Bytes) (rec : Record) (given : Given listing table rec
     | is-none w ↦ elim (opt (lookup (treeIn listing) (c ∷ p))) [
       | is-none u ↦ absurd (h (cc))
       | is-some n u ↦
-          let d = listing-parts listing (given .is-listing) .1 (c ∷ p) n u in
+          let d = listing-in listing (given .is-listing) (c ∷ p) n u in
           cc (none-link (kind (lookup (treeIn listing))) (ancestors (c ∷ p)) (d .1))
     ]
   ]
@@ -200,13 +196,6 @@ refused-showing listing table rec p output n v w h =
       untouched = e .1;
     }
 
--- of what may be shown at the path, only a directory passes
-is-directory : (n : ℕ) (k : Kind) → directoryAt n k ≡ pass → k ≡ aDirectory
-is-directory n nothing h = absurd (bot (cc))
-is-directory n aDirectory h = refl
-is-directory n aFile h = absurd (bot (cc))
-is-directory n aLink h = absurd (bot (cc))
-
 -- an accepted showing wrote the names of what is visible in the directory
 pub accepted-shows : (listing table : Bytes) (rec : Record) (p : Path) (output : Bytes) (v : ℕ)
     → showing listing table rec p output .reply ≡ accepted v → Shows listing table rec p output v
@@ -225,7 +214,7 @@ accepted-shows listing table rec p output v h =
       is-table = unless-pass 1 (isTable table rec) (a .0);
     } in
     let at = decoded table rec (given .is-table) .ascending in
-    let al = listing-parts listing (given .is-listing) .0 in
+    let al = checked listing (given .is-listing) .up in
     let formed = visible-formed listing table rec given in
     record {
       directory = is-directory (length p) (kind (shown t l) p) (f .1);

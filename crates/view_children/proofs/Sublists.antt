@@ -19,7 +19,7 @@ use Rattle.model.proofs.Maps.{above-only, ascends-is, is-ascends, ascending-onl
 use Rattle.base_fields.specs.Read.{part}
 use Rattle.listing_records.specs.Place.{treeAt, Standing}
 use Rattle.listing_records.specs.Parts.{PartOf}
-use Rattle.listing_records.proofs.Places.{checked}
+use Rattle.model.proofs.Listings.{checked}
 use Rattle.listing_records.proofs.Parts.{part-tree}
 use Rattle.table_entries.specs.declared.Place.{Place}
 use Rattle.table_below.specs.Parts.{isDeleted, visibleIn}

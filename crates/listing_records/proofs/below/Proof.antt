@@ -1,7 +1,8 @@
 -- `below` meets its contract: the records below the directory are gathered, and end at the first record that is not below it.
 use native.Mathlib.Omega.{arith}
 use borrow.Author.Needs.{needs}
-use Rattle.listing_records.proofs.Places.{checked, Stand, stands}
+use Rattle.model.proofs.Listings.{checked}
+use Rattle.listing_records.proofs.Places.{Stand, stands}
 use Rattle.listing_records.proofs.Parts.{Gathered, begin, yes, ended, no, done}
 use Rattle.listing_records.proofs.below.Statement.{statement}
 use Rattle.listing_records.proofs.below.Tie as tie

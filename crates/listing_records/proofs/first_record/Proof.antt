@@ -1,7 +1,8 @@
 -- `first_record` meets its contract: the count stands behind the mark and the version.
 use mathlib.Core.Path.{ap}
 use Prim.Native.Nat.{ℕ}
-use Rattle.listing_records.proofs.Places.{checked, standing-all}
+use Rattle.model.proofs.Listings.{checked}
+use Rattle.listing_records.proofs.Places.{standing-all}
 use Rattle.listing_records.proofs.first_record.Statement.{statement}
 use Rattle.listing_records.proofs.first_record.Tie as tie
 

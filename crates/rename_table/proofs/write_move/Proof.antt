@@ -4,7 +4,7 @@ use borrow.Author.Needs.{needs}
 use Rattle.model.specs.Listing.{treeIn}
 use Rattle.model.specs.Table.{tableIn}
 use Rattle.model.proofs.Codec.{decoded}
-use Rattle.listing_records.proofs.Places.{checked}
+use Rattle.model.proofs.Listings.{checked}
 use Rattle.rename_table.proofs.Ordered.{ordered-ascends, ordered-fits, ordered-written, ordered-movable}
 use Rattle.rename_table.proofs.write_move.Statement.{statement}
 use Rattle.rename_table.proofs.write_move.Tie as tie

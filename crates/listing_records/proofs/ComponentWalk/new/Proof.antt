@@ -1,5 +1,5 @@
 -- `ComponentWalk::new` meets its contract: the walk starts at the first record.
-use Rattle.listing_records.proofs.Places.{checked}
+use Rattle.model.proofs.Listings.{checked}
 use Rattle.listing_records.proofs.Steps.{walks-new}
 use Rattle.listing_records.proofs.ComponentWalk.new.Statement.{statement}
 use Rattle.listing_records.proofs.ComponentWalk.new.Tie as tie
