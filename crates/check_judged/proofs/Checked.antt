@@ -22,6 +22,8 @@ refusal-refuses (refusal.BelowSource n) = refl
 refusal-refuses refusal.Limit = refl
 refusal-refuses refusal.KeyTooLong = refl
 refusal-refuses refusal.NoRoom = refl
+refusal-refuses refusal.LentCount = refl
+refusal-refuses refusal.RangeTooLarge = refl
 
 -- where one check refuses, it decides; where it passes, the rest does
 pub refused-stops : (c d : Check) → refuses c ≡ true → (c then d) ≡ c

@@ -3,16 +3,16 @@
 use mathlib.Core.Path.{_≡_, refl, ap, sym, _∙_, fun-ext, subst, subst⁻¹}
 use mathlib.Core.Logic.{_↔_, inl, inr}
 use mathlib.Core.List.{List, [], _∷_}
-use mathlib.Core.Bool.{Bool, true, false, cond}
+use mathlib.Core.Bool.{Bool, true, false, cond, _||_}
 use mathlib.Core.Option.{Option, none, some}
-use Prim.Native.Nat.{ℕ, _-_}
+use Prim.Native.Nat.{ℕ, _+_, _-_, _<_}
 use native.Mathlib.Omega.{arith}
 use lib.Dec.{leb}
 use lib.ListN.{length}
 use borrow.Author.Tests.{leb-false}
-use Rattle.model.specs.Bytes.{every, consIf, same}
+use Rattle.model.specs.Bytes.{Bytes, every, consIf, same}
 use Rattle.model.specs.Path.{Path, short, below, ancestors, rest}
-use Rattle.model.specs.Map.{lookup, puts, del, each, keys, rekey, outside}
+use Rattle.model.specs.Map.{lookup, put, puts, del, each, keys, rekey, outside}
 use Rattle.model.specs.Tree.{held, Node, dir, file, link, Entry, own, reference, directory, deleted, Table, Tree, View, view, over, shown}
 use Rattle.model.specs.Tree.{Kind, nothing, aDirectory, aFile, aLink, kindOf, kind, isNothing, isDirectory}
 use Rattle.model.specs.Table.{charge}
@@ -20,15 +20,17 @@ use Rattle.model.specs.Checks.{Check, pass, refuse, _then_, unless, pare
 use Rattle.model.specs.Checks.{notRoot, noVisibleChild, rmdirChecks, Memory, limited, unlimited, charged}
 use Rattle.model.specs.Rename.{notLink, notDeleted, noClash, present, ifDirectory, planned, plan, budget, atLink, stops, Walk, sum, overBudget, stopped, walkFrom, walked}
 use Rattle.model.specs.Rename.{carried, moved, keysFit, renamePaths, renameTypes, planAndWalk, directoryMemory, renameChecks}
-use Rattle.model.specs.Calls.{Call, write, mkdir, unlink, rmdir, rename, changed, rules}
-use Rattle.model.specs.Plain.{plainEffect}
-use Rattle.model.specs.Cause.{MovesDirectory, Exceeds, charge-above, plan-above, walk-above, key-above}
+use Rattle.model.specs.Content.{isOwn, contentOf, appended, appendChecks, appendMemory, insideChecks, spliced}
+use Rattle.model.specs.Calls.{Call, write, append, writeInside, mkdir, unlink, rmdir, rename, changed, rules}
+use Rattle.model.specs.Plain.{plainWrite, plainEffect}
+use Rattle.model.specs.Cause.{MovesDirectory, Exceeds, charge-above, plan-above, walk-above, content-above, key-above}
 use Rattle.model.proofs.Orders.{bot, yea, nay, test, is-none, is-some, opt, mem}
 use Rattle.model.proofs.Orders.{rest-self, rest-below, rest-nil, below-rest}
 use Rattle.model.proofs.Maps.{upd, orElse, lookup-put, lookup-del, lookup-puts, lookup-each, Ascending, ascending-put, ascending-del, ascending-puts, ascending-outside}
 use Rattle.model.proofs.Invariant.{kind-is, is-nothing, is-directory, is-file, is-link′, entry-at, at-none, at-own, at-reference, at-directory, at-deleted}
 use Rattle.model.proofs.Invariant.{Closed, Inv, shown-put, shown-over, kind-at, kind-entry, then-pass, then-both, parents-dirs, parents-pass, inv-empty}
 use Rattle.model.proofs.Small.{write-inv, unlink-inv, unlink-regular, rmdir-inv, RmdirOk, rmdir-ok, ok-rmdir, met-nothing, met-directory, mkdir-met, makes-missing, makes-none, mkdir-inv, mkdir-up, mkdir-lookup, madeAt, childless-empty, empty-childless}
+use Rattle.model.proofs.Contents.{append-passed, inside-passed, inside-write}
 use Rattle.model.proofs.Moves.{Held, RenameOk, moveView, move-inv, move-tree, plain-move, entry-free, listed-stop, kind-link, kind-absent, proper-pass}
 use Rattle.model.proofs.Passed.{PathsPassed, TypesPassed, passed-paths, passed-types, rename-passed}
 use Rattle.model.proofs.Walks.{Met, walk-stops, walk-met, walk-budget, walk-over}
@@ -84,6 +86,17 @@ module _ (t : Table) (l : Tree) (c : Call) where
   allowed-charged : (m : Memory) → Allowed m t l c (charged m (changed t l c))
   allowed-charged (limited E limit) = caused-unless E limit 11 (leb (charge E (changed t l c)) limit) (λ h. charge-above (leb-false (charge E (changed t l c)) limit h))
   allowed-charged unlimited = refl
+
+  -- append's budget, unless the file is an own one
+  allowed-content : (m : Memory) (p : Path) (e : ℕ) (d b : Bytes) → c ≡ append p e d b
+      → Allowed m t l c (appendMemory m t (shown t l p) (length (appended (shown t l p) d b)))
+  allowed-content (limited E limit) p e d b h =
+      go (isOwn (shown t l p)) (length (appended (shown t l p) d b)) (content-above p e d b h)
+    where
+      go : (o : Bool) (n : ℕ) → (limit < charge E t + n → Exceeds E limit t l c 11) → Caused E limit t l c (unless 11 (o || leb (charge E t + n) limit))
+      go true n y = passed
+      go false n y = caused-unless E limit 11 (leb (charge E t + n) limit) (λ x. y (leb-false (charge E t + n) limit x))
+  allowed-content unlimited p e d b h = refl
 
   allowed-plan : (m : Memory) (a b : Path) → MovesDirectory t l c a b → Allowed m t l c (plan m t a b)
   allowed-plan (limited E limit) a b d = caused-then
@@ -289,6 +302,12 @@ module _ (t : Table) (l s : Tree) (g : Sound t l s) where
   agree-write : (p : Path) → writeChecks (shown t l) p ≡ writeChecks (lookup s) p
   agree-write p = ap (λ (f : View). writeChecks f p) (g .tree)
 
+  agree-append : (p : Path) (b : Bytes) → appendChecks (shown t l) p b ≡ appendChecks (lookup s) p b
+  agree-append p b = ap (λ (f : View). appendChecks f p b) (g .tree)
+
+  agree-inside : (p : Path) (o : ℕ) (d : Bytes) → insideChecks (shown t l) p o d ≡ insideChecks (lookup s) p o d
+  agree-inside p o d = ap (λ (f : View). insideChecks f p o d) (g .tree)
+
   agree-kind : (p : Path) → kind (shown t l) p ≡ kind (lookup s) p
   agree-kind p = ap (λ (f : View). kind f p) (g .tree)
 
@@ -337,6 +356,10 @@ module _ (t : Table) (l s : Tree) (g : Sound t l s) where
   pub accepts : Closed (lookup l) → (m : Memory) (c : Call) → rules m t l c ≡ pass → rules unlimited [] s c ≡ pass
   accepts cl m (write p d x) h = then-both (writeChecks (lookup s) p) pass
       (sym (agree-write p) ∙ then-pass (writeChecks (shown t l) p) (charged m (changed t l (write p d x))) h .0) refl
+  accepts cl m (append p e d b) h =
+      then-both (appendChecks (lookup s) p b) (pass then pass) (sym (agree-append p b) ∙ append-passed m t l p e d b h .checks) refl
+  accepts cl m (writeInside p e o d) h =
+      then-both (insideChecks (lookup s) p o d) pass (sym (agree-inside p o d) ∙ inside-passed m t l p e o d h .checks) refl
   accepts cl m (mkdir p up ok d) h = sym (agree-at p ok (mkdirParents (lookup s) p up then pass))
       ∙ elim (mkdir-met (length p) ok (kind (shown t l) p) (mkdirParents (shown t l) p up then charged m (changed t l (mkdir p up ok d))) h) [
         | met-nothing e u ↦ pass-nothing (length p) ok (kind (shown t l) p) (mkdirParents (lookup s) p up then pass) e
@@ -354,6 +377,17 @@ module _ (t : Table) (l s : Tree) (g : Sound t l s) where
   allows cl al m (write p d x) h = allowed-then t l (write p d x) m (writeChecks (shown t l) p) (charged m (changed t l (write p d x)))
       (allowed-pass t l (write p d x) m (writeChecks (shown t l) p) (agree-write p ∙ then-pass (writeChecks (lookup s) p) pass h .0))
       (allowed-charged t l (write p d x) m)
+  allows cl al m (append p e d b) h =
+      let c = append p e d b in
+      let y = appendMemory m t (shown t l p) (length (appended (shown t l p) d b)) in
+      allowed-then t l c m (appendChecks (shown t l) p b) (y then charged m (changed t l c))
+      (allowed-pass t l c m (appendChecks (shown t l) p b) (agree-append p b ∙ append-passed unlimited [] s p e d b h .checks))
+      (allowed-then t l c m y (charged m (changed t l c)) (allowed-content t l c m p e d b refl) (allowed-charged t l c m))
+  allows cl al m (writeInside p e o d) h =
+      let c = writeInside p e o d in
+      allowed-then t l c m (insideChecks (shown t l) p o d) (charged m (changed t l c))
+      (allowed-pass t l c m (insideChecks (shown t l) p o d) (agree-inside p o d ∙ inside-passed unlimited [] s p e o d h .checks))
+      (allowed-charged t l c m)
   allows cl al m (mkdir p up ok d) h = allowed-mkdir t l (mkdir p up ok d) m (length p) ok (kind (shown t l) p) (mkdirParents (shown t l) p up) (charged m (changed t l (mkdir p up ok d)))
       (ap (λ (x : Check). mkdirAt (length p) ok (kind (shown t l) p) (x then pass)) (agree-mkdir p up) ∙ agree-at p ok (mkdirParents (lookup s) p up then pass) ∙ h)
       (allowed-charged t l (mkdir p up ok d) m)
@@ -368,6 +402,8 @@ module _ (t : Table) (l s : Tree) (g : Sound t l s) where
 
   sort : (c : Call) → Ascending (plainEffect s c)
   sort (write p m c) = ascending-put p _ s (g .sorted)
+  sort (append p m d b) = ascending-put p _ s (g .sorted)
+  sort (writeInside p m o d) = ascending-put p _ s (g .sorted)
   sort (mkdir p up ok m) = elim (test (isDirectory (kind (lookup s) p))) [
     | yea e ↦ rw e (g .sorted)
     | nay e ↦ rw e (ascending-puts (each (dir m) (p ∷ missing (kind (lookup s)) (ancestors p))) s (g .sorted))
@@ -415,14 +451,27 @@ module _ (t : Table) (l s : Tree) (g : Sound t l s) where
       still : kind (shown t l) p ≡ aDirectory → changed t l (mkdir p up ok m) ≡ t
       still e = ap (λ (ks : List Path). puts (each (directory m) ks) t) (makes-none (shown t l) p e)
 
-  -- an accepted call keeps the invariant and the tree
-  pub keeps : Held l → Closed (lookup l) → (m : Memory) (c : Call) → rules m t l c ≡ pass → Sound (changed t l c) l (plainEffect s c)
-  keeps hl cl m (write p d x) h = let e = then-pass (writeChecks (shown t l) p) (charged m (changed t l (write p d x))) h in record {
-    inv = write-inv t l (g .inv) p d x (e .0);
+  -- a file whose whole content is written, whichever call does it
+  written : (p : Path) (d : ℕ) (x : Bytes) → writeChecks (shown t l) p ≡ pass → Sound (put p (own d x) t) l (plainWrite p d x s)
+  written p d x h = record {
+    inv = write-inv t l (g .inv) p d x h;
     tree = shown-put t l p (own d x) ∙ ap (λ (f : View). upd f p (some (file d (length x) (held x)))) (g .tree)
         ∙ sym (fun-ext (lookup-put p (file d (length x) (held x)) s));
-    sorted = sort (write p d x);
+    sorted = ascending-put p _ s (g .sorted);
   }
+
+  -- a content made from what is there: the same from the plain tree
+  written-from : (F : Option Node → Bytes) (p : Path) (d : ℕ) → writeChecks (shown t l) p ≡ pass
+      → Sound (put p (own d (F (shown t l p))) t) l (plainWrite p d (F (lookup s p)) s)
+  written-from F p d h = subst (λ (f : View). Sound (put p (own d (F (shown t l p))) t) l (plainWrite p d (F (f p)) s)) (g .tree)
+      (written p d (F (shown t l p)) h)
+
+  -- an accepted call keeps the invariant and the tree
+  pub keeps : Held l → Closed (lookup l) → (m : Memory) (c : Call) → rules m t l c ≡ pass → Sound (changed t l c) l (plainEffect s c)
+  keeps hl cl m (write p d x) h = written p d x (then-pass (writeChecks (shown t l) p) (charged m (changed t l (write p d x))) h .0)
+  keeps hl cl m (append p e d b) h = written-from (λ (o : Option Node). appended o d b) p e (append-passed m t l p e d b h .writes)
+  keeps hl cl m (writeInside p e o d) h = written-from (λ (x : Option Node). spliced o d (contentOf x [])) p e
+      (inside-write t l (g .inv) p (inside-passed m t l p e o d h .own))
   keeps hl cl m (mkdir p up ok d) h = mkdir-kept p up ok d (charged m (changed t l (mkdir p up ok d))) h
   keeps hl cl m (unlink p) h = let e = then-pass (unlinkChecks t l p) (charged m (changed t l (unlink p))) h in record {
     inv = unlink-inv t l (g .inv) p (e .0);

@@ -10,23 +10,24 @@ use Rattle.model.specs.Bytes.{Bytes}
 use Rattle.model.specs.Listing.{isListing}
 use Rattle.model.specs.Answer.{Reply, accepted, refused}
 use Rattle.model.specs.Outcome.{Request, Store, outcome, opened}
-use Rattle.model.specs.Cause.{Cause, malformed-table, short-work, malformed-listing, exceeds, no-room, charge-above, plan-above, walk-above, key-above}
+use Rattle.model.specs.Cause.{Cause, malformed-table, short-work, malformed-listing, exceeds, no-room, charge-above, plan-above, walk-above, content-above, key-above}
 use Rattle.model.specs.Runs.{State, step, begin, entriesOf, WordedCalls, Throughout, Demand3, DoesAsSaid, RunFrom}
 use Rattle.model.specs.Runs.{AcceptedByRules, RefusedWithCause, LeavesOthers, WithinLimit, RefusedLeaves, RefusedAndEmpty, DoesAsPosix}
 use Rattle.model.proofs.Words.{IsBytes}
 use Rattle.model.proofs.Reached.{opening-sized, opened-empty, reached-begin}
 use Rattle.model.proofs.Resumed.{run-from}
 
--- the numbers that have a cause: none is from 4 to 10
-pub cause-numbers : (listing : Bytes) (q : Request) (s : Store) (n : ℕ) → Cause listing q s n → (n < 3) ⊎ (10 < n)
+-- the numbers that have a cause: none is from 4 to 10, and 17 and 18 are not among them
+pub cause-numbers : (listing : Bytes) (q : Request) (s : Store) (n : ℕ) → Cause listing q s n → (n < 3) ⊎ ((10 < n) × (n < 14))
 cause-numbers listing q s n (malformed-table h) = inl (omega arith)
 cause-numbers listing q s n (short-work h) = inl (omega arith)
 cause-numbers listing q s n (malformed-listing h) = inl (omega arith)
-cause-numbers listing q s n (exceeds m (charge-above h)) = inr (omega arith)
-cause-numbers listing q s n (exceeds m (plan-above a b d h)) = inr (omega arith)
-cause-numbers listing q s n (exceeds m (walk-above a b k d w e i h)) = inr (omega arith)
-cause-numbers listing q s n (exceeds m (key-above a b e h)) = inr (omega arith)
-cause-numbers listing q s n (no-room h) = inr (omega arith)
+cause-numbers listing q s n (exceeds m (charge-above h)) = inr (omega arith, omega arith)
+cause-numbers listing q s n (exceeds m (plan-above a b d h)) = inr (omega arith, omega arith)
+cause-numbers listing q s n (exceeds m (walk-above a b k d w e i h)) = inr (omega arith, omega arith)
+cause-numbers listing q s n (exceeds m (content-above p e d b c h)) = inr (omega arith, omega arith)
+cause-numbers listing q s n (exceeds m (key-above a b e h)) = inr (omega arith, omega arith)
+cause-numbers listing q s n (no-room h) = inr (omega arith, omega arith)
 
 -- what holds of every call of a list, in another form
 throughout-as : (P Q : State → Request → Type 0) (listing : Bytes) → ((x : State) (q : Request) → P x q → Q x q)

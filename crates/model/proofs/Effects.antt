@@ -17,7 +17,8 @@ use Rattle.model.specs.Table.{charge}
 use Rattle.model.specs.Checks.{Check, pass, _then_, unless, parentChecks, writeChecks, mkdirAt, mkdirParents, missing, makes, unlinkChecks, rmdirChecks}
 use Rattle.model.specs.Checks.{Memory, limited, charged}
 use Rattle.model.specs.Rename.{asEntry, uncovered, along, carried, moved, renameChecks}
-use Rattle.model.specs.Calls.{Call, write, mkdir, unlink, rmdir, rename, changed, rules}
+use Rattle.model.specs.Content.{contentOf, appended, spliced}
+use Rattle.model.specs.Calls.{Call, write, append, writeInside, mkdir, unlink, rmdir, rename, changed, rules}
 use Rattle.model.specs.Posix.{Prefixed, Empty, makeDirectory, makeMissing, makeDirectories, renameFile, Posix}
 use Rattle.model.specs.Runs.{touches}
 use Rattle.model.proofs.Orders.{split, Split, bot, yea, nay, test, is-none, is-some, opt, mem, mem-ancestors}
@@ -25,6 +26,7 @@ use Rattle.model.proofs.Orders.{rest-below, rest-nil}
 use Rattle.model.proofs.Maps.{orElse, lookup-put, lookup-puts, lookup-each, lookup-rekey, lookup-keys, lookup-only}
 use Rattle.model.proofs.Invariant.{kind-is, is-nothing, is-directory, is-file, is-link′, Closed, Inv, shown-put, shown-over, kind-at, then-pass, parents-dirs}
 use Rattle.model.proofs.Small.{mkdir-up, mem-absent, met-nothing, met-directory, mkdir-met, makes-missing, makes-none, not-both, mkdir-lookup, madeAt, unlink-found, rmdir-ok, above-dirs}
+use Rattle.model.proofs.Contents.{append-passed, inside-passed}
 use Rattle.model.proofs.Moves.{Held, RenameOk, moveView, move-tree, move-self}
 use Rattle.model.proofs.Passed.{rename-passed}
 use Rattle.model.proofs.Agree.{rename-ok}
@@ -67,6 +69,8 @@ module _ (t : Table) (l : Tree) (k : Path) where
 
   pub stays : (c : Call) → touches (shown t l) c k ≡ false → lookup (changed t l c) k ≡ lookup t k
   stays (write p m x) h = stays-put p (own m x) h
+  stays (append p m d b) h = stays-put p (own m (appended (shown t l p) d b)) h
+  stays (writeInside p m o d) h = stays-put p (own m (spliced o d (contentOf (shown t l p) []))) h
   stays (mkdir p up ok m) h =
       let ks = makes (shown t l) p in
       let e = or-false (same p k) (below k p && isNothing (kind (shown t l) k)) h in
@@ -93,6 +97,10 @@ unchanged t l p m e = ap (λ (ks : List Path). puts (each (directory m) ks) t) (
 module _ (E limit : ℕ) (t : Table) (l : Tree) where
   pub in-limit : (c : Call) → rules (limited E limit) t l c ≡ pass → (charge E (changed t l c) ≤ limit) ⊎ (changed t l c ≡ t)
   in-limit (write p m x) h = inl (within (charge E (changed t l (write p m x))) limit (then-pass (writeChecks (shown t l) p) (charged (limited E limit) (changed t l (write p m x))) h .1))
+  in-limit (append p m d b) h =
+      inl (within (charge E (changed t l (append p m d b))) limit (append-passed (limited E limit) t l p m d b h .charge-fits))
+  in-limit (writeInside p m o d) h =
+      inl (within (charge E (changed t l (writeInside p m o d))) limit (inside-passed (limited E limit) t l p m o d h .charge-fits))
   in-limit (mkdir p up ok m) h = elim (mkdir-met (length p) ok (kind (shown t l) p) (mkdirParents (shown t l) p up then charged (limited E limit) (changed t l (mkdir p up ok m))) h) [
     | met-nothing e u ↦ inl (within (charge E (changed t l (mkdir p up ok m))) limit (then-pass (mkdirParents (shown t l) p up) (charged (limited E limit) (changed t l (mkdir p up ok m))) u .1))
     | met-directory e u ↦ inr (unchanged t l p m e)
@@ -294,6 +302,8 @@ module _ (t : Table) (l : Tree) (i : Inv t l) where
   -- an accepted call does to the visible tree what the standard says
   pub posix : Held l → Closed (lookup l) → (m : Memory) (c : Call) → rules m t l c ≡ pass → Posix (shown t l) (shown (changed t l c) l) c
   posix hl cl m (write p d x) h = tt
+  posix hl cl m (append p e d b) h = tt
+  posix hl cl m (writeInside p e o d) h = tt
   posix hl cl m (mkdir p up ok d) h = posix-mkdir p up ok d (charged m (changed t l (mkdir p up ok d))) h
   posix hl cl m (unlink p) h = posix-unlink p (then-pass (unlinkChecks t l p) (charged m (changed t l (unlink p))) h .0)
   posix hl cl m (rmdir p) h = posix-rmdir p (then-pass (rmdirChecks t l p) (charged m (changed t l (rmdir p))) h .0)

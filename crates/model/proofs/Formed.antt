@@ -23,13 +23,15 @@ use Rattle.model.specs.Table.{formedBody, formedEntry}
 use Rattle.model.specs.Checks.{pass, form, writeChecks, missing, makes, unlinkChecks, notRoot, rmdirChecks}
 use Rattle.model.specs.Checks.{limited, charged}
 use Rattle.model.specs.Rename.{asEntry, uncovered, along, carried, moved, renameChecks}
-use Rattle.model.specs.Calls.{Call, write, mkdir, unlink, rmdir, rename, changed, forms, rules}
+use Rattle.model.specs.Content.{contentOf, appended, spliced}
+use Rattle.model.specs.Calls.{Call, write, append, writeInside, mkdir, unlink, rmdir, rename, changed, forms, rules}
 use Rattle.model.proofs.Orders.{bot, yea, nay, test, and-true, is-none, is-some, opt, eqb-eq, same-refl, Split, split}
 use Rattle.model.proofs.Listings.{parts, checked}
 use Rattle.model.proofs.Orders.{Lt, mem, mem-ancestors, rest-is}
 use Rattle.model.proofs.Maps.{Above, Ascending, lookup-low, ascends-is, is-ascends, ascending-put, ascending-puts}
 use Rattle.model.proofs.Maps.{orElse, mapO, lookup-put, lookup-puts, lookup-each, lookup-keys, lookup-mapped, lookup-only, lookup-rekey}
 use Rattle.model.proofs.Invariant.{Closed, then-pass, unless-pass, form-is}
+use Rattle.model.proofs.Contents.{own-file, append-passed, inside-passed}
 use Rattle.model.proofs.Moves.{Held}
 use Rattle.model.proofs.Passed.{rename-passed}
 use Rattle.model.specs.Runs.{Word, WordedCall}
@@ -325,6 +327,9 @@ mkdir-fine t f p m i w h = fine-puts (each (directory m) (makes f p)) t i (λ k 
     let x : Fine k (directory m) = record { key = made-path p k h (v .0); proper = no-root f k (v .1); body = refl; word = w } in
     rw (u .1) at x)
 
+own-fine : (t : Table) (p : Path) (m : ℕ) (c : Bytes) → FineTable t → Word m → isPath p ≡ true → (p ≡ [] → ⊥) → FineTable (put p (own m c) t)
+own-fine t p m c f w h r = fine-put t p (own m c) f (record { key = h; proper = r; body = refl; word = w })
+
 delete-fine : (t : Table) (p : Path) → FineTable t → isPath p ≡ true → (p ≡ [] → ⊥) → FineTable (put p deleted t)
 delete-fine t p f h r = fine-put t p deleted f (record { key = h; proper = r; body = refl; word = tt })
 
@@ -400,7 +405,13 @@ pub changed-fine : (t : Table) (l : Tree) (c : Call) (E limit : ℕ) → FineTab
     → forms c ≡ pass → rules (limited E limit) t l c ≡ pass → FineTable (changed t l c)
 changed-fine t l (write p m c) E limit f g w h r =
     let u = then-pass (writeChecks (shown t l) p) (charged (limited E limit) (put p (own m c) t)) r in
-    fine-put t p (own m c) f (record { key = form-is 0 p h; proper = write-proper (shown t l) p (u .0); body = refl; word = w })
+    own-fine t p m c f w (form-is 0 p h) (write-proper (shown t l) p (u .0))
+changed-fine t l (append p m d b) E limit f g w h r =
+    let u = append-passed (limited E limit) t l p m d b r in
+    own-fine t p m (appended (shown t l p) d b) f w (form-is 0 p h) (write-proper (shown t l) p (u .writes))
+changed-fine t l (writeInside p m o d) E limit f g w h r =
+    let u = inside-passed (limited E limit) t l p m o d r in
+    own-fine t p m (spliced o d (contentOf (shown t l p) [])) f w (form-is 0 p h) (own-file (shown t l) p (u .own) .proper)
 changed-fine t l (mkdir p up ok m) E limit f g w h r = mkdir-fine t (shown t l) p m f w (form-is 0 p h)
 changed-fine t l (unlink p) E limit f g w h r =
     let u = then-pass (unlinkChecks t l p) (charged (limited E limit) (put p deleted t)) r in

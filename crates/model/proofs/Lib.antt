@@ -12,6 +12,7 @@ pub mod Rules
 pub mod Walks
 pub mod Small
 pub mod Moves
+pub mod Contents
 pub mod Passed
 pub mod Agree
 pub mod Effects

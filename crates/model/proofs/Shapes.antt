@@ -1,21 +1,23 @@
--- The shape of every refusal: its number is one of document 01's thirteen, and its path and length are those of the table in "Turning a call down".
+-- The shape of every refusal: its number is one of document 01's thirteen or of #103's two, and its path and length are those of the table in "Turning a call
+-- down".
 -- Of the changing calls, the queries and opening, for every input: what the bytes are, and whether a call built them, is not asked.
 use mathlib.Core.Path.{_∙_, _≡_, ap, ap₂, refl, subst₃, sym}
 use mathlib.Core.List.{List, [], _∷_}
 use mathlib.Core.Bool.{Bool, true, false, cond, _||_}
 use mathlib.Core.Option.{Option, none, some}
-use Prim.Native.Nat.{ℕ, _≤_, _-_}
-use lib.Dec.{T, leb, leb→le}
+use Prim.Native.Nat.{ℕ, _+_, _≤_, _-_}
+use lib.Dec.{T, leb, ltb, eqb, leb→le}
 use lib.ListN.{length}
 use Rattle.model.specs.Bytes.{Bytes, every, same}
 use Rattle.model.specs.Path.{Path, short, isPath, ancestors, below}
 use Rattle.model.specs.Map.{lookup, keys, rekey}
-use Rattle.model.specs.Tree.{Entry, own, reference, directory, deleted, Table, Tree, View, shown, Kind, nothing, aDirectory, aFile, aLink, kind, isDirectory}
+use Rattle.model.specs.Tree.{Node, Entry, own, reference, directory, deleted, Table, Tree, View, shown, Kind, nothing, aDirectory, aFile, aLink, kind, isDirectory}
 use Rattle.model.specs.Table.{charge, isTable, tableIn, sized}
 use Rattle.model.specs.Listing.{isListing, treeIn}
 use Rattle.model.specs.Checks.{Check, pass, refuse, _then_, unless, form, parentAt, parentsIn, parentChecks, writeAt, ancestorAt, ancestorsIn, mkdirParents, mkdirAt, unlinkAt, unlinkEntry, notRoot, visibleChild, noVisibleChild, directoryAt, rmdirEntry, Memory, limited, unlimited, charged}
 use Rattle.model.specs.Rename.{notLink, notDeleted, noClash, present, ifDirectory, planned, plan, budget, Walk, sum, overBudget, atLink, stopped, walkFrom, walked, keysFit, carried, moved, renamePaths, renameTypes, renameMemory, renameChecks}
-use Rattle.model.specs.Calls.{Call, write, mkdir, unlink, rmdir, rename, changed, forms, rules, valueOf, Query, says}
+use Rattle.model.specs.Content.{isOwn, needed, appended, appendMemory, ownAt}
+use Rattle.model.specs.Calls.{Call, write, append, writeInside, mkdir, unlink, rmdir, rename, changed, forms, rules, valueOf, Query, says}
 use Rattle.model.specs.Answer.{accepted, refused}
 use Rattle.model.specs.Outcome.{Store, Request, lent, room, verdict, settle, outcome, answered, ask, opened}
 use Rattle.model.proofs.Orders.{bot, yea, nay, test, mem, same-refl, mem-ancestors}
@@ -23,6 +25,8 @@ use Rattle.model.proofs.Orders.{bot, yea, nay, test, mem, same-refl, me
 -- the paths of a call: "Path is 0 (only, or source) or 1 (destination)"
 pub data Names : Call → ℕ → Path → Type 0 where
   written : (p : Path) (m : ℕ) (d : Bytes) → Names (write p m d) 0 p
+  added : (p : Path) (m : ℕ) (d b : Bytes) → Names (append p m d b) 0 p
+  inside : (p : Path) (m o : ℕ) (d : Bytes) → Names (writeInside p m o d) 0 p
   made : (p : Path) (up ok : Bool) (m : ℕ) → Names (mkdir p up ok m) 0 p
   unlinked : (p : Path) → Names (unlink p) 0 p
   removed : (p : Path) → Names (rmdir p) 0 p
@@ -50,6 +54,9 @@ pub data Shaped (c : Call) : (number path len : ℕ) → Type 0 where
   key-too-long : (a b : Path) → c ≡ rename a b → Shaped c 12 0 0
   -- "entries after the call longer than the table buffer | 13 | 0, 0"
   no-room : Shaped c 13 0 0
+  -- #103: "Lent bytes whose count isn't the recorded size … are 17"; "an offset whose sum with the data length passes 2^64 − 1 is 18"
+  lent-count : (p : Path) (m : ℕ) (d b : Bytes) → c ≡ append p m d b → Shaped c 17 0 0
+  range-too-large : (p : Path) (m o : ℕ) (d : Bytes) → c ≡ writeInside p m o d → Shaped c 18 0 0
 
 -- a check that passes, or refuses with that shape
 data Well (c : Call) : Check → Type 0 where
@@ -74,6 +81,10 @@ module _ {c : Call} where
   well-charged : (m : Memory) (t : Table) → Well c (charged m t)
   well-charged (limited E z) t = well-unless 11 (leb (charge E t) z) limit
   well-charged unlimited t = passes
+
+  well-budget : (m : Memory) (t : Table) (o : Option Node) (n : ℕ) → Well c (appendMemory m t o n)
+  well-budget (limited E z) t o n = well-unless 11 (isOwn o || leb (charge E t + n) z) limit
+  well-budget unlimited t o n = passes
 
 -- the checks at one path of the call
 module _ {c : Call} {w : ℕ} {p : Path} (at : Names c w p) where
@@ -236,9 +247,11 @@ module _ (a b : Path) where
   well-rename : (m : Memory) (t : Table) (l : Tree) → Well (rename a b) (renameChecks m t l a b)
   well-rename m t l = well-paths t l and well-types t l and well-memory m t l
 
--- 3, and 4 to 12, of each call
+-- 3, and 4 to 12, 17 and 18, of each call
 well-forms : (c : Call) → Well c (forms c)
 well-forms (write p m d) = well-form (written p m d)
+well-forms (append p m d b) = well-form (added p m d b)
+well-forms (writeInside p m o d) = well-form (inside p m o d)
 well-forms (mkdir p up ok m) = well-form (made p up ok m)
 well-forms (unlink p) = well-form (unlinked p)
 well-forms (rmdir p) = well-form (removed p)
@@ -249,6 +262,16 @@ well-rules m t l (write p d x) =
     let f = shown t l in
     let at = written p d x in
     (well-parents at f and well-writeAt at (kind f p)) and well-charged m (changed t l (write p d x))
+well-rules m t l (append p e d b) =
+    let f = shown t l in
+    let at = added p e d b in
+    ((well-parents at f and well-writeAt at (kind f p)) and well-unless 17 (eqb (length b) (needed (f p))) (lent-count p e d b refl))
+    and well-budget m t (f p) (length (appended (f p) d b))
+    and well-charged m (changed t l (append p e d b))
+well-rules m t l (writeInside p e o d) =
+    (well-cond (ownAt (shown t l) p) passes (here (inside p e o d) 5 tt tt)
+    and well-unless 18 (ltb (o + length d) 0x1_0000_0000_0000_0000) (range-too-large p e o d refl))
+    and well-charged m (changed t l (writeInside p e o d))
 well-rules m t l (mkdir p up ok d) =
     let f = shown t l in
     well-mkdirAt (made p up ok d) ok (kind f p) (well-mkdirParents p up ok d f and well-charged m (changed t l (mkdir p up ok d)))

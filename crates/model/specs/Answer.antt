@@ -3,7 +3,8 @@ use Prim.Native.Nat.{ℕ}
 use Rattle.model.specs.declared.Refusal.{Refusal}
 use Rattle.model.specs.declared.Refusal.the-variants.{MalformedTable, MalformedListing, MalformedPath, LinkOrRoot}
 use Rattle.model.specs.declared.Refusal.the-variants.{NotFound, Exists, NotADirectory, IsADirectory, NotEmpty}
-use Rattle.model.specs.declared.Refusal.the-variants.{BelowSource, Limit, KeyTooLong, NoRoom}
+use Rattle.model.specs.declared.Refusal.the-variants.{BelowSource, Limit, KeyTooLong, NoRoom, LentCount}
+use Rattle.model.specs.declared.Refusal.the-variants.{RangeTooLarge}
 use Rattle.model.specs.declared.Answer.{Answer}
 use Rattle.model.specs.declared.Answer.the-variants.{Accepted, Refused}
 use Rattle.model.specs.declared.Finding.{Finding}
@@ -29,6 +30,8 @@ toldRefusal (BelowSource n) = refused 10 0 n
 toldRefusal Limit = refused 11 0 0
 toldRefusal KeyTooLong = refused 12 0 0
 toldRefusal NoRoom = refused 13 0 0
+toldRefusal LentCount = refused 17 0 0
+toldRefusal RangeTooLarge = refused 18 0 0
 
 -- a changing call's answer; a query's, 1 for yes and 0 for no
 abbrev pub told : Answer → Reply

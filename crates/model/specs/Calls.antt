@@ -1,6 +1,7 @@
--- The calls of document 01 on a table and a tree: the checks in their order from 3 to 12, the table after an accepted
+-- The calls of document 01 and #103 on a table and a tree: the checks in their order from 3 to 12, the table after an accepted
 -- call, and the queries.
 use mathlib.Core.Bool.{Bool, true, false}
+use mathlib.Core.List.{[]}
 use Prim.Native.Nat.{ℕ}
 use lib.ListN.{length}
 use Rattle.model.specs.Bytes.{Bytes}
@@ -11,9 +12,12 @@ use Rattle.model.specs.Tree.{kind}
 use Rattle.model.specs.Checks.{Check, _then_, form, writeChecks, mkdirAt, mkdirParents, makes, unlinkChecks}
 use Rattle.model.specs.Checks.{rmdirChecks, Memory, charged}
 use Rattle.model.specs.Rename.{moved, renameChecks}
+use Rattle.model.specs.Content.{contentOf, appended, spliced, appendChecks, appendMemory, insideChecks}
 
 pub data Call : Type 0 where
   write : (p : Path) (mtime : ℕ) (content : Bytes) → Call
+  append : (p : Path) (mtime : ℕ) (added lent : Bytes) → Call
+  writeInside : (p : Path) (mtime offset : ℕ) (added : Bytes) → Call
   mkdir : (p : Path) (parents existOk : Bool) (mtime : ℕ) → Call
   unlink : (p : Path) → Call
   rmdir : (p : Path) → Call
@@ -22,6 +26,8 @@ pub data Call : Type 0 where
 -- the table after the call, if it is accepted
 abbrev pub changed : Table → Tree → Call → Table
 changed t l (write p m c) = put p (own m c) t
+changed t l (append p m d b) = put p (own m (appended (shown t l p) d b)) t
+changed t l (writeInside p m o d) = put p (own m (spliced o d (contentOf (shown t l p) []))) t
 changed t l (mkdir p up ok m) = puts (each (directory m) (makes (shown t l) p)) t
 changed t l (unlink p) = put p deleted t
 changed t l (rmdir p) = put p deleted t
@@ -30,14 +36,22 @@ changed t l (rename a b) = moved t l a b
 -- 3: "source before destination"
 abbrev pub forms : Call → Check
 forms (write p m c) = form 0 p
+forms (append p m d b) = form 0 p
+forms (writeInside p m o d) = form 0 p
 forms (mkdir p up ok m) = form 0 p
 forms (unlink p) = form 0 p
 forms (rmdir p) = form 0 p
 forms (rename a b) = form 0 a then form 1 b
 
--- 4 to 12
+-- 4 to 12, 17 and 18
 abbrev pub rules : Memory → Table → Tree → Call → Check
 rules memory t l (write p m c) = writeChecks (shown t l) p then charged memory (changed t l (write p m c))
+rules memory t l (append p m d b) =
+    appendChecks (shown t l) p b
+    then appendMemory memory t (shown t l p) (length (appended (shown t l p) d b))
+    then charged memory (changed t l (append p m d b))
+rules memory t l (writeInside p m o d) =
+    insideChecks (shown t l) p o d then charged memory (changed t l (writeInside p m o d))
 rules memory t l (mkdir p up ok m) =
     mkdirAt (length p) ok (kind (shown t l) p)
     (mkdirParents (shown t l) p up then charged memory (changed t l (mkdir p up ok m)))
@@ -45,9 +59,12 @@ rules memory t l (unlink p) = unlinkChecks t l p then charged memory (changed t 
 rules memory t l (rmdir p) = rmdirChecks t l p then charged memory (changed t l (rmdir p))
 rules memory t l (rename a b) = renameChecks memory t l a b
 
--- "An accepted write answers the data's length, the other changing calls nothing."
+-- "An accepted write answers the data's length, the other changing calls nothing."; #103: "both answer the data's
+-- length"
 abbrev pub valueOf : Call → ℕ
 valueOf (write p m c) = length c
+valueOf (append p m d b) = length d
+valueOf (writeInside p m o d) = length d
 valueOf (mkdir p up ok m) = 0
 valueOf (unlink p) = 0
 valueOf (rmdir p) = 0

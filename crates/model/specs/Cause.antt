@@ -12,7 +12,8 @@ use Rattle.model.specs.Tree.{Table, Tree, shown, kind, aDirectory}
 use Rattle.model.specs.Listing.{isListing, treeIn}
 use Rattle.model.specs.Table.{encode, charge, isTable, tableIn}
 use Rattle.model.specs.Rename.{planned, sum, walkFrom, carried}
-use Rattle.model.specs.Calls.{Call, rename, changed}
+use Rattle.model.specs.Content.{appended}
+use Rattle.model.specs.Calls.{Call, append, rename, changed}
 use Rattle.model.specs.Outcome.{Store, Request, tableAfter}
 
 -- a rename of a directory, whose plan and walk are charged beside the table
@@ -29,6 +30,9 @@ pub data Exceeds (E limit : ℕ) (t : Table) (l : Tree) (c : Call) : ℕ → Typ
   walk-above : (a b : Path) (n : ℕ) → MovesDirectory t l c a b → kind (lookup l) a ≡ aDirectory
       → walkFrom t l none a ≡ sum n → 2 * length a + 1 < n → limit < charge E t + planned a b t + n
       → Exceeds E limit t l c 11
+  -- #103, append: the whole new content beside the charge as it is
+  content-above : (p : Path) (m : ℕ) (d b : Bytes) → c ≡ append p m d b
+      → limit < charge E t + length (appended (shown t l p) d b) → Exceeds E limit t l c 11
   -- "a moved key above 512 bytes or 32 components"
   key-above : (a b : Path) → c ≡ rename a b → every short (keys (rekey a b (carried t l a))) ≡ false
       → Exceeds E limit t l c 12

@@ -7,6 +7,7 @@ pub mod Listing
 pub mod Table
 pub mod Answer
 pub mod Checks
+pub mod Content
 pub mod Rename
 pub mod Calls
 pub mod Outcome

@@ -3,13 +3,15 @@
 use mathlib.Core.Bool.{cond}
 use mathlib.Core.List.{[], _∷_}
 use mathlib.Core.Option.{Option, none, some}
+use Prim.Native.Nat.{ℕ}
 use lib.ListN.{length}
-use Rattle.model.specs.Bytes.{same}
+use Rattle.model.specs.Bytes.{Bytes, same}
 use Rattle.model.specs.Path.{Path, ancestors}
 use Rattle.model.specs.Map.{lookup, put, puts, del, each, rekey, outside}
 use Rattle.model.specs.Tree.{held, Node, dir, file, Table, Tree, view, kind, isDirectory}
 use Rattle.model.specs.Checks.{Check, _then_, missing, unlimited}
-use Rattle.model.specs.Calls.{Call, write, mkdir, unlink, rmdir, rename, forms, rules}
+use Rattle.model.specs.Content.{contentOf, appended, spliced}
+use Rattle.model.specs.Calls.{Call, write, append, writeInside, mkdir, unlink, rmdir, rename, forms, rules}
 
 -- "The plain tree's rules are these checks from 3 on without 11 to 13, read with an empty table and that tree, however
 -- large, as listing."
@@ -21,9 +23,16 @@ plainRules s c = forms c then rules unlimited [] s c
 abbrev pub plainMove : Path → Path → Tree → Tree
 plainMove a b s = puts (rekey a b s) (outside a s)
 
+-- a file with a content
+abbrev pub plainWrite : Path → ℕ → Bytes → Tree → Tree
+plainWrite p m c s = put p (file m (length c) (held c)) s
+
+-- #103: "each of the two, once accepted, counts as a write of the whole new content".
 -- mkdir: "Else the path, and each ancestor below the root without a node, gets a directory with that mtime and size 0."
 abbrev pub plainEffect : Tree → Call → Tree
-plainEffect s (write p m c) = put p (file m (length c) (held c)) s
+plainEffect s (write p m c) = plainWrite p m c s
+plainEffect s (append p m d b) = plainWrite p m (appended (lookup s p) d b) s
+plainEffect s (writeInside p m o d) = plainWrite p m (spliced o d (contentOf (lookup s p) [])) s
 plainEffect s (mkdir p up ok m) = cond (isDirectory (kind (lookup s) p)) s
     (puts (each (dir m) (p ∷ missing (kind (lookup s)) (ancestors p))) s)
 plainEffect s (unlink p) = del p s

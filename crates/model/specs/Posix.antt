@@ -11,7 +11,7 @@ use Rattle.model.specs.Bytes.{same}
 use Rattle.model.specs.Path.{Path, ancestors, below, rest}
 use Rattle.model.specs.Map.{byRest}
 use Rattle.model.specs.Tree.{dir, View, nothing, aDirectory, kind, isNothing}
-use Rattle.model.specs.Calls.{Call, write, mkdir, unlink, rmdir, rename}
+use Rattle.model.specs.Calls.{Call, write, append, writeInside, mkdir, unlink, rmdir, rename}
 
 -- path prefix: a component "does not name an existing file [ENOENT]" or "names an existing file that is neither a
 -- directory …[ENOTDIR]"
@@ -87,10 +87,12 @@ pub record Renames (f : View) (old new : Path) : Type 0 where
   pub apart : below old new ≡ true → ⊥
 
 -- What the standard says of a call that turns the tree f into the tree g. With the parents flag mkdir is the utility's
--- -p; a directory that is there, which exist_ok asks to accept, stays. The standard's counterpart of write is not among
--- the four.
+-- -p; a directory that is there, which exist_ok asks to accept, stays. The standard's counterparts of write, append and
+-- writing inside are not among the four.
 abbrev pub Posix : View → View → Call → Type 0
 Posix f g (write p m c) = Unit {0}
+Posix f g (append p m d b) = Unit {0}
+Posix f g (writeInside p m o d) = Unit {0}
 Posix f g (mkdir p true ok m) = MakesDirectories f p × (g ≡ makeDirectories m p f)
 Posix f g (mkdir p false ok m) =
     (kind f p ≡ aDirectory → (ok ≡ true) × (g ≡ f)) × ((kind f p ≡ aDirectory → ⊥) → MakesDirectory f p

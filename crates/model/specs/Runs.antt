@@ -12,7 +12,7 @@ use Rattle.model.specs.Tree.{Entry, Table, Tree, View, shown, kind, isNo
 use Rattle.model.specs.Listing.{isListing, treeIn}
 use Rattle.model.specs.Table.{entryBytes, encode, padded, charge, isTable, tableIn}
 use Rattle.model.specs.Checks.{pass}
-use Rattle.model.specs.Calls.{Call, write, mkdir, unlink, rmdir, rename}
+use Rattle.model.specs.Calls.{Call, write, append, writeInside, mkdir, unlink, rmdir, rename}
 use Rattle.model.specs.Answer.{Reply, accepted, refused}
 use Rattle.model.specs.Outcome.{Store, Request, Outcome, outcome, opened}
 use Rattle.model.specs.Plain.{plainRules, plainEffect, visibleTree}
@@ -53,6 +53,8 @@ Word n = n < 0x1_0000_0000_0000_0000
 
 abbrev pub WordedCall : Call → Type 0
 WordedCall (write p m c) = Word m
+WordedCall (append p m d b) = Word m
+WordedCall (writeInside p m o d) = Word m
 WordedCall (mkdir p up ok m) = Word m
 WordedCall (unlink p) = Unit {0}
 WordedCall (rmdir p) = Unit {0}
@@ -94,6 +96,8 @@ keptBytes k (some e) = some (entryBytes k e)
 -- made is an ancestor that showed nothing before the call."
 abbrev pub touches : View → Call → Path → Bool
 touches f (write p m c) k = same p k
+touches f (append p m d b) k = same p k
+touches f (writeInside p m o d) k = same p k
 touches f (mkdir p up ok m) k = same p k || (below k p && isNothing (kind f k))
 touches f (unlink p) k = same p k
 touches f (rmdir p) k = same p k
@@ -106,7 +110,7 @@ module _ (listing : Bytes) where
       → plainRules (x .plain) (q .call) ≡ pass
 
   -- "and none that they allow is refused by 4 to 10, or by another number without that number's cause": only 1, 2, 11,
-  -- 12 and 13 have a `Cause`
+  -- 12 and 13 have a `Cause`, so 17 and 18 too are given only where the plain tree's rules refuse
   abbrev pub RefusedWithCause : State → Request → Type 0
   RefusedWithCause x q =
       (n w k : ℕ) → outcome listing q (x .store) .reply ≡ refused n w k → plainRules (x .plain) (q .call) ≡ pass

@@ -10,7 +10,7 @@ pub struct Record {
     pub entry_size: u64,
 }
 
-// Document 01, "Turning a call down", row by row: a path is 0 (only, or source) or 1 (destination), and comes before a
+// Document 01, "Turning a call down", row by row, then 17 and 18 of #103: a path is 0 (only, or source) or 1 (destination), and comes before a
 // length.
 pub enum Refusal {
     MalformedTable,
@@ -26,9 +26,12 @@ pub enum Refusal {
     Limit,
     KeyTooLong,
     NoRoom,
+    LentCount,
+    RangeTooLarge,
 }
 
-// A changing call's answer: accepted with a value (the data's length for write, else 0), or refused.
+// A changing call's answer: accepted with a value (the data's length for write, append and writing inside,
+// else 0), or refused.
 pub enum Answer {
     Accepted(u64),
     Refused(Refusal),
