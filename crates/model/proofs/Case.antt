@@ -1,4 +1,4 @@
--- What a case of the tables in Cases.antt and Corners.antt is, and how it is computed: on bytes, from a listing and a table encoded here.
+-- What a case of the tables in Cases.antt, Corners.antt and ContentCases.antt is, and how it is computed: on bytes, from a listing and a table encoded here.
 -- The encoding of a listing serves the cases alone: the port only reads listings.
 use mathlib.Core.Bool.{Bool, true, false}
 use mathlib.Core.List.{List, [], _∷_, _++_}
@@ -10,7 +10,7 @@ use Rattle.model.specs.Bytes.{Bytes, bytes, same}
 use Rattle.model.specs.Path.{Path}
 use Rattle.model.specs.Tree.{listed, Node, dir, file, link, Table, Tree}
 use Rattle.model.specs.Table.{encode, padded, recordOf, isTable, tableIn}
-use Rattle.model.specs.Calls.{Call, write, mkdir, unlink, rmdir, rename, Query}
+use Rattle.model.specs.Calls.{Call, write, append, writeInside, mkdir, unlink, rmdir, rename, Query}
 use Rattle.model.specs.Answer.{Reply, accepted, refused}
 use Rattle.model.specs.Outcome.{Store, Outcome, outcome, ask}
 
@@ -51,6 +51,13 @@ pub data Step : Type 0 where
 -- the calls with their limits; mkdir without exist_ok, without and with parents; write and mkdir with mtime 7
 abbrev pub writing : ℕ → String → Bytes → Step
 writing limit p c = call limit (write (path p) 7 c)
+
+-- data and lent bytes; an offset and data: with mtime 8
+abbrev pub appending : ℕ → String → Bytes → Bytes → Step
+appending limit p d b = call limit (append (path p) 8 d b)
+
+abbrev pub writingInside : ℕ → String → ℕ → Bytes → Step
+writingInside limit p o d = call limit (writeInside (path p) 8 o d)
 
 abbrev pub making : ℕ → String → Step
 making limit p = call limit (mkdir (path p) false false 7)

@@ -1,6 +1,6 @@
 -- #103: what an accepted append and an accepted writing inside have passed, and that both can write the file.
-use mathlib.Core.Path.{_≡_, refl, ap, sym}
-use mathlib.Core.List.{List, [], _∷_}
+use mathlib.Core.Path.{_≡_, refl}
+use mathlib.Core.List.{[], _∷_}
 use mathlib.Core.Bool.{Bool, true, false, cond}
 use mathlib.Core.Option.{Option, none, some}
 use Prim.Native.Nat.{ℕ, _+_}
@@ -8,9 +8,9 @@ use lib.Dec.{ltb, eqb}
 use lib.ListN.{length}
 use Rattle.model.specs.Bytes.{Bytes}
 use Rattle.model.specs.Path.{Path}
-use Rattle.model.specs.Tree.{Body, held, listed, Node, dir, file, link, Table, Tree, View, shown, kind}
-use Rattle.model.specs.Checks.{Check, pass, refuse, _then_, unless, parentChecks, writeAt, writeChecks, Memory, charged}
-use Rattle.model.specs.Content.{isOwn, contentOf, needed, appended, appendChecks, appendMemory, ownAt, insideChecks, spliced}
+use Rattle.model.specs.Tree.{held, listed, Node, dir, file, link, Table, Tree, View, shown, kind}
+use Rattle.model.specs.Checks.{pass, refuse, _then_, unless, writeChecks, Memory, charged}
+use Rattle.model.specs.Content.{isOwn, contentOf, needed, appended, appendChecks, appendMemory, ownAt, insideChecks}
 use Rattle.model.specs.Calls.{append, writeInside, changed, rules}
 use Rattle.model.proofs.Orders.{bot, eqb-eq}
 use Rattle.model.proofs.Invariant.{Inv, kind-at, then-pass, unless-pass, parents-pass}

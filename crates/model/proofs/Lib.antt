@@ -1,6 +1,7 @@
 pub mod Case
 pub mod Cases
 pub mod Corners
+pub mod ContentCases
 pub mod Forms
 pub mod Orders
 pub mod Maps
@@ -13,6 +14,7 @@ pub mod Walks
 pub mod Small
 pub mod Moves
 pub mod Contents
+pub mod Splices
 pub mod Passed
 pub mod Agree
 pub mod Effects
@@ -23,5 +25,6 @@ pub mod Outputs
 pub mod Reached
 pub mod Resumed
 pub mod Built
+pub mod Counted
 pub mod Demand3
 pub mod Chained

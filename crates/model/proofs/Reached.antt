@@ -56,7 +56,7 @@ module _ (listing : Bytes) (E : ℕ) where
     pub sound : isListing listing ≡ true → Sound (entriesOf (x .store)) (treeIn listing) (x .plain)
 
   -- what an accepted call has passed
-  record Passed (q : Request) (s : Store) : Type 0 where
+  pub record Passed (q : Request) (s : Store) : Type 0 where
     pub well : isListing listing ≡ true
     pub form : forms (q .call) ≡ pass
     pub rule : rules (limited (s .rec .«entry_size») (q .limit)) (entriesOf s) (treeIn listing) (q .call) ≡ pass
@@ -71,7 +71,7 @@ module _ (listing : Bytes) (E : ℕ) where
   number-is : (m v j n w k : ℕ) → refuse m v j ≡ refuse n w k → m ≡ n
   number-is m v j n w k h = cc
 
-  has-passed : (q : Request) (s : Store) → verdict listing q s ≡ pass → Passed q s
+  pub has-passed : (q : Request) (s : Store) → verdict listing q s ≡ pass → Passed q s
   has-passed q s h =
       let a = then-pass (unless 1 (lent q s)) _ h in
       let b = then-pass (unless 2 (isListing listing)) _ (a .1) in
@@ -140,7 +140,7 @@ module _ (listing : Bytes) (E : ℕ) where
     reached-after (q ∷ qs) x w r = reached-after qs (step listing q x) (w .1) (reached-step q x (w .0) r)
 
     -- an answer tells the verdict
-    accepted-pass : (c : Check) (q : Request) (s : Store) (v : ℕ) → settle c listing q s .reply ≡ accepted v → c ≡ pass
+    pub accepted-pass : (c : Check) (q : Request) (s : Store) (v : ℕ) → settle c listing q s .reply ≡ accepted v → c ≡ pass
     accepted-pass pass q s v h = refl
     accepted-pass (refuse n w k) q s v h = absurd (not-refused v n w k (sym h))
 

@@ -12,7 +12,8 @@ use Rattle.model.specs.Tree.{Entry, Table, Tree, View, shown, kind, isNo
 use Rattle.model.specs.Listing.{isListing, treeIn}
 use Rattle.model.specs.Table.{entryBytes, encode, padded, charge, isTable, tableIn}
 use Rattle.model.specs.Checks.{pass}
-use Rattle.model.specs.Calls.{Call, write, append, writeInside, mkdir, unlink, rmdir, rename}
+use Rattle.model.specs.Content.{contentOf, appended, spliced}
+use Rattle.model.specs.Calls.{Call, write, append, writeInside, mkdir, unlink, rmdir, rename, valueOf}
 use Rattle.model.specs.Answer.{Reply, accepted, refused}
 use Rattle.model.specs.Outcome.{Store, Request, Outcome, outcome, opened}
 use Rattle.model.specs.Plain.{plainRules, plainEffect, visibleTree}
@@ -187,6 +188,27 @@ pub record DoesAsSaid (listing : Bytes) (x : State) (q : Request) : Type 0 where
 pub record RunFrom (listing : Bytes) (start : State) (calls : List Request) : Type 0 where
   pub each : Throughout (DoesAsSaid listing) listing start calls
   pub in-the-end : Agrees listing (start .store .rec .«entry_size») (after listing calls start)
+
+-- #103: "each of the two, once accepted, counts as a write of the whole new content": the call that a call counts as,
+-- where f is what is visible
+abbrev pub countsAs : View → Call → Call
+countsAs f (write p m c) = write p m c
+countsAs f (append p m d b) = write p m (appended (f p) d b)
+countsAs f (writeInside p m o d) = write p m (spliced o d (contentOf (f p) []))
+countsAs f (mkdir p up ok m) = mkdir p up ok m
+countsAs f (unlink p) = unlink p
+countsAs f (rmdir p) = rmdir p
+countsAs f (rename a b) = rename a b
+
+-- another call in the place of the one that is asked for, with its limit and its work buffer
+abbrev pub insteadOf : Request → Call → Request
+insteadOf q c = record { call = c; limit = q .limit; work = q .work }
+
+-- so made, the call c is accepted and leaves the same
+pub record LeavesTheSame (listing : Bytes) (s : Store) (q : Request) (c : Call) : Type 0 where
+  pub reply : outcome listing (insteadOf q c) s .reply ≡ accepted (valueOf c)
+  pub store : outcome listing (insteadOf q c) s .store ≡ outcome listing q s .store
+  pub work : outcome listing (insteadOf q c) s .work ≡ outcome listing q s .work
 
 -- One call as its caller has it: what was asked, and the reply, the table with its record and the work buffer that were
 -- there after it.
