@@ -3,7 +3,3 @@ pub mod Turns
 pub mod Wrongs
 pub mod Heads
 pub mod Parts
-pub mod Forth
-pub mod Back
-pub mod Scripts
-pub mod Bytewise
