@@ -3,3 +3,4 @@ pub mod Turns
 pub mod Wrongs
 pub mod Heads
 pub mod Parts
+pub mod Forth
