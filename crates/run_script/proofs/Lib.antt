@@ -4,3 +4,4 @@ pub mod Wrongs
 pub mod Heads
 pub mod Parts
 pub mod Forth
+pub mod Back
