@@ -250,7 +250,11 @@ module _ (two : Bool) (p : Bytes) (f : StepFields) (limit : ℕ) (q : Bytes) (h 
       let c = read-third in
       λ i. record {
         call =
-          callOf (orderOf (record { kind = k i; flags = g i; mtime = m i; offset = o i; first = a i; second = b i; third = c i }) (l i)) (a i) (b i) (c i);
+            callOf
+            (orderOf (record { kind = k i; flags = g i; mtime = m i; offset = o i; first = a i; second = b i; third = c i }) (l i))
+            (a i)
+            (b i)
+            (c i);
         limit = l i;
       }
 
@@ -276,5 +280,5 @@ read-steps two (x ∷ xs) p h =
     record {
       stand = rw (step-fits two p f l q b, step-headed two p f l q b (rules-kept two (x .call) (e .0)), end) (ih .stand);
       steps =
-        (λ i. this i ∷ stepsFrom two (p ++ (laid two f l ++ q)) (length xs) (end i)) ∙ ap (λ (ys : List Step). x ∷ ys) (ih .steps);
+          (λ i. this i ∷ stepsFrom two (p ++ (laid two f l ++ q)) (length xs) (end i)) ∙ ap (λ (ys : List Step). x ∷ ys) (ih .steps);
     }

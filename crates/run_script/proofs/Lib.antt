@@ -5,3 +5,5 @@ pub mod Heads
 pub mod Parts
 pub mod Forth
 pub mod Back
+pub mod Scripts
+pub mod Bytewise

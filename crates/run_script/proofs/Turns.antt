@@ -27,7 +27,8 @@ module _ (s : Bytes) {b : Bool} (e : b ≡ marked s) where
     pub started : {two : Bool} → two ≡ isTwo s → (n : ℕ) → n ≡ stepCount s → Kept two s n 8
     started t n f = record { inside = long; rest = rw (t, f, sym e ∙ not-false b h) }
 
-pub turned : (two : Bool) (s : Bytes) (left at : ℕ) → 0 < left → filled two s left at ≡ ((fits two s at && headed two s at) && filled two s (left - 1) (stepEnd two s at))
+pub turned : (two : Bool) (s : Bytes) (left at : ℕ) → 0 < left
+    → filled two s left at ≡ ((fits two s at && headed two s at) && filled two s (left - 1) (stepEnd two s at))
 turned two s zero at h = absurd (omega arith)
 turned two s (suc n) at h = let d : suc n - 1 ≡ n = omega arith in rw d
 

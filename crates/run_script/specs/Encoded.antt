@@ -23,7 +23,8 @@ pub record StepFields : Type 0 where
 abbrev pub fieldsOf : Call → StepFields
 fieldsOf (write p m d) = record { kind = 1; flags = 0; mtime = m; offset = 0; first = p; second = d; third = [] }
 fieldsOf (append p m d b) = record { kind = 6; flags = 0; mtime = m; offset = 0; first = p; second = d; third = b }
-fieldsOf (writeInside p m o d) = record { kind = 7; flags = 0; mtime = m; offset = o; first = p; second = d; third = [] }
+fieldsOf (writeInside p m o d) =
+    record { kind = 7; flags = 0; mtime = m; offset = o; first = p; second = d; third = [] }
 fieldsOf (mkdir p up ok m) =
     record { kind = 2; flags = cond up 1 0 + cond ok 2 0; mtime = m; offset = 0; first = p; second = []; third = [] }
 fieldsOf (unlink p) = record { kind = 3; flags = 0; mtime = 0; offset = 0; first = p; second = []; third = [] }
@@ -64,7 +65,8 @@ scriptOf two xs = markOf two ++ (bytes 4 (length xs) ++ stepsBytes two xs)
 -- the first part's length fits 16 bits, those of the others 32; mtime bits, offset and limit 64
 unfoldable pub fittingIn : StepFields → ℕ → Bool
 fittingIn f limit =
-    (ltb (length (f .first)) 0x1_0000 && (ltb (length (f .second)) 0x1_0000_0000 && ltb (length (f .third)) 0x1_0000_0000))
+    (ltb (length (f .first)) 0x1_0000
+    && (ltb (length (f .second)) 0x1_0000_0000 && ltb (length (f .third)) 0x1_0000_0000))
     && (ltb (f .mtime) 0x1_0000_0000_0000_0000
     && (ltb (f .offset) 0x1_0000_0000_0000_0000 && ltb limit 0x1_0000_0000_0000_0000))
 

@@ -117,9 +117,9 @@ stepsIn s = stepsFrom (isTwo s) s (stepCount s) 8
 abbrev pub hasData : ℕ → Bool
 hasData k = eqb k 1 || (eqb k 6 || eqb k 7)
 
--- a kind k from 1 to 5, in TSC2 to 7; flags f only in mkdir; a second part, of m bytes, only where there is data, and in
--- rename; mtime bits t only where there is data, and in mkdir; an offset o only in writing inside; a third part, of n
--- bytes, only in append
+-- a kind k from 1 to 5, in TSC2 to 7; flags f only in mkdir; a second part, of m bytes, only where there is data, and
+-- in rename; mtime bits t only where there is data, and in mkdir; an offset o only in writing inside; a third part, of
+-- n bytes, only in append
 unfoldable pub ruled : Bool → ℕ → ℕ → ℕ → ℕ → ℕ → ℕ → Bool
 ruled two k f m t o n =
     (ltb 0 k && (ltb k 6 || (two && ltb k 8)))
