@@ -18,7 +18,7 @@ pub const SCRIPT_HEAD: usize = 8;
 
 pub const STEP_HEAD: usize = 24;
 
-pub const STEP_HEAD_TWO: usize = 36;
+const STEP_HEAD_TWO: usize = 36;
 
 // The bytes of a report's row, which a run writes for each step.
 pub const ROW_SIZE: usize = 32;
