@@ -48,7 +48,7 @@ module _ (listing : Bytes) (s : Store) (work script report : Bytes) where
       well = sym ea ∙ not-false a ha
 
       pub head-long : 8 ≤ length script
-      head-long = marked-long script (and-true (marked script) (filled script (stepCount script) 8) well .0)
+      head-long = marked-long script (and-true (marked script) (filled (isTwo script) script (stepCount script) 8) well .0)
 
       module _ {b : Bool} (eb : b ≡ leb (32 * stepCount script) (length report)) where
         pub short : not b ≡ true → Gives (ranOn listing s work script report) ran.ShortReport (s .table) work report
