@@ -1,3 +1,4 @@
 pub mod Settles
 pub mod Admits
 pub mod Chains
+pub mod Keys

@@ -1,12 +1,12 @@
--- The calls that change one entry: their checks from 3 to 10, the root that none of them passes, and then the insertion.
+-- The calls that change one entry: the root that none of them passes, and their checks from 3 to 10, then the insertion.
 use mathlib.Core.Path.{_≡_, refl, sym, ap, subst, _∙_}
-use mathlib.Core.Bool.{Bool, true, false}
+use mathlib.Core.Bool.{true}
 use mathlib.Core.List.{[], _∷_}
 use mathlib.Core.Option.{Option, none}
 use Prim.Native.Nat.{ℕ, zero, suc, _≤_}
 use lib.ListN.{length, replicate}
-use Rattle.model.specs.Bytes.{Bytes, before}
-use Rattle.model.specs.Path.{Path, isPath}
+use Rattle.model.specs.Bytes.{Bytes}
+use Rattle.model.specs.Path.{Path}
 use Rattle.model.specs.Map.{put, lookup}
 use Rattle.model.specs.Tree.{Entry, Table, Tree, kind}
 use Rattle.model.specs.Listing.{treeIn}
@@ -20,16 +20,13 @@ use Rattle.model.specs.declared.Answered.{Answered}
 use Rattle.model.specs.declared.Answer.the-variants.{Refused}
 use Rattle.model.proofs.Orders.{bot}
 use Rattle.model.proofs.Maps.{ascends-is, lookup-low}
-use Rattle.model.proofs.Invariant.{then-pass, form-is}
-use Rattle.model.proofs.Codec.{decoded, path-short}
+use Rattle.model.proofs.Codec.{decoded}
 use Rattle.table_write.specs.Merge.{Written}
 use Rattle.table_insert.specs.declared.Inserted.{Inserted}
 use Rattle.table_insert.specs.Insert.{insertion, ifDone}
 use Rattle.check_judged.specs.declared.Judged.{Judged}
 use Rattle.check_judged.specs.declared.Judged.the-variants as judge
 use Rattle.check_judged.specs.Judged.{checkOf, refuses}
-use Rattle.check_judged.proofs.Checked.{not-refused-passes, refused-not-passed}
-use Rattle.check_judged.proofs.Thens.{ends, goes-on}
 use Rattle.check_one_path.specs.Change.{changeChecks}
 use Rattle.check_one_path.specs.declared.Change.{Change}
 use Rattle.check_one_path.specs.declared.Change.the-variants as change
@@ -44,7 +41,7 @@ module _ (l s : Bytes) (r : Record) (p : Path) (x : Change) where
   judged = form 0 p then changeChecks x (tableIn s r) (treeIn l) p
 
   -- each call refuses the root: write and unlink as a directory, rmdir by its own check
-  root : Given l s r → refuses (changeChecks x (tableIn s r) (treeIn l) []) ≡ true
+  pub root : Given l s r → refuses (changeChecks x (tableIn s r) (treeIn l) []) ≡ true
   root g = each x
     where
       each : (y : Change) → refuses (changeChecks y (tableIn s r) (treeIn l) []) ≡ true
@@ -55,29 +52,6 @@ module _ (l s : Bytes) (r : Record) (p : Path) (x : Change) where
           let f = shownIn l s r in
           ap (λ (o : Option Entry). refuses (unlinkEntry 0 o (parentChecks 0 f [] then unlinkAt 0 (kind f [])))) e
       each change.Rmdir = refl
-
-  -- so a path that passes is a key
-  may : Given l s r → (c : Check) → c ≡ judged → c ≡ pass → (before [] p ≡ true) × (length p ≤ 512)
-  may g c e h =
-      let k = then-pass (form 0 p) (changeChecks x (tableIn s r) (treeIn l) p) (sym e ∙ h) in
-      (not-root p (k .1), path-short p (form-is 0 p (k .0)))
-    where
-      not-root : (p : Path) → changeChecks x (tableIn s r) (treeIn l) p ≡ pass → before [] p ≡ true
-      not-root [] e = absurd (refused-not-passed (changeChecks x (tableIn s r) (treeIn l) []) (root g) e)
-      not-root (b ∷ p) e = refl
-
-  -- 3 gave j, and b is whether that refuses
-  module _ (g : Given l s r) (j : Check) (b : Bool) (e : j ≡ form 0 p) (i : b ≡ refuses j) where
-    pub is-path : b ≡ false → isPath p ≡ true
-    is-path h = form-is 0 p (sym e ∙ not-refused-passes j (sym i ∙ h))
-
-    pub by-form : b ≡ true → (j ≡ judged) × (j ≡ pass → (before [] p ≡ true) × (length p ≤ 512))
-    by-form h = let k = ends (form 0 p) j b e i (changeChecks x (tableIn s r) (treeIn l) p) h in (k, may g j k)
-
-    -- the checks behind it gave c
-    pub by-checks : b ≡ false → (c : Check) → c ≡ changeChecks x (tableIn s r) (treeIn l) p
-        → (c ≡ judged) × (c ≡ pass → (before [] p ≡ true) × (length p ≤ 512))
-    by-checks h c d = let k = goes-on (form 0 p) j b e i (changeChecks x (tableIn s r) (treeIn l) p) c h d in (k, may g c k)
 
 -- what such a call brings are an entry's fields, and the data's length is what it answers
 brought : (x : Change) (p : Path) (m : ℕ) (d : Bytes) → brings x m d ≡ true → Written (kindPut x) m 0 d × (length d ≡ valueOf (callOf x p m d))
