@@ -1,0 +1,96 @@
+// Adding to a file and writing inside it, #103: append_bytes of overlay.rs, append_file and write_file_at of
+// overlay_state.rs. Any bytes can be given as listing, table, work buffer, path, data and lent bytes, and any numbers
+// as record, mtime, offset and limit. Each has an inner form, named *_admitted, that assumes a listing and a table that
+// were checked and a work buffer that is not shorter than the table: for these 1 and 2 are not asked again. A refused
+// call leaves all as it was; an accepted one leaves the work buffer all 0. Each is a constant number of passes over
+// what it is lent.
+ghost use mathlib.Core.Path.{_≡_};
+ghost use mathlib.Core.Bool.{true, false};
+ghost use mathlib.Core.List.{[]};
+ghost use Prim.Native.Nat.{ℕ, _+_, _≤_};
+ghost use lib.Dec.{leb};
+ghost use lib.ListN.{length};
+ghost use Rattle.model.specs.Bytes.{Bytes, before};
+ghost use Rattle.model.specs.Table.{tableIn, isTable};
+ghost use Rattle.model.specs.Checks.{pass, limited};
+ghost use Rattle.model.specs.Content.{isOwn, appendMemory};
+ghost use Rattle.model.specs.Outcome.{Given, shownIn};
+ghost use Rattle.check_judged.specs.Judged.{checkOf};
+ghost use Rattle.call_content.specs.Judged.{appendJudged, insideJudged};
+use base_budget::Shrunk;
+use check_judged::Judged;
+use model::Record;
+use model::Refusal;
+
+// Whether `len` bytes are within what the charge leaves of the limit; equal passes.
+fn check_budget(charge: u64, len: u64, limit: u64) -> bool
+    ensures { λ r. ⌜ r ≡ leb (charge + len) limit ⌝ }
+{
+    let Shrunk::Left(budget) = base_budget::available_memory(charge, limit) else {
+        return false;
+    };
+    budget.check(len)
+}
+
+// 11 by append's own budget: unless the file is an own one, its whole new content of `len` bytes is to be within it.
+fn append_memory(table: &[u8], rec: Record, path: &[u8], len: u64, limit: u64) -> Judged
+    requires { ⌜ isTable (now table) rec ≡ true ⌝ }
+    ensures { λ r. ⌜ ((l : Bytes) (n : ℕ) → (isOwn (shownIn l (now (table .entry)) rec (now (path .entry))) ≡ false → n
+        ≡ len) → checkOf r ≡ appendMemory (limited (rec .«entry_size») limit) (tableIn (now (table .entry)) rec)
+        (shownIn l (now (table .entry)) rec (now (path .entry))) n) ⌝ }
+{
+    let entry = table_entries::get(table, rec, path);
+    if check_content::is_own(entry) {
+        return Judged::Pass;
+    }
+    let charge = table_insert::memory_usage(table, rec);
+    if check_budget(charge, len, limit) {
+        return Judged::Pass;
+    }
+    Judged::Refused(Refusal::Limit)
+}
+
+// append: 3 to 8, 17, and 11 by its own budget. A path that passes is neither the root nor too long for a key.
+fn append_judge(
+    listing: &[u8],
+    table: &[u8],
+    rec: Record,
+    path: &[u8],
+    data: &[u8],
+    lent: &[u8],
+    limit: u64,
+) -> Judged
+    requires { ⌜ Given (now listing) (now table) rec ⌝ }
+    ensures { λ r. ⌜ checkOf r ≡ appendJudged (now (listing .entry)) (now (table .entry)) rec limit
+        (now («data» .entry)) (now (lent .entry)) (now (path .entry)) ⌝ }
+    ensures { λ r. ⌜ (checkOf r ≡ pass → (before [] (now (path .entry)) ≡ true)
+        × (length (now (path .entry)) ≤ 512)) ⌝ }
+{
+    let form = check_lent::check_path(path, 0);
+    if check_judged::is_refused(form) {
+        return form;
+    }
+    let held = lent.len() as u64;
+    let checks = check_content::append_checks(listing, table, rec, path, held);
+    let memory = append_memory(table, rec, path, held + data.len() as u64, limit);
+    if check_judged::is_refused(checks) {
+        return checks;
+    }
+    memory
+}
+
+// Writing inside: 3, 5 and 18, where `added` bytes are written from `offset` on. A path that passes is neither the root
+// nor too long for a key.
+fn inside_judge(table: &[u8], rec: Record, path: &[u8], offset: u64, added: u64) -> Judged
+    requires { ⌜ isTable (now table) rec ≡ true ⌝ }
+    ensures { λ r. ⌜ ((l d : Bytes) → length d ≡ added → checkOf r ≡ insideJudged l (now (table .entry)) rec offset d
+        (now (path .entry))) ⌝ }
+    ensures { λ r. ⌜ (checkOf r ≡ pass → (before [] (now (path .entry)) ≡ true)
+        × (length (now (path .entry)) ≤ 512)) ⌝ }
+{
+    let form = check_lent::check_path(path, 0);
+    if check_judged::is_refused(form) {
+        return form;
+    }
+    check_content::inside_checks(table, rec, path, offset, added)
+}
