@@ -11,9 +11,9 @@ use Rattle.model.specs.Map.{put, lookup}
 use Rattle.model.specs.Tree.{Entry, Table, Tree, kind}
 use Rattle.model.specs.Listing.{treeIn}
 use Rattle.model.specs.Table.{encode, padded, entryOf, tableIn}
-use Rattle.model.specs.Checks.{Check, pass, refuse, _then_, unless, form, Memory, limited, unlimited, charged, parentChecks, unlinkAt, unlinkEntry}
+use Rattle.model.specs.Checks.{Check, _then_, form, Memory, limited, charged, parentChecks, unlinkAt, unlinkEntry}
 use Rattle.model.specs.Calls.{changed, forms, rules, valueOf}
-use Rattle.model.specs.Outcome.{Given, shownIn, Request, room, verdict, outcome}
+use Rattle.model.specs.Outcome.{Given, shownIn, Request, outcome}
 use Rattle.model.specs.declared.Record.{Record}
 use Rattle.model.specs.declared.Refusal.{Refusal}
 use Rattle.model.specs.declared.Answered.{Answered}
@@ -30,9 +30,8 @@ use Rattle.check_judged.specs.Judged.{checkOf, refuses}
 use Rattle.check_one_path.specs.Change.{changeChecks}
 use Rattle.check_one_path.specs.declared.Change.{Change}
 use Rattle.check_one_path.specs.declared.Change.the-variants as change
-use Rattle.call_answer.specs.Meets.{requested, stored, last, Meets, answeredOf}
-use Rattle.call_answer.proofs.Settles.{refused-meets, inserted-meets}
-use Rattle.call_answer.proofs.Admits.{given-verdict}
+use Rattle.call_answer.specs.Meets.{requested, stored, Meets, answeredOf}
+use Rattle.call_answer.proofs.OnePath as one-path
 use Rattle.call_one_path.specs.Called.{callOf, brings, kindPut}
 
 -- a call with the path p, by its checks from 3 to 10
@@ -71,30 +70,16 @@ called change.Write p m d o t l = (refl, refl, refl)
 called change.Unlink p m d o t l = (refl, refl, refl)
 called change.Rmdir p m d o t l = (refl, refl, refl)
 
-regroup : (a b c d : Check) → (a then (b then c) then d) ≡ ((a then b) then (c then d))
-regroup pass pass c d = refl
-regroup pass (refuse n w k) c d = refl
-regroup (refuse n w k) b c d = refl
-
 -- such a call behind 1 and 2, with the work buffer w; its checks from 3 to 10 gave j
 module _ (l s : Bytes) (r : Record) (w : Bytes) (p : Path) (x : Change) (m : ℕ) (d : Bytes) (limit : ℕ) (g : Given l s r) (h : length s ≤ length w)
     (j : Judged) (e : checkOf j ≡ judged l s r p x) where
   abbrev q : Request
   q = requested (callOf x p m d) limit w
 
-  grouped : verdict l q (stored s r) ≡ (judged l s r p x then last l q (stored s r))
-  grouped =
-      let o = limited (r .«entry_size») limit in
-      let t = tableIn s r in
-      let n = unless 13 (room l q (stored s r)) in
-      let k = called x p m d o t (treeIn l) in
-      given-verdict l q (stored s r) g h
-      ∙ ap (λ (y : Check). y then rules o t (treeIn l) (callOf x p m d) then n) (k .0)
-      ∙ ap (λ (y : Check). form 0 p then y then n) (k .1)
-      ∙ regroup (form 0 p) (changeChecks x t (treeIn l) p) (charged o (changed t (treeIn l) (callOf x p m d))) n
-
   pub call-refused : (y : Refusal) → j ≡ judge.Refused y → Meets (outcome l q (stored s r)) (record { answer = Refused y; «record» = r }) s w
-  call-refused y u = refused-meets l q (stored s r) (judged l s r p x) grouped y (sym (ap checkOf u) ∙ e)
+  call-refused =
+      let k = called x p m d (limited (r .«entry_size») limit) (tableIn s r) (treeIn l) in
+      one-path.call-refused l q (stored s r) g h p (changeChecks x (tableIn s r) (treeIn l) p) (k .0) (k .1) j e
 
   module _ (b : brings x m d ≡ true) (k : ℕ) (f : k ≡ kindPut x) where
     pub call-fields : Written k m 0 d
@@ -105,7 +90,9 @@ module _ (l s : Bytes) (r : Record) (w : Bytes) (p : Path) (x : Change) (m : ℕ
         → t ≡ ifDone i (padded (length s) (encode (put p (entryOf k m 0 d) (tableIn s r)))) s → v ≡ ifDone i (replicate (length w) 0) w
         → (a : Answered) → a ≡ answeredOf i r (length d) → Meets (outcome l q (stored s r)) a t v
     call-inserted u i y t v z n a o =
+        let c′ = called x p m d (limited (r .«entry_size») limit) (tableIn s r) (treeIn l) in
         let c : put p (entryOf k m 0 d) (tableIn s r) ≡ changed (tableIn s r) (treeIn l) (callOf x p m d) =
-        ap (λ (c : ℕ). put p (entryOf c m 0 d) (tableIn s r)) f ∙ called x p m d unlimited (tableIn s r) (treeIn l) .2 in
-        inserted-meets l q (stored s r) (judged l s r p x) grouped (sym (ap checkOf u) ∙ e) i (y ∙ ap (insertion (r .«entry_size») limit (length s)) c) t v
+        ap (λ (c : ℕ). put p (entryOf c m 0 d) (tableIn s r)) f ∙ c′ .2 in
+        one-path.call-inserted l q (stored s r) g h p (changeChecks x (tableIn s r) (treeIn l) p) (c′ .0) (c′ .1) j e u i
+        (y ∙ ap (insertion (r .«entry_size») limit (length s)) c) t v
         (z ∙ ap (λ (y : Table). ifDone i (padded (length s) (encode y)) s) c) n a (o ∙ ap (answeredOf i r) (brought x p m d b .1))
