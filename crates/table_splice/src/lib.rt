@@ -1,0 +1,143 @@
+// A file's content with data written at an offset, put as an own file's entry into a table. The old content lies in the
+// table itself, or in bytes that the caller lends. Assumes a table that agrees with its record, and a key that is not
+// empty: only this repository's crates call, after a check. Nothing is written before the charge and the room are
+// known. Each call is a constant number of passes over table, work buffer, data and lent bytes.
+ghost use mathlib.Core.Path.{_≡_};
+ghost use mathlib.Core.Bool.{true};
+ghost use mathlib.Core.List.{[], _++_};
+ghost use mathlib.Core.Option.{some};
+ghost use Prim.Native.Nat.{ℕ, _+_, _-_, _≤_, _<_};
+ghost use lib.Dec.{leb};
+ghost use lib.ListN.{length, take, drop, replicate};
+ghost use Rattle.model.specs.Bytes.{Bytes, before};
+ghost use Rattle.model.specs.Path.{Path};
+ghost use Rattle.model.specs.Map.{lookup, put};
+ghost use Rattle.model.specs.Tree.{Entry, own, Table};
+ghost use Rattle.model.specs.Table.{bodyOf, entryBytes, encode, padded, entryAt, entriesAt, tableIn, isTable};
+ghost use Rattle.base_fields.specs.Write.{overwritten};
+ghost use Rattle.table_entries.specs.Place.{Standing, Sought, endOf};
+ghost use Rattle.table_entries.specs.Cut.{upTo};
+ghost use Rattle.table_write.specs.Merge.{Merged};
+ghost use Rattle.table_insert.specs.Insert.{insertion, ifDone};
+ghost use Rattle.table_splice.specs.Spliced.{spliced};
+ghost use Rattle.table_splice.specs.Splice.{isOwnFile, isDone, Fits, Begun};
+
+// What inserting will answer, and how far the new table is written to the work buffer if it is done.
+struct Splice {
+    answer: table_insert::Inserted,
+    merge: table_write::Merge,
+}
+
+// How long a content of `len` bytes is with `added` bytes written at the offset.
+pub fn spliced_len(len: u64, offset: u64, added: u64) -> u64
+    requires { ⌜ offset + added < 0x1_0000_0000_0000_0000 ⌝ }
+    ensures { λ r. ⌜ ((c d : Bytes) → length c ≡ len → length d ≡ added → r ≡ length (spliced offset d c)) ⌝ }
+{
+    let end = offset + added;
+    if end < len {
+        return len;
+    }
+    end
+}
+
+// Whether the sum is within the bound, also where it has more than 64 bits.
+fn sum_within(x: u64, y: u64, bound: u64) -> bool
+    ensures { λ r. ⌜ r ≡ leb (x + y) bound ⌝ }
+{
+    if bound < y {
+        return false;
+    }
+    x <= bound - y
+}
+
+// What inserting an entry with a body of `len` bytes will answer, for any `len`: the limit first, then the room. The
+// record is measured without the body, so that no sum with its length is made before it is known to be within a bound.
+pub fn judge_length(
+    table: &[u8],
+    rec: model::Record,
+    key: &[u8],
+    len: u64,
+    limit: u64,
+) -> table_insert::Inserted
+    requires { ⌜ isTable (now table) rec ≡ true ⌝ }
+    requires { ⌜ (before [] (now key) ≡ true) × (length (now key) ≤ 512) ⌝ }
+    ensures { λ r. ⌜ ((v : Entry) → length (bodyOf v) ≡ len → r ≡ insertion (rec .«entry_size») limit
+        (length (now (table .entry))) (put (now (key .entry)) v (tableIn (now (table .entry)) rec))) ⌝ }
+{
+    let bare = table_insert::projected_record(table, rec, key, 0);
+    let charged = table_charge::body_charge(len);
+    if !sum_within(bare.charge, charged, limit) {
+        return table_insert::Inserted::MemoryUsageLimitExceeded;
+    }
+    if !sum_within(bare.used, len, table.len() as u64) {
+        return table_insert::Inserted::NoRoom;
+    }
+    table_insert::Inserted::Done(model::Record {
+        used: bare.used + len,
+        count: bare.count,
+        charge: bare.charge + charged,
+        entry_size: bare.entry_size,
+    })
+}
+
+// What stands before the offset, from `at` on: the content up to there, with zeros where it ends before the offset.
+fn put_front(work: &mut [u8], at: usize, content: &[u8], offset: usize)
+    requires { ⌜ at + offset ≤ length (now work) ⌝ }
+    ensures { λ _. ⌜ now (work .exit) ≡ overwritten (now (work .entry)) at (take offset (padded offset
+        (now (content .entry)))) ⌝ }
+{
+    let n = content.len();
+    if offset <= n {
+        base_fields::copy_in(work, at, &content[0..offset]);
+        return;
+    }
+    base_fields::copy_in(work, at, content);
+    base_fields::zero_to(work, at + n, at + offset);
+}
+
+// What of the content stands from `from` on, if any.
+fn put_tail(work: &mut [u8], at: usize, content: &[u8], from: usize)
+    requires { ⌜ at + (length (now content) - from) ≤ length (now work) ⌝ }
+    ensures { λ _. ⌜ now (work .exit) ≡ overwritten (now (work .entry)) at (drop from (now (content .entry))) ⌝ }
+{
+    let n = content.len();
+    if n <= from {
+        return;
+    }
+    base_fields::copy_in(work, at, &content[from..n]);
+}
+
+// The content with the data at the offset, from `at` on.
+fn put_content(work: &mut [u8], at: usize, content: &[u8], offset: usize, data: &[u8])
+    requires { ⌜ at + length (spliced offset (now «data») (now content)) ≤ length (now work) ⌝ }
+    ensures { λ _. ⌜ now (work .exit) ≡ overwritten (now (work .entry)) at (spliced offset (now («data» .entry))
+        (now (content .entry))) ⌝ }
+{
+    put_front(work, at, content, offset);
+    base_fields::copy_in(work, at + offset, data);
+    let end = offset + data.len();
+    put_tail(work, at + end, content, end);
+}
+
+// The entry's bytes from `at` on, and where they end.
+pub fn put_spliced(
+    work: &mut [u8],
+    at: usize,
+    key: &[u8],
+    mtime: u64,
+    content: &[u8],
+    offset: usize,
+    data: &[u8],
+) -> usize
+    requires { ⌜ at + 24 + length (now key) + length (spliced offset (now «data») (now content)) ≤ length (now work) ⌝ }
+    ensures { λ _. ⌜ now (work .exit) ≡ overwritten (now (work .entry)) at (entryBytes (now (key .entry)) (own mtime
+        (spliced offset (now («data» .entry)) (now (content .entry))))) ⌝ }
+    ensures { λ r. ⌜ r ≡ at + 24 + length (now (key .entry)) + length (spliced offset (now («data» .entry))
+        (now (content .entry))) ⌝ }
+{
+    let len = spliced_len(content.len() as u64, offset as u64, data.len() as u64);
+    table_write::put_head(work, at, key, model::OWN_FILE, mtime, 0, len);
+    let body = at + model::ENTRY_HEAD + key.len();
+    put_content(work, body, content, offset, data);
+    body + len as usize
+}
