@@ -1,17 +1,21 @@
 -- A content with data written at an offset: its length, its parts, and these written in a row.
-use mathlib.Core.Path.{_≡_, refl, ap, ap₂, sym, _∙_}
+use mathlib.Core.Path.{_≡_, refl, ap, ap₂, sym, subst, _∙_}
+use mathlib.Core.Bool.{true}
 use mathlib.Core.List.{[], _++_, append-assoc, append-nil}
 use Prim.Native.Nat.{ℕ, _+_, _-_, _<_, _≤_}
 use native.Mathlib.Omega.{arith}
 use lib.ListN.{length, take, drop, replicate, length-append, length-drop, length-replicate, drop-of-length-le}
 use lib.Seq.{take-all, take-append-le, take-append-seam, length-take-le}
-use Rattle.model.specs.Bytes.{Bytes}
-use Rattle.model.specs.Tree.{own}
-use Rattle.model.specs.Table.{entryBytes, padded}
+use Rattle.model.specs.Bytes.{Bytes, before}
+use Rattle.model.specs.Path.{Path}
+use Rattle.model.specs.Map.{put}
+use Rattle.model.specs.Tree.{Entry, own, Table}
+use Rattle.model.specs.Table.{entryBytes, encode, padded, entriesAt}
 use Rattle.base_fields.specs.Write.{overwritten}
 use Rattle.base_fields.proofs.Writes.{overwritten-none, two-writes, three-writes}
-use Rattle.table_write.specs.Merge.{headBytes, Written}
-use Rattle.table_write.proofs.Merges.{entry-put}
+use Rattle.table_entries.specs.Cut.{upTo}
+use Rattle.table_write.specs.Merge.{headBytes, Written, Merged, Copied}
+use Rattle.table_write.proofs.Merges.{entry-put, next-put}
 use Rattle.table_splice.specs.Spliced.{spliced}
 
 padded-length : (o : ℕ) (c : Bytes) → length (padded o c) ≡ length c + (o - length c)
@@ -88,3 +92,14 @@ pub spliced-put : (w w₁ w₂ k c d : Bytes) (m at o n : ℕ) → at + 24 + len
     → w₁ ≡ overwritten w at (headBytes k 1 m 0 n) → w₂ ≡ overwritten w₁ (at + 24 + length k) (spliced o d c)
     → w₂ ≡ overwritten w at (entryBytes k (own m (spliced o d c)))
 spliced-put w w₁ w₂ k c d m at o n h l e₁ e₂ = entry-put w w₁ w₂ k (spliced o d c) 1 m 0 at n (own-written m (spliced o d c)) h l e₁ e₂
+
+-- `put_next_spliced`: the entry is written behind what is copied, up to `end`
+pub spliced-next : (s w w₁ w₂ q c d : Bytes) (m o left at out left′ at′ out′ end : ℕ)
+    → out + length (encode (upTo q (entriesAt s left at))) + (24 + length q + length (spliced o d c)) ≤ length w
+    → Copied s w w₁ q left at out left′ at′ out′ → w₂ ≡ overwritten w₁ out′ (entryBytes q (own m (spliced o d c)))
+    → end ≡ out′ + 24 + length q + length (spliced o d c)
+    → (t : Table) (k : Path) → Merged s w t k left at out → before k q ≡ true → Merged s w₂ (put q (own m (spliced o d c)) t) q left′ at′ end
+spliced-next s w w₁ w₂ q c d m o left at out left′ at′ out′ end fits y e z t k g up =
+    let v : Entry = own m (spliced o d c) in
+    subst (λ (n : ℕ). Merged s w₂ (put q v t) q left′ at′ n) (sym z)
+    (next-put s w w₁ w₂ q v left at out left′ at′ out′ (length (spliced o d c)) refl fits y e t k g up)

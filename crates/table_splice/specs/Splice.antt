@@ -10,7 +10,7 @@ use Rattle.model.specs.Tree.{Entry, own, reference, directory, deleted, Table}
 use Rattle.table_entries.specs.Place.{endOf}
 use Rattle.table_write.specs.Merge.{Merged}
 use Rattle.table_insert.specs.declared.Inserted.{Inserted}
-use Rattle.table_insert.specs.declared.Inserted.the-variants.{Done, MemoryUsageLimitExceeded, NoRoom}
+use Rattle.table_insert.specs.Insert.{isDone}
 
 -- an own file's entry
 abbrev pub isOwnFile : Option Entry → Bool
@@ -20,19 +20,13 @@ isOwnFile (some (reference m z p)) = false
 isOwnFile (some (directory m)) = false
 isOwnFile (some deleted) = false
 
-abbrev pub isDone : Inserted → Bool
-isDone (Done r) = true
-isDone MemoryUsageLimitExceeded = false
-isDone NoRoom = false
+-- what is left of an old table of n bytes, whose entries end at `used`, fits behind what is written
+abbrev pub Fitting : ℕ → ℕ → ℕ → ℕ → Type 0
+Fitting n at out used = ((at ≤ used) × (used ≤ n)) × (out + (used - at) ≤ n)
 
--- what is left of the old table's bytes s, whose entries end at `used`, fits behind what is written
-pub record Fits (s : Bytes) (at out used : ℕ) : Type 0 where
-  pub ahead : at ≤ used
-  pub within : used ≤ length s
-  pub room : out + (used - at) ≤ length s
-
--- the table t, judged by a: if it is done, it is written to the work buffer up to its key k, and all of it will fit; else the buffer w is as it was
+-- the table t is judged by a; if it is done, the work buffer w′ has it up to its key k, and else is w, as it was
 pub record Begun (s w w′ : Bytes) (t : Table) (k : Path) (a : Inserted) (left at out used : ℕ) : Type 0 where
   pub merged : isDone a ≡ true → Merged s w′ t k left at out
   pub end : isDone a ≡ true → used ≡ endOf s left at
   pub kept : isDone a ≡ false → w′ ≡ w
+  pub size : length w′ ≡ length w

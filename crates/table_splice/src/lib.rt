@@ -18,9 +18,9 @@ ghost use Rattle.base_fields.specs.Write.{overwritten};
 ghost use Rattle.table_entries.specs.Place.{Standing, Sought, endOf};
 ghost use Rattle.table_entries.specs.Cut.{upTo};
 ghost use Rattle.table_write.specs.Merge.{Merged};
-ghost use Rattle.table_insert.specs.Insert.{insertion, ifDone};
+ghost use Rattle.table_insert.specs.Insert.{insertion, isDone, ifDone};
 ghost use Rattle.table_splice.specs.Spliced.{spliced};
-ghost use Rattle.table_splice.specs.Splice.{isOwnFile, isDone, Fits, Begun};
+ghost use Rattle.table_splice.specs.Splice.{isOwnFile, Fitting, Begun};
 
 // What inserting will answer, and how far the new table is written to the work buffer if it is done.
 struct Splice {
@@ -140,4 +140,126 @@ pub fn put_spliced(
     let body = at + model::ENTRY_HEAD + key.len();
     put_content(work, body, content, offset, data);
     body + len as usize
+}
+
+// What stays up to this key, then the entry; the old entry with this key, if any, is passed over.
+pub fn put_next_spliced(
+    work: &mut [u8],
+    table: &[u8],
+    merge: table_write::Merge,
+    key: &[u8],
+    mtime: u64,
+    content: &[u8],
+    offset: usize,
+    data: &[u8],
+) -> table_write::Merge
+    requires { ⌜ Standing (now table) (merge .left) (merge .at) ⌝ }
+    requires { ⌜ merge .out + length (encode (upTo (now key) (entriesAt (now table) (merge .left) (merge .at)))) +
+        (24 + length (now key) + length (spliced offset (now «data») (now content))) ≤ length (now work) ⌝ }
+    ensures { λ r. ⌜ ((t : Table) (k : Path) → Merged (now (table .entry)) (now (work .entry)) t k (merge .left)
+        (merge .at) (merge .out) → before k (now (key .entry)) ≡ true → Merged (now (table .entry)) (now (work .exit))
+        (put (now (key .entry)) (own mtime (spliced offset (now («data» .entry)) (now (content .entry)))) t)
+        (now (key .entry)) (r .left) (r .at) (r .out)) ⌝ }
+    ensures { λ _. ⌜ length (now (work .exit)) ≡ length (now (work .entry)) ⌝ }
+    ensures { λ r. ⌜ endOf (now (table .entry)) (r .left) (r .at) ≡ endOf (now (table .entry)) (merge .left)
+        (merge .at) ⌝ }
+{
+    let behind = table_write::copy_up_to(work, table, merge, key);
+    let out = put_spliced(work, behind.out, key, mtime, content, offset, data);
+    table_write::Merge {
+        at: behind.at,
+        left: behind.left,
+        out: out,
+    }
+}
+
+fn is_done(answer: table_insert::Inserted) -> bool
+    ensures { λ r. ⌜ r ≡ isDone answer ⌝ }
+{
+    match answer {
+        table_insert::Inserted::Done(_) => {
+            return true;
+        }
+        table_insert::Inserted::MemoryUsageLimitExceeded => {
+            return false;
+        }
+        table_insert::Inserted::NoRoom => {
+            return false;
+        }
+    }
+}
+
+// What inserting will answer; if it is done, the new table is written to the work buffer up to and with the entry.
+fn write_spliced(
+    work: &mut [u8],
+    table: &[u8],
+    rec: model::Record,
+    key: &[u8],
+    mtime: u64,
+    content: &[u8],
+    offset: u64,
+    data: &[u8],
+    limit: u64,
+) -> Splice
+    requires { ⌜ isTable (now table) rec ≡ true ⌝ }
+    requires { ⌜ (before [] (now key) ≡ true) × (length (now key) ≤ 512) ⌝ }
+    requires { ⌜ (offset + length (now «data») < 0x1_0000_0000_0000_0000) × (length (now table) ≤ length (now work)) ⌝ }
+    ensures { λ r. ⌜ r .answer ≡ insertion (rec .«entry_size») limit (length (now (table .entry))) (put
+        (now (key .entry)) (own mtime (spliced offset (now («data» .entry)) (now (content .entry))))
+        (tableIn (now (table .entry)) rec)) ⌝ }
+    ensures { λ r. ⌜ Begun (now (table .entry)) (now (work .entry)) (now (work .exit)) (put (now (key .entry)) (own mtime
+        (spliced offset (now («data» .entry)) (now (content .entry)))) (tableIn (now (table .entry)) rec))
+        (now (key .entry)) (r .answer) (r .merge .left) (r .merge .at) (r .merge .out) (rec .used) ⌝ }
+{
+    let len = spliced_len(content.len() as u64, offset, data.len() as u64);
+    let answer = judge_length(table, rec, key, len, limit);
+    let start = table_write::Merge {
+        at: 0,
+        left: rec.count,
+        out: 0,
+    };
+    if !is_done(answer) {
+        return Splice {
+            answer: answer,
+            merge: start,
+        };
+    }
+    let merge = put_next_spliced(
+        work,
+        table,
+        start,
+        key,
+        mtime,
+        content,
+        offset as usize,
+        data,
+    );
+    Splice {
+        answer: answer,
+        merge: merge,
+    }
+}
+
+// What is left of the old table, and the new one back into its buffer, if it is done.
+fn settle(
+    table: &mut [u8],
+    work: &mut [u8],
+    rec: model::Record,
+    splice: Splice,
+) -> table_insert::Inserted
+    requires { ⌜ (isDone (splice .answer) ≡ true → Fitting (length (now table)) (splice .merge .at) (splice .merge .out)
+        (rec .used)) ⌝ }
+    requires { ⌜ length (now table) ≤ length (now work) ⌝ }
+    ensures { λ r. ⌜ r ≡ splice .answer ⌝ }
+    ensures { λ _. ⌜ ((w : Bytes) (t : Table) (k : Path) → Begun (now (table .entry)) w (now (work .entry)) t k
+        (splice .answer) (splice .merge .left) (splice .merge .at) (splice .merge .out) (rec .used)
+        → (now (table .exit) ≡ ifDone (splice .answer) (padded (length (now (table .entry))) (encode t))
+        (now (table .entry))) × (now (work .exit) ≡ ifDone (splice .answer) (replicate (length w) 0) w)) ⌝ }
+{
+    let answer = splice.answer;
+    if !is_done(answer) {
+        return answer;
+    }
+    table_write::finish(table, work, splice.merge, rec.used as usize);
+    answer
 }
