@@ -1,5 +1,5 @@
 -- One entry put in two steps: judged and written up to it, and then settled. What each step leaves.
-use mathlib.Core.Path.{_≡_, refl, ap, sym, _∙_}
+use mathlib.Core.Path.{_≡_, refl, ap, ap₂, sym, subst, _∙_}
 use mathlib.Core.Bool.{Bool, true, false, not}
 use mathlib.Core.List.{[]}
 use Prim.Native.Nat.{ℕ, _+_, _≤_}
@@ -62,6 +62,14 @@ module _ (s : Bytes) (r : Record) (table : isTable s r ≡ true) (k : Path) (v :
   fitting w w′ left at out b d =
       rest-fits s w′ r new k left at out table (b .merged d) (sym (b .end d) ∙ sym (table-end s r table)) (done-room (r .«entry_size») limit (length s) new a e d)
 
+  -- the same of an entry that is the same
+  pub as-well : (v′ : Entry) (w w′ : Bytes) (left at out : ℕ) → v ≡ v′ → Begun s w w′ new k a left at out (r .used)
+      → (a ≡ insertion (r .«entry_size») limit (length s) (put k v′ (tableIn s r))) × Begun s w w′ (put k v′ (tableIn s r)) k a left at out (r .used)
+  as-well v′ w w′ left at out q b = (
+    e ∙ ap (λ (x : Entry). insertion (r .«entry_size») limit (length s) (put k x (tableIn s r))) q,
+    subst (λ (x : Entry). Begun s w w′ (put k x (tableIn s r)) k a left at out (r .used)) q b,
+  )
+
 -- one of two, as it is done or not
 if-not : (a : Inserted) (new old : Bytes) → isDone a ≡ false → old ≡ ifDone a new old
 if-not (Done r) new old h = absurd (bot (cc))
@@ -88,3 +96,15 @@ module _ (s w w′ : Bytes) (t : Table) (k : Path) (a : Inserted) (left at out u
     f t k (b .merged h) (b .end h) ∙ if-is a (padded (length s) (encode t)) s h,
     g ∙ ap (λ (n : ℕ). replicate n 0) (b .size) ∙ if-is a (replicate (length w) 0) w h,
   )
+
+-- the answer r, and what is left then, of the table t; as well of t′, which is the same
+pub inserted : (E limit n : ℕ) (t : Table) (a r : Inserted) (s w s″ w″ : Bytes) → a ≡ insertion E limit n t → r ≡ a
+    → (s″ ≡ ifDone a (padded (length s) (encode t)) s) × (w″ ≡ ifDone a (replicate (length w) 0) w) → (t′ : Table) → t ≡ t′
+    → (r ≡ insertion E limit n t′) × ((s″ ≡ ifDone r (padded (length s) (encode t′)) s) × (w″ ≡ ifDone r (replicate (length w) 0) w))
+inserted E limit n t a r s w s″ w″ i j p t′ e = (
+  j ∙ i ∙ ap (insertion E limit n) e,
+  (
+    p .0 ∙ ap₂ (λ (x : Inserted) (y : Table). ifDone x (padded (length s) (encode y)) s) (sym j) e,
+    p .1 ∙ ap (λ (x : Inserted). ifDone x (replicate (length w) 0) w) (sym j),
+  ),
+)

@@ -1,3 +1,4 @@
 pub mod Splices
 pub mod Lengths
 pub mod Begins
+pub mod Places

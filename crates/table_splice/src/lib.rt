@@ -263,3 +263,87 @@ fn settle(
     table_write::finish(table, work, splice.merge, rec.used as usize);
     answer
 }
+
+// The same where the content is the body of the entry at a place.
+fn write_inside(
+    work: &mut [u8],
+    table: &[u8],
+    rec: model::Record,
+    key: &[u8],
+    mtime: u64,
+    place: table_entries::Place,
+    offset: u64,
+    data: &[u8],
+    limit: u64,
+) -> Splice
+    requires { ⌜ isTable (now table) rec ≡ true ⌝ }
+    requires { ⌜ (before [] (now key) ≡ true) × (length (now key) ≤ 512) ⌝ }
+    requires { ⌜ (offset + length (now «data») < 0x1_0000_0000_0000_0000) × (length (now table) ≤ length (now work)) ⌝ }
+    requires { ⌜ Standing (now table) (place .left) (place .at) × (0 < place .left) ⌝ }
+    ensures { λ r. ⌜ r .answer ≡ insertion (rec .«entry_size») limit (length (now (table .entry))) (put
+        (now (key .entry)) (own mtime (spliced offset (now («data» .entry)) (bodyOf (entryAt (now (table .entry))
+        (place .at))))) (tableIn (now (table .entry)) rec)) ⌝ }
+    ensures { λ r. ⌜ Begun (now (table .entry)) (now (work .entry)) (now (work .exit)) (put (now (key .entry)) (own mtime
+        (spliced offset (now («data» .entry)) (bodyOf (entryAt (now (table .entry)) (place .at)))))
+        (tableIn (now (table .entry)) rec)) (now (key .entry)) (r .answer) (r .merge .left) (r .merge .at)
+        (r .merge .out) (rec .used) ⌝ }
+{
+    let content = table_entries::entry_body(table, place);
+    write_spliced(work, table, rec, key, mtime, content, offset, data, limit)
+}
+
+// The data written at the offset into the own file whose entry, with this key, stands at the place, if the charge then
+// is within the limit and the table then fits its buffer; else all stays as it is.
+pub fn insert_parts(
+    table: &mut [u8],
+    work: &mut [u8],
+    rec: model::Record,
+    key: &[u8],
+    mtime: u64,
+    place: table_entries::Place,
+    offset: u64,
+    data: &[u8],
+    limit: u64,
+) -> table_insert::Inserted
+    requires { ⌜ isTable (now table) rec ≡ true ⌝ }
+    requires { ⌜ (before [] (now key) ≡ true) × (length (now key) ≤ 512) ⌝ }
+    requires { ⌜ (offset + length (now «data») < 0x1_0000_0000_0000_0000) × (length (now table) ≤ length (now work)) ⌝ }
+    requires { ⌜ Sought (now table) (now key) (rec .count) 0 (place .left) (place .at) ⌝ }
+    requires { ⌜ isOwnFile (lookup (tableIn (now table) rec) (now key)) ≡ true ⌝ }
+    ensures { λ r. ⌜ ((m : ℕ) (c : Bytes) → lookup (tableIn (now (table .entry)) rec) (now (key .entry)) ≡ some (own m c)
+        → r ≡ insertion (rec .«entry_size») limit (length (now (table .entry))) (put (now (key .entry)) (own mtime
+        (spliced offset (now («data» .entry)) c)) (tableIn (now (table .entry)) rec))) ⌝ }
+    ensures { λ r. ⌜ ((m : ℕ) (c : Bytes) → lookup (tableIn (now (table .entry)) rec) (now (key .entry)) ≡ some (own m c)
+        → now (table .exit) ≡ ifDone r (padded (length (now (table .entry))) (encode (put (now (key .entry)) (own mtime
+        (spliced offset (now («data» .entry)) c)) (tableIn (now (table .entry)) rec)))) (now (table .entry))) ⌝ }
+    ensures { λ r. ⌜ now (work .exit) ≡ ifDone r (replicate (length (now (work .entry))) 0) (now (work .entry)) ⌝ }
+{
+    let splice = write_inside(work, table, rec, key, mtime, place, offset, data, limit);
+    settle(table, work, rec, splice)
+}
+
+// An own file put with the lent bytes and the data behind them as its content, under the same conditions.
+pub fn insert_lent(
+    table: &mut [u8],
+    work: &mut [u8],
+    rec: model::Record,
+    key: &[u8],
+    mtime: u64,
+    lent: &[u8],
+    data: &[u8],
+    limit: u64,
+) -> table_insert::Inserted
+    requires { ⌜ isTable (now table) rec ≡ true ⌝ }
+    requires { ⌜ (before [] (now key) ≡ true) × (length (now key) ≤ 512) ⌝ }
+    requires { ⌜ length (now table) ≤ length (now work) ⌝ }
+    ensures { λ r. ⌜ r ≡ insertion (rec .«entry_size») limit (length (now (table .entry))) (put (now (key .entry))
+        (own mtime (now (lent .entry) ++ now («data» .entry))) (tableIn (now (table .entry)) rec)) ⌝ }
+    ensures { λ r. ⌜ now (table .exit) ≡ ifDone r (padded (length (now (table .entry))) (encode (put (now (key .entry))
+        (own mtime (now (lent .entry) ++ now («data» .entry))) (tableIn (now (table .entry)) rec)))) (now
+        (table .entry)) ⌝ }
+    ensures { λ r. ⌜ now (work .exit) ≡ ifDone r (replicate (length (now (work .entry))) 0) (now (work .entry)) ⌝ }
+{
+    let offset = lent.len() as u64;
+    let splice = write_spliced(work, table, rec, key, mtime, lent, offset, data, limit);
+    settle(table, work, rec, splice)
+}
