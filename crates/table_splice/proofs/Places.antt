@@ -10,6 +10,7 @@ use Rattle.model.specs.Path.{Path}
 use Rattle.model.specs.Map.{lookup, put}
 use Rattle.model.specs.Tree.{Entry, own, Table}
 use Rattle.model.specs.Table.{bodyOf, keyAt, entryAt, entriesAt, tableIn, isTable}
+use Rattle.model.specs.Content.{spliced}
 use Rattle.model.specs.declared.Record.{Record}
 use Rattle.model.proofs.Orders.{bot}
 use Rattle.model.proofs.Maps.{ascends-is}
@@ -17,7 +18,6 @@ use Rattle.table_entries.specs.Place.{Sought}
 use Rattle.table_entries.specs.Cut.{firstIf}
 use Rattle.table_entries.proofs.Entries.{table-stands, first-entry}
 use Rattle.table_entries.proofs.Cuts.{lookup-first}
-use Rattle.table_splice.specs.Spliced.{spliced}
 use Rattle.table_splice.specs.Splice.{isOwnFile}
 
 abbrev bodyOr : Option Entry → Bytes

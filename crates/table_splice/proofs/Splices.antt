@@ -11,12 +11,12 @@ use Rattle.model.specs.Path.{Path}
 use Rattle.model.specs.Map.{put}
 use Rattle.model.specs.Tree.{Entry, own, Table}
 use Rattle.model.specs.Table.{entryBytes, encode, padded, entriesAt}
+use Rattle.model.specs.Content.{spliced}
 use Rattle.base_fields.specs.Write.{overwritten}
 use Rattle.base_fields.proofs.Writes.{overwritten-none, two-writes, three-writes}
 use Rattle.table_entries.specs.Cut.{upTo}
 use Rattle.table_write.specs.Merge.{headBytes, Written, Merged, Copied}
 use Rattle.table_write.proofs.Merges.{entry-put, next-put}
-use Rattle.table_splice.specs.Spliced.{spliced}
 
 padded-length : (o : ℕ) (c : Bytes) → length (padded o c) ≡ length c + (o - length c)
 padded-length o c = length-append c (replicate (o - length c) 0) ∙ ap (λ (n : ℕ). length c + n) (length-replicate {A = ℕ} (o - length c) 0)

@@ -14,12 +14,12 @@ ghost use Rattle.model.specs.Path.{Path};
 ghost use Rattle.model.specs.Map.{lookup, put};
 ghost use Rattle.model.specs.Tree.{Entry, own, Table};
 ghost use Rattle.model.specs.Table.{bodyOf, entryBytes, encode, padded, entryAt, entriesAt, tableIn, isTable};
+ghost use Rattle.model.specs.Content.{spliced};
 ghost use Rattle.base_fields.specs.Write.{overwritten};
 ghost use Rattle.table_entries.specs.Place.{Standing, Sought, endOf};
 ghost use Rattle.table_entries.specs.Cut.{upTo};
 ghost use Rattle.table_write.specs.Merge.{Merged};
 ghost use Rattle.table_insert.specs.Insert.{insertion, isDone, ifDone};
-ghost use Rattle.table_splice.specs.Spliced.{spliced};
 ghost use Rattle.table_splice.specs.Splice.{isOwnFile, Fitting, Begun};
 
 // What inserting will answer, and how far the new table is written to the work buffer if it is done.

@@ -6,7 +6,7 @@ use Rattle.model.specs.Bytes.{Bytes}
 use Rattle.model.specs.Map.{put}
 use Rattle.model.specs.Tree.{own}
 use Rattle.model.specs.Table.{tableIn}
-use Rattle.table_splice.specs.Spliced.{spliced}
+use Rattle.model.specs.Content.{spliced}
 use Rattle.table_splice.proofs.Splices.{spliced-end}
 use Rattle.table_splice.proofs.Begins.{fitting, inserted}
 use borrow.Author.Needs.{needs}

@@ -5,7 +5,7 @@ use lib.ListN.{length}
 use Rattle.model.specs.Map.{put}
 use Rattle.model.specs.Tree.{own}
 use Rattle.model.specs.Table.{bodyOf, entryAt, tableIn}
-use Rattle.table_splice.specs.Spliced.{spliced}
+use Rattle.model.specs.Content.{spliced}
 use Rattle.table_splice.proofs.Begins.{fitting, inserted}
 use Rattle.table_splice.proofs.Places.{some-there, new-there}
 use borrow.Author.Needs.{needs}

@@ -2,7 +2,7 @@
 use mathlib.Core.Path.{ap}
 use Rattle.model.specs.Bytes.{Bytes}
 use Rattle.model.specs.Tree.{own}
-use Rattle.table_splice.specs.Spliced.{spliced}
+use Rattle.model.specs.Content.{spliced}
 use Rattle.table_splice.proofs.Begins.{as-well}
 use borrow.Author.Needs.{needs}
 use Rattle.table_splice.proofs.write_inside.Statement.{statement}

@@ -4,8 +4,8 @@ use lib.ListN.{length}
 use Rattle.model.specs.Map.{put}
 use Rattle.model.specs.Tree.{own}
 use Rattle.model.specs.Table.{tableIn}
+use Rattle.model.specs.Content.{spliced}
 use Rattle.table_entries.proofs.Entries.{table-stands}
-use Rattle.table_splice.specs.Spliced.{spliced}
 use Rattle.table_splice.proofs.Begins.{is-refused, is-done, refused, room-in, begun}
 use borrow.Author.Needs.{needs}
 use Rattle.table_splice.proofs.write_spliced.Statement.{statement}
