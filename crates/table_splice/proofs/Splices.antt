@@ -1,43 +1,23 @@
--- A content with data written at an offset: its length, its parts, and these written in a row.
-use mathlib.Core.Path.{_≡_, refl, ap, ap₂, sym, subst, _∙_}
+-- A content with data written at an offset: its length by the lengths, and its parts written in a row.
+use mathlib.Core.Path.{_≡_, refl, ap, sym, subst, _∙_}
 use mathlib.Core.Bool.{true}
-use mathlib.Core.List.{[], _++_, append-assoc, append-nil}
+use mathlib.Core.List.{_++_}
 use Prim.Native.Nat.{ℕ, _+_, _-_, _<_, _≤_}
 use native.Mathlib.Omega.{arith}
-use lib.ListN.{length, take, drop, replicate, length-append, length-drop, length-replicate, drop-of-length-le}
-use lib.Seq.{take-all, take-append-le, take-append-seam, length-take-le}
+use lib.ListN.{length, take, drop, replicate, length-drop, drop-of-length-le}
+use lib.Seq.{take-all, take-append-le}
 use Rattle.model.specs.Bytes.{Bytes, before}
 use Rattle.model.specs.Path.{Path}
 use Rattle.model.specs.Map.{put}
 use Rattle.model.specs.Tree.{Entry, own, Table}
 use Rattle.model.specs.Table.{entryBytes, encode, padded, entriesAt}
 use Rattle.model.specs.Content.{spliced}
+use Rattle.model.proofs.Splices.{front-length, spliced-length}
 use Rattle.base_fields.specs.Write.{overwritten}
 use Rattle.base_fields.proofs.Writes.{overwritten-none, two-writes, three-writes}
 use Rattle.table_entries.specs.Cut.{upTo}
 use Rattle.table_write.specs.Merge.{headBytes, Written, Merged, Copied}
 use Rattle.table_write.proofs.Merges.{entry-put, next-put}
-
-padded-length : (o : ℕ) (c : Bytes) → length (padded o c) ≡ length c + (o - length c)
-padded-length o c = length-append c (replicate (o - length c) 0) ∙ ap (λ (n : ℕ). length c + n) (length-replicate {A = ℕ} (o - length c) 0)
-
-front-length : (o : ℕ) (c : Bytes) → length (take o (padded o c)) ≡ o
-front-length o c = let l = padded-length o c in length-take-le o (padded o c) (omega arith)
-
-pub spliced-length : (o : ℕ) (d c : Bytes) → length (spliced o d c) ≡ o + length d + (length c - (o + length d))
-spliced-length o d c =
-    let f = front-length o c in
-    let a = length-append (take o (padded o c)) (d ++ drop (o + length d) c) in
-    let b = length-append d (drop (o + length d) c) in
-    let e = length-drop (o + length d) c in
-    omega arith
-
--- data at the end stands behind the content
-pub spliced-end : (d c : Bytes) → spliced (length c) d c ≡ c ++ d
-spliced-end d c =
-    let over : length c ≤ length c + length d = omega arith in
-    ap₂ (λ (x y : Bytes). x ++ (d ++ y)) (take-append-seam c (replicate (length c - length c) 0)) (drop-of-length-le c over)
-    ∙ ap (λ (x : Bytes). c ++ x) (append-nil d)
 
 -- the length, by the two lengths
 module _ (len o n : ℕ) (c d : Bytes) (a : length c ≡ len) (b : length d ≡ n) where

@@ -7,7 +7,7 @@ use Rattle.model.specs.Map.{put}
 use Rattle.model.specs.Tree.{own}
 use Rattle.model.specs.Table.{tableIn}
 use Rattle.model.specs.Content.{spliced}
-use Rattle.table_splice.proofs.Splices.{spliced-end}
+use Rattle.model.proofs.Splices.{spliced-end}
 use Rattle.table_splice.proofs.Begins.{fitting, inserted}
 use borrow.Author.Needs.{needs}
 use Rattle.table_splice.proofs.insert_lent.Statement.{statement}

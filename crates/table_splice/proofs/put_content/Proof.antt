@@ -1,6 +1,7 @@
 -- `put_content` meets its contract: its three parts are written in a row.
 use native.Mathlib.Omega.{arith}
-use Rattle.table_splice.proofs.Splices.{spliced-length, content-put}
+use Rattle.model.proofs.Splices.{spliced-length}
+use Rattle.table_splice.proofs.Splices.{content-put}
 use borrow.Author.Needs.{needs}
 use Rattle.table_splice.proofs.put_content.Statement.{statement}
 use Rattle.table_splice.proofs.put_content.Tie as tie

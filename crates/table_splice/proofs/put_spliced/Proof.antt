@@ -3,7 +3,8 @@ use mathlib.Core.Path.{refl, ap}
 use native.Mathlib.Omega.{arith}
 use Prim.Native.Nat.{ℕ, _+_}
 use lib.ListN.{length}
-use Rattle.table_splice.proofs.Splices.{spliced-length, spliced-put}
+use Rattle.model.proofs.Splices.{spliced-length}
+use Rattle.table_splice.proofs.Splices.{spliced-put}
 use borrow.Author.Needs.{needs}
 use Rattle.table_splice.proofs.put_spliced.Statement.{statement}
 use Rattle.table_splice.proofs.put_spliced.Tie as tie
