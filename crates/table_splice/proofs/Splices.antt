@@ -4,7 +4,7 @@ use mathlib.Core.Bool.{true}
 use mathlib.Core.List.{_++_}
 use Prim.Native.Nat.{ℕ, _+_, _-_, _<_, _≤_}
 use native.Mathlib.Omega.{arith}
-use lib.ListN.{length, take, drop, replicate, length-drop, drop-of-length-le}
+use lib.ListN.{length, take, drop, replicate, length-append, length-drop, length-replicate, drop-of-length-le}
 use lib.Seq.{take-all, take-append-le}
 use Rattle.model.specs.Bytes.{Bytes, before}
 use Rattle.model.specs.Path.{Path}
@@ -32,7 +32,10 @@ pub front-inside : (o : ℕ) (c : Bytes) → o ≤ length c → take o (padded o
 front-inside o c h = take-append-le o c (replicate (o - length c) 0) h
 
 pub front-behind : (o : ℕ) (c : Bytes) → length c ≤ o → take o (padded o c) ≡ c ++ replicate (o - length c) 0
-front-behind o c h = let l = padded-length o c in take-all o (padded o c) (omega arith)
+front-behind o c h =
+    let l = length-append c (replicate (o - length c) 0) in
+    let r = length-replicate {A = ℕ} (o - length c) 0 in
+    take-all o (padded o c) (omega arith)
 
 -- the two as they are written
 pub front-part : (w w₁ c : Bytes) (at o : ℕ) → o ≤ length c → w₁ ≡ overwritten w at (take (o - 0) c) → w₁ ≡ overwritten w at (take o (padded o c))
