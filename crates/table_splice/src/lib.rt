@@ -1,7 +1,8 @@
-// A file's content with data written at an offset, put as an own file's entry into a table. The old content lies in the
-// table itself, or in bytes that the caller lends. Assumes a table that agrees with its record, and a key that is not
-// empty: only this repository's crates call, after a check. Nothing is written before the charge and the room are
-// known. Each call is a constant number of passes over table, work buffer, data and lent bytes.
+// #103: a file's content with data written at an offset, put as an own file's entry: `append_file` and `write_file_at`
+// of overlay_state.rs. The old content lies in the table itself, or in bytes that the caller lends. Assumes a table
+// that agrees with its record, and a key that is not empty: only this repository's crates call, after a check. Nothing
+// is written before the charge and the room are known. Each call is a constant number of passes over table, work
+// buffer, data and lent bytes.
 ghost use mathlib.Core.Path.{_≡_};
 ghost use mathlib.Core.Bool.{true};
 ghost use mathlib.Core.List.{[], _++_};
@@ -207,8 +208,8 @@ fn write_spliced(
     ensures { λ r. ⌜ r .answer ≡ insertion (rec .«entry_size») limit (length (now (table .entry))) (put
         (now (key .entry)) (own mtime (spliced offset (now («data» .entry)) (now (content .entry))))
         (tableIn (now (table .entry)) rec)) ⌝ }
-    ensures { λ r. ⌜ Begun (now (table .entry)) (now (work .entry)) (now (work .exit)) (put (now (key .entry)) (own mtime
-        (spliced offset (now («data» .entry)) (now (content .entry)))) (tableIn (now (table .entry)) rec))
+    ensures { λ r. ⌜ Begun (now (table .entry)) (now (work .entry)) (now (work .exit)) (put (now (key .entry))
+        (own mtime (spliced offset (now («data» .entry)) (now (content .entry)))) (tableIn (now (table .entry)) rec))
         (now (key .entry)) (r .answer) (r .merge .left) (r .merge .at) (r .merge .out) (rec .used) ⌝ }
 {
     let len = spliced_len(content.len() as u64, offset, data.len() as u64);
@@ -283,8 +284,8 @@ fn write_inside(
     ensures { λ r. ⌜ r .answer ≡ insertion (rec .«entry_size») limit (length (now (table .entry))) (put
         (now (key .entry)) (own mtime (spliced offset (now («data» .entry)) (bodyOf (entryAt (now (table .entry))
         (place .at))))) (tableIn (now (table .entry)) rec)) ⌝ }
-    ensures { λ r. ⌜ Begun (now (table .entry)) (now (work .entry)) (now (work .exit)) (put (now (key .entry)) (own mtime
-        (spliced offset (now («data» .entry)) (bodyOf (entryAt (now (table .entry)) (place .at)))))
+    ensures { λ r. ⌜ Begun (now (table .entry)) (now (work .entry)) (now (work .exit)) (put (now (key .entry))
+        (own mtime (spliced offset (now («data» .entry)) (bodyOf (entryAt (now (table .entry)) (place .at)))))
         (tableIn (now (table .entry)) rec)) (now (key .entry)) (r .answer) (r .merge .left) (r .merge .at)
         (r .merge .out) (rec .used) ⌝ }
 {
@@ -310,12 +311,13 @@ pub fn insert_parts(
     requires { ⌜ (offset + length (now «data») < 0x1_0000_0000_0000_0000) × (length (now table) ≤ length (now work)) ⌝ }
     requires { ⌜ Sought (now table) (now key) (rec .count) 0 (place .left) (place .at) ⌝ }
     requires { ⌜ isOwnFile (lookup (tableIn (now table) rec) (now key)) ≡ true ⌝ }
-    ensures { λ r. ⌜ ((m : ℕ) (c : Bytes) → lookup (tableIn (now (table .entry)) rec) (now (key .entry)) ≡ some (own m c)
-        → r ≡ insertion (rec .«entry_size») limit (length (now (table .entry))) (put (now (key .entry)) (own mtime
-        (spliced offset (now («data» .entry)) c)) (tableIn (now (table .entry)) rec))) ⌝ }
-    ensures { λ r. ⌜ ((m : ℕ) (c : Bytes) → lookup (tableIn (now (table .entry)) rec) (now (key .entry)) ≡ some (own m c)
-        → now (table .exit) ≡ ifDone r (padded (length (now (table .entry))) (encode (put (now (key .entry)) (own mtime
-        (spliced offset (now («data» .entry)) c)) (tableIn (now (table .entry)) rec)))) (now (table .entry))) ⌝ }
+    ensures { λ r. ⌜ ((m : ℕ) (c : Bytes) → lookup (tableIn (now (table .entry)) rec) (now (key .entry)) ≡ some
+        (own m c) → r ≡ insertion (rec .«entry_size») limit (length (now (table .entry))) (put (now (key .entry))
+        (own mtime (spliced offset (now («data» .entry)) c)) (tableIn (now (table .entry)) rec))) ⌝ }
+    ensures { λ r. ⌜ ((m : ℕ) (c : Bytes) → lookup (tableIn (now (table .entry)) rec) (now (key .entry)) ≡ some
+        (own m c) → now (table .exit) ≡ ifDone r (padded (length (now (table .entry))) (encode (put (now (key .entry))
+        (own mtime (spliced offset (now («data» .entry)) c)) (tableIn (now (table .entry)) rec)))) (now
+        (table .entry))) ⌝ }
     ensures { λ r. ⌜ now (work .exit) ≡ ifDone r (replicate (length (now (work .entry))) 0) (now (work .entry)) ⌝ }
 {
     let splice = write_inside(work, table, rec, key, mtime, place, offset, data, limit);

@@ -1,4 +1,4 @@
--- `write_spliced` meets its contract: what is refused leaves the work buffer, and what is done is written up to the entry.
+-- `write_spliced` meets its contract: what is refused writes nothing, and what is done is written up to the entry.
 use mathlib.Core.Path.{refl, sym}
 use lib.ListN.{length}
 use Rattle.model.specs.Map.{put}
