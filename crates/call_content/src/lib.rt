@@ -155,8 +155,10 @@ fn insert_appended(
 {
     let first = table_entries::first_entry(table, rec);
     let got = table_entries::get_from(table, first, path);
-    if check_content::is_own(got.entry) {
-        return append_file(table, work, rec, path, mtime, got.place, data, limit);
+    let entry = got.entry;
+    let place = got.place;
+    if check_content::is_own(entry) {
+        return append_file(table, work, rec, path, mtime, place, data, limit);
     }
     table_splice::insert_lent(table, work, rec, path, mtime, lent, data, limit)
 }

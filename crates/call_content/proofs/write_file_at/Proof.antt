@@ -1,44 +1,41 @@
+-- `write_file_at` meets its contract: refused by 1 or 2, or as `write_file_at_admitted` answers.
 use borrow.Author.Needs.{needs}
+use Rattle.model.specs.Calls.{writeInside}
+use Rattle.call_answer.specs.Meets.{requested, stored}
+use Rattle.call_answer.proofs.Admits.{not-admitted, admitted-given}
 use Rattle.call_content.proofs.write_file_at.Statement.{statement}
 use Rattle.call_content.proofs.write_file_at.Tie as tie
-use Rattle.call_content.proofs.write_file_at.Reads as reads
-use Rattle.call_content.proofs.write_file_at.Lts as lts
-use Rattle.call_content.proofs.write_file_at_admitted.Reads as write-file-at-admitted-reads
-use Rattle.check_lent.proofs.admitted.Reads as admitted-reads
 
--- src/lib.rt:245:9
 admitted-requires : tie.Need-admitted-requires
 admitted-requires c κs = search needs
 
--- src/lib.rt:247:25
 enum-known-admitted : tie.Need-enum-known-admitted
 enum-known-admitted c = search needs
 
--- src/lib.rt:248:13
 same-length : tie.Need-same-length
 same-length c = search needs
 
--- src/lib.rt:248:13
 returns : tie.Need-returns
-returns c = ?
+returns c =
+    let a = c .before .before .before .before .before .before .before .before .before .before .args in
+    let j = c .before .before .before .admitted in
+    not-admitted (a .listing .now) (requested (writeInside (a .path .now) (a .mtime) (a .offset) (a .«data» .now)) (a .limit) (a .work .now)) (stored (a .table .now) (a .rec)) (j .result) (j .ensures) _ (c .before .admitted2 .given .1)
 
--- src/lib.rt:256:17
 enum-told : tie.Need-enum-told
 enum-told c = search needs
 
--- src/lib.rt:254:13
 write-file-at-admitted-requires : tie.Need-write-file-at-admitted-requires
-write-file-at-admitted-requires c κs = ?
+write-file-at-admitted-requires c κs =
+    let a = c .before .before .before .before .before .before .before .before .before .before .before .args in
+    let j = c .before .before .before .before .admitted in
+    admitted-given (a .listing .now) (requested (writeInside (a .path .now) (a .mtime) (a .offset) (a .«data» .now)) (a .limit) (a .work .now)) (stored (a .table .now) (a .rec)) (j .result) (j .ensures) (c .before .before .enum-told .given .1)
 
--- src/lib.rt:254:13
 same-length-2 : tie.Need-same-length-2
 same-length-2 c = search needs
 
--- src/lib.rt:254:13
 same-length-3 : tie.Need-same-length-3
 same-length-3 c = search needs
 
--- src/lib.rt:254:13
 returns-2 : tie.Need-returns-2
 returns-2 c = search needs
 
