@@ -121,7 +121,8 @@ fn append_file(
     limit: u64,
 ) -> Inserted
     requires { ⌜ isTable (now table) rec ≡ true ⌝ }
-    requires { ⌜ (before [] (now path) ≡ true) × (length (now path) ≤ 512) × (length (now table) ≤ length (now work)) ⌝ }
+    requires { ⌜ (before [] (now path) ≡ true) × (length (now path) ≤ 512)
+        × (length (now table) ≤ length (now work)) ⌝ }
     requires { ⌜ Sought (now table) (now path) (rec .count) 0 (place .left) (place .at) ⌝ }
     requires { ⌜ isOwnFile (lookup (tableIn (now table) rec) (now path)) ≡ true ⌝ }
     ensures { λ r. ⌜ ((m : ℕ) (c : Bytes) → lookup (tableIn (now (table .entry)) rec) (now (path .entry))
@@ -146,7 +147,8 @@ fn insert_appended(
     limit: u64,
 ) -> Inserted
     requires { ⌜ isTable (now table) rec ≡ true ⌝ }
-    requires { ⌜ (before [] (now path) ≡ true) × (length (now path) ≤ 512) × (length (now table) ≤ length (now work)) ⌝ }
+    requires { ⌜ (before [] (now path) ≡ true) × (length (now path) ≤ 512)
+        × (length (now table) ≤ length (now work)) ⌝ }
     ensures { λ r. ⌜ ((l : Bytes) → eqb (length (now (lent .entry))) (needed (shownIn l (now (table .entry)) rec
         (now (path .entry)))) ≡ true → Leaves (rec .«entry_size») limit (now (table .entry)) (now (work .entry))
         (put (now (path .entry)) (own mtime (appended (shownIn l (now (table .entry)) rec (now (path .entry)))
