@@ -5,14 +5,9 @@ use lib.ListN.{length}
 use Rattle.model.specs.Bytes.{Bytes}
 use Rattle.model.specs.Tree.{own}
 use Rattle.model.specs.Content.{spliced}
-<<<<<<< HEAD
 use Rattle.model.proofs.Splices.{spliced-end}
-use Rattle.table_splice.proofs.Begins.{fitting, inserted}
-=======
 use Rattle.table_splice.specs.Splice.{Begun}
-use Rattle.table_splice.proofs.Splices.{spliced-end}
 use Rattle.table_splice.proofs.Begins.{fitting}
->>>>>>> calls
 use borrow.Author.Needs.{needs}
 use Rattle.table_splice.proofs.insert_lent.Statement.{statement}
 use Rattle.table_splice.proofs.insert_lent.Tie as tie
