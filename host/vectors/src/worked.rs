@@ -4,8 +4,8 @@
 use crate::json::Json;
 use std::collections::{BTreeMap, BTreeSet};
 
-/// What each call can give, by document 01 and change request #103: a query's yes and no, and the numbers of the others,
-/// 0 for accepted. Each by the name in its rows' ids.
+/// What each call can give, by document 01 and change request #103: a query's yes and no, and the numbers of the
+/// others, 0 for accepted. Each by the name in its rows' ids.
 const CAN_GIVE: [(&str, &[&str]); 11] = [
     ("open", &["0", "1"]),
     ("exists", &["yes", "no", "1", "2", "3"]),
