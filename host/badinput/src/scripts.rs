@@ -1,15 +1,16 @@
 //! Scripts of calls, whole and changed, run on what the calls are given.
 //!
-//! After each run: the answer is 0, 1, 254 or 255. Not run, the report and the work buffer are as they were, and so are
-//! table and record, or the table was opened for `run_new`. Run, each row has a number from 0 to 13, a refusal a path of
-//! 0 or 1 and a length of at most 512; the last row has the record's charge, and what stands behind the rows is as it
-//! was; the work buffer is all 0 if a call was accepted, else as it was; and where the table was one it is one again,
-//! with its record.
+//! After each run: the answer is 0, 1, 254 or 255, and 254 where the bytes are no script (plain.rs) and nowhere else,
+//! but for 1. Not run, the report and the work buffer are as they were, and so are table and record, or the table was
+//! opened for `run_new`. Run, each row has a number from 0 to 13, 17 or 18, a refusal a path of 0 or 1 and a length of
+//! at most 512; the last row has the record's charge, and what stands behind the rows is as it was; the work buffer is
+//! all 0 if a call was accepted, else as it was; and where the table was one it is one again, with its record.
 use differential::random::Random;
 use overlay::{Mkdir, Mtime, ROW_LENGTH, Script, raw};
 
 use crate::{
     guarded::{Guarded, Side},
+    is_number, plain,
     states::{self, Input, Op},
 };
 
@@ -22,10 +23,12 @@ pub fn built(base: &Input, random: &mut Random) -> Vec<u8> {
     for _ in 0..random.below(6) {
         let mut input = base.clone();
         states::asked(&mut input, random);
-        let ([path, to], [mtime, limit]) = (&input.paths, input.numbers);
+        let ([path, to], [mtime, limit, offset]) = (&input.paths, input.numbers);
         let mtime = Mtime::from_bits(mtime);
         match input.op {
             Op::Write => script.write_bytes(path, &input.data, mtime, limit),
+            Op::Append => script.append_bytes(path, &input.data, &input.bytes, mtime, limit),
+            Op::WriteAt => script.write_file_at(path, &input.data, offset, mtime, limit),
             Op::Mkdir => {
                 script.mkdir(path, Mkdir { parents: input.flags[0], exist_ok: input.flags[1] }, mtime, limit);
             }
@@ -37,9 +40,12 @@ pub fn built(base: &Input, random: &mut Random) -> Vec<u8> {
     script.as_ref().to_vec()
 }
 
-/// The script itself, with each byte changed, with each length up to one more, and changed at random.
+/// The script itself, under both marks, with each byte changed, with each length up to one more, and changed at random.
 pub fn changed(script: &[u8], random: &mut Random) -> Vec<Vec<u8>> {
     let mut scripts = vec![script.to_vec()];
+    for mark in [b"TSC1", b"TSC2"] {
+        scripts.push([mark, &script[4..]].concat());
+    }
     for at in 0..script.len() {
         let mut other = script.to_vec();
         other[at] ^= 1 << random.below(8);
@@ -95,13 +101,14 @@ impl Memory {
             raw::run(listing, &mut lent, lent_script, report)
         };
         let told = || format!("{answer} for {script:02x?} opened {opened}: {input:?}");
+        assert!(answer == 1 || plain::is_script(script) == (answer != NOT_A_SCRIPT), "the form: {}", told());
         match answer {
             0 => {
                 let steps = u32::from_le_bytes(script[4..8].try_into().expect("four bytes")) as usize;
                 let (mut accepted, mut charge) = (false, lent.record[2]);
                 for row in report[..steps * ROW_LENGTH].chunks(ROW_LENGTH) {
                     let word = |at: usize| u64::from_le_bytes(row[at..at + 8].try_into().expect("eight bytes"));
-                    let refusal = word(0) <= 13 && word(8) <= 1 && word(16) <= 512;
+                    let refusal = is_number(word(0)) && word(8) <= 1 && word(16) <= 512;
                     assert!(word(0) == 0 || refusal, "a row: {}", told());
                     accepted |= word(0) == 0;
                     charge = word(24);
