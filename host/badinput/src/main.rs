@@ -111,10 +111,7 @@ fn main() {
     for (answer, count) in &runs {
         println!("  {answer:3}: {count}");
     }
-    println!(
-        "no crash; no other number; nothing changed where a call was refused or a script was not run, but for the"
-    );
-    println!("opening");
+    println!("no crash, no other number; what was refused or not run changed nothing, but for the opening");
     content::run(seed, calls, words.long());
     kept::run(seed, calls, words.long());
     shown::run(seed, calls, words.long());
