@@ -96,7 +96,7 @@ fn main() {
             at_random += 1;
         }
         let script = scripts::built(&base, &mut random);
-        for script in scripts::changed(&script, &mut random) {
+        for script in scripts::changed(&script, &mut random).into_iter().chain(scripts::misfits()) {
             let mut input = if random.one_in(2) { base.clone() } else { states::at_random(&base, &mut random) };
             input.numbers[0] %= 4200;
             let answer = run_memory.run(&input, &script, random.one_in(2), &mut random);

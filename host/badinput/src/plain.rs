@@ -265,39 +265,42 @@ pub fn write_at(given: &Given, offset: u64) -> Result<After, Refused> {
     })
 }
 
-/// Whether the bytes are a script: "TSC1" or "TSC2", a count, and as many steps up to the end.
-pub fn is_script(bytes: &[u8]) -> bool {
-    steps(bytes).is_some_and(|left| left.is_empty())
+/// A step of a script: what it has for its call. The numbers are mtime, limit and offset.
+pub struct Step<'a> {
+    pub kind: u64,
+    pub flags: u64,
+    pub parts: [&'a [u8]; 3],
+    pub numbers: [u64; 3],
 }
 
-/// What stands behind the steps that are counted.
-fn steps(bytes: &[u8]) -> Option<&[u8]> {
-    let mut rest = Rest(bytes);
-    let kinds = match rest.take(4)? {
-        b"TSC1" => 1..=5,
-        b"TSC2" => 1..=7,
+/// The steps of a script, where the bytes are one: "TSC1" or "TSC2", a count, and as many steps up to the end.
+pub fn script(bytes: &[u8]) -> Option<Vec<Step<'_>>> {
+    let (mut rest, mut steps) = (Rest(bytes), Vec::new());
+    let wide = match rest.take(4)? {
+        b"TSC1" => false,
+        b"TSC2" => true,
         _ => return None,
     };
     for _ in 0..rest.number(4)? {
-        let (kind, flags) = (rest.number(1)?, rest.number(1)?);
-        let (first, second, mtime) = (rest.number(2)?, rest.number(4)?, rest.number(8)?);
-        rest.number(8)?;
-        let (offset, third) = if *kinds.end() == 7 { (rest.number(8)?, rest.number(4)?) } else { (0, 0) };
-        let has_data = [1, 6, 7].contains(&kind);
-        let ruled = kinds.contains(&kind)
-            && (flags == 0 || kind == 2 && flags < 4)
-            && (second == 0 || has_data || kind == 5)
-            && (mtime == 0 || has_data || kind == 2)
-            && (offset == 0 || kind == 7)
-            && (third == 0 || kind == 6);
-        if !ruled {
-            return None;
-        }
-        for length in [first, second, third] {
-            rest.take(length)?;
-        }
+        steps.push(step(&mut rest, wide)?);
     }
-    Some(rest.0)
+    rest.0.is_empty().then_some(steps)
+}
+
+/// The next step, where its numbers go together: what its kind has no use for is 0.
+fn step<'a>(rest: &mut Rest<'a>, wide: bool) -> Option<Step<'a>> {
+    let (kind, flags) = (rest.number(1)?, rest.number(1)?);
+    let (first, second, mtime, limit) = (rest.number(2)?, rest.number(4)?, rest.number(8)?, rest.number(8)?);
+    let (offset, third) = if wide { (rest.number(8)?, rest.number(4)?) } else { (0, 0) };
+    let has_data = [1, 6, 7].contains(&kind);
+    let ruled = (1..=if wide { 7 } else { 5 }).contains(&kind)
+        && (flags == 0 || kind == 2 && flags < 4)
+        && (second == 0 || has_data || kind == 5)
+        && (mtime == 0 || has_data || kind == 2)
+        && (offset == 0 || kind == 7)
+        && (third == 0 || kind == 6);
+    let parts = [rest.take(first)?, rest.take(second)?, rest.take(third)?];
+    ruled.then_some(Step { kind, flags, parts, numbers: [mtime, limit, offset] })
 }
 
 /// What is written for a path in an output of this length, or the refusal's number and length.
@@ -536,20 +539,21 @@ fn contents_changed_by_hand() {
 
 #[test]
 fn scripts_by_hand() {
+    let is_script = |bytes: &[u8]| script(bytes).is_some();
     let step = |kind: u8, wide: usize| [&[kind, 0, 1, 0][..], &[0; 20], &vec![0; wide], b"a"].concat();
-    let script = |mark: &[u8; 4], step: &[u8]| [mark, &[1, 0, 0, 0][..], step].concat();
+    let of = |mark: &[u8; 4], step: &[u8]| [mark, &[1, 0, 0, 0][..], step].concat();
     for kind in 0..9 {
-        assert_eq!(is_script(&script(b"TSC1", &step(kind, 0))), (1..6).contains(&kind), "{kind}");
-        assert_eq!(is_script(&script(b"TSC2", &step(kind, 12))), (1..8).contains(&kind), "{kind}");
-        assert!(!is_script(&script(b"TSC2", &step(kind, 0))) && !is_script(&script(b"TSC1", &step(kind, 12))));
+        assert_eq!(is_script(&of(b"TSC1", &step(kind, 0))), (1..6).contains(&kind), "{kind}");
+        assert_eq!(is_script(&of(b"TSC2", &step(kind, 12))), (1..8).contains(&kind), "{kind}");
+        assert!(!is_script(&of(b"TSC2", &step(kind, 0))) && !is_script(&of(b"TSC1", &step(kind, 12))));
         for (at, allowed) in [(1, 2..3), (24, 7..8)] {
             let mut changed = step(kind, 12);
             changed[at] = 1;
-            assert_eq!(is_script(&script(b"TSC2", &changed)), allowed.contains(&kind), "{kind} {at}");
+            assert_eq!(is_script(&of(b"TSC2", &changed)), allowed.contains(&kind), "{kind} {at}");
         }
         let mut lent = [step(kind, 12), b"x".to_vec()].concat();
         lent[32] = 1;
-        assert_eq!(is_script(&script(b"TSC2", &lent)), kind == 6, "{kind}");
+        assert_eq!(is_script(&of(b"TSC2", &lent)), kind == 6, "{kind}");
     }
     assert!(is_script(b"TSC2\0\0\0\0") && !is_script(b"TSC3\0\0\0\0") && !is_script(b"TSC2\0\0\0"));
 }
