@@ -22,7 +22,7 @@ use Rattle.table_entries.specs.declared.OverlayEntry.{OverlayEntry}
 use Rattle.table_entries.proofs.Seeks.{found-all}
 use Rattle.table_insert.specs.declared.Inserted.{Inserted}
 use Rattle.table_splice.specs.Splice.{isOwnFile}
-use Rattle.table_splice.proofs.Splices.{spliced-end}
+use Rattle.model.proofs.Splices.{spliced-end}
 use Rattle.check_content.proofs.Owned.{listed-not-own}
 use Rattle.call_content.specs.Leaves.{Leaves}
 
