@@ -15,15 +15,22 @@ Inv-loop listing table₀ work₀ script report₀ two last₀ more₀ place₀ 
 abbrev μ-loop : tie.MeasureT-loop
 μ-loop listing table₀ work₀ script report₀ two last₀ more₀ place₀ row₀ table work report last more place row = more
 
+is-two-requires : tie.Need-is-two-requires Inv-loop μ-loop
+is-two-requires c κs =
+    let e = c .before .before .before .before .before in
+    let l = script-long (e .args .script .now) (e .pre .0) in
+    omega arith
+
 le32-requires : tie.Need-le32-requires Inv-loop μ-loop
-le32-requires c κs = let e = c .before .before .before .before .before in script-long (e .args .script .now) (e .pre .0)
+le32-requires c κs = let e = c .before .before .before .before .before .before in script-long (e .args .script .now) (e .pre .0)
 
 loop-holds : tie.Need-loop-holds Inv-loop μ-loop
 loop-holds c =
-    let e = c .before .before .before .before .before .before in
+    let t = c .before in
+    let e = t .before .before .before .before .before .before in
     let a = e .args in
-    begun (a .script .now) (e .pre .0) (a .listing .now) (a .table .now) (a .work .now) (a .report .now) (a .rec) (c .le32 .result) (c .le32 .ensures .0)
-    (c .le32 .ensures .1) (e .pre .1)
+    begun (a .script .now) (e .pre .0) (a .listing .now) (a .table .now) (a .work .now) (a .report .now) (a .rec) (t .is-two .result) (t .is-two .ensures)
+    (c .le32 .result) (c .le32 .ensures .0) (c .le32 .ensures .1) (e .pre .1)
 
 run-step-requires : tie.Need-run-step-requires Inv-loop μ-loop
 run-step-requires c κs = let t = c .before .before in step-stands (t .before .loop .inv) (omega (arith, t .loop-test .taken))
@@ -69,6 +76,7 @@ run-steps-spec =
     (tie.spec
     Inv-loop
     μ-loop
+    is-two-requires
     le32-requires
     loop-holds
     run-step-requires
