@@ -14,7 +14,7 @@ use Rattle.model.specs.Outcome.{Store, Request, Outcome, outcome, opened}
 use Rattle.model.specs.Runs.{State, after, begin, WordedCalls, Built, Exchange, requestsIn, HoldsOfChain}
 use Rattle.model.proofs.Orders.{bot}
 use Rattle.model.proofs.Words.{IsBytes}
-use Rattle.model.proofs.Shapes.{Shaped, table, listing, malformed, at-path, at-ancestor, below-source, limit, key-too-long, no-room, shaped}
+use Rattle.model.proofs.Shapes.{Shaped, table, listing, malformed, at-path, at-ancestor, below-source, limit, key-too-long, no-room, lent-count, range-too-large, shaped}
 use Rattle.model.proofs.Chained.{one-more, last-of-more, chain-built, chain-holds}
 use Rattle.call_answer.specs.Meets.{stored}
 use Rattle.call_answer.proofs.Chains.{Calling, call-none}
@@ -34,6 +34,8 @@ some-number (below-source a b e) = omega arith
 some-number limit = omega arith
 some-number (key-too-long a b e) = omega arith
 some-number no-room = omega arith
+some-number (lent-count p m d b e) = omega arith
+some-number (range-too-large p m o d e) = omega arith
 
 read-accepted : (v : ℕ) → replyIn (packed (accepted v)) ≡ accepted v
 read-accepted v =

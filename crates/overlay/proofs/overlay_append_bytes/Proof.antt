@@ -9,7 +9,7 @@ use Rattle.overlay.proofs.overlay_append_bytes.Tie as tie
 
 returns : tie.Need-returns
 unfolding called
-returns c = let a = c .before .before .before .before .before .before .before .args in rw (not-four (a .rec .now) (c .if1 .taken))
+returns c = let a = c .before .before .before .before .before .before .before .before .args in rw (not-four (a .rec .now) (c .if1 .taken))
 
 record-in-requires : tie.Need-record-in-requires
 record-in-requires c κs = search needs
@@ -19,7 +19,7 @@ append-bytes-requires c κs = search needs
 
 store-and-pack-requires : tie.Need-store-and-pack-requires
 store-and-pack-requires c κs =
-    let a = c .before .before .before .before .before .before .before .before .before .before .before .before .before .before .before .before .before .args in
+    let a = c .before .before .before .before .before .before .before .before .before .before .before .before .before .before .before .before .before .before .args in
     let q = requested (append (a .path .now) (a .mtime) (a .«data» .now) (a .lent .now)) (a .limit) (a .work .now) in
     let r = c .before .before .before .before .before .before .before .before .record-in in
     let u = c .before .before .before .before .before .append-bytes in
@@ -36,7 +36,7 @@ same-length-3 c = search needs
 
 returns-2 : tie.Need-returns-2
 returns-2 c =
-    let a = c .before .before .before .before .before .before .before .before .before .before .before .before .before .before .before .before .before .before .before .before .args in
+    let a = c .before .before .before .before .before .before .before .before .before .before .before .before .before .before .before .before .before .before .before .before .before .args in
     let q = requested (append (a .path .now) (a .mtime) (a .«data» .now) (a .lent .now)) (a .limit) (a .work .now) in
     let r = c .before .before .before .before .before .before .before .before .before .before .before .record-in in
     let u = c .before .before .before .before .before .before .before .before .append-bytes in
