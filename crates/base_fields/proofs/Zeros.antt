@@ -1,21 +1,21 @@
 -- Bytes that are all 0: the test as an equation, and the loops that test and write them.
 use mathlib.Core.Path.{_≡_, refl, sym, ap, ap₂, _∙_}
 use mathlib.Core.Bool.{Bool, true, false, _&&_}
-use mathlib.Core.List.{[], _∷_, _++_, append-assoc, append-nil}
+use mathlib.Core.List.{[], _∷_, _++_, append-nil}
 use Prim.Native.Nat.{ℕ, zero, suc, _+_, _-_, _<_, _≤_}
 use native.Mathlib.Omega.{arith}
 use native.Mathlib.Numerals.{add-one}
 use lib.Dec.{eqb}
-use lib.ListN.{length, getD, take, drop, set, replicate, length-set, length-drop}
+use lib.ListN.{length, getD, take, drop, set, replicate, length-drop, length-replicate}
 use lib.ListN.{drop-of-length-le, replicate-append-replicate}
-use lib.Seq.{drop-cons, take-suc-set, take-all, take-at}
+use lib.Seq.{drop-cons, take-at}
 use borrow.Author.Tests.{eqb-true}
 use Rattle.model.specs.Bytes.{Bytes}
 use Rattle.model.specs.Table.{padded}
 use Rattle.model.proofs.Orders.{and-true}
 use Rattle.base_fields.specs.Read.{zeros}
 use Rattle.base_fields.specs.Write.{overwritten}
-use Rattle.base_fields.proofs.Writes.{length-overwritten}
+use Rattle.base_fields.proofs.Writes.{length-overwritten, overwritten-none, overwritten-one, two-writes}
 
 pub zeros-are : (s : Bytes) → zeros s ≡ true → s ≡ replicate (length s) 0
 zeros-are [] h = refl
@@ -54,34 +54,30 @@ module _ (s : Bytes) (i : ℕ) where
   no-more true h = rw (drop-of-length-le s h)
   no-more false h = refl
 
--- the loop of `zero_from`: t is t₀ with zeros from `from` up to i
-pub record Zeroed (t₀ : Bytes) (from : ℕ) (t : Bytes) (i : ℕ) : Type 0 where
-  pub start : from ≤ i
-  pub end : i ≤ length t₀
-  pub size : length t ≡ length t₀
-  pub front : take i t ≡ take from t₀ ++ replicate (i - from) 0
+-- the loop of `zero_to`: t is t₀ with zeros from `from` up to i
+abbrev pub zeroed : Bytes → ℕ → ℕ → Bytes
+zeroed t from i = overwritten t from (replicate (i - from) 0)
 
-pub begun : (t : Bytes) (from : ℕ) → from ≤ length t → Zeroed t from t from
-begun t from h =
-    let e : from - from ≡ 0 = omega arith in
-    record { start = omega arith; end = h; size = refl; front = rw e (sym (append-nil (take from t))) }
+pub zeroed-none : (t : Bytes) (from : ℕ) → t ≡ zeroed t from from
+zeroed-none t from = let e : from - from ≡ 0 = omega arith in rw e (sym (overwritten-none t from))
 
-module _ (t₀ t : Bytes) (from i : ℕ) (z : Zeroed t₀ from t i) where
-  more-front : i < length t → take (i + 1) (set t i 0) ≡ take from t₀ ++ replicate (i + 1 - from) 0
-  more-front h =
-      let n : i - from + 1 ≡ i + 1 - from = omega arith in
-      ap (λ (k : ℕ). take k (set t i 0)) (add-one i)
-      ∙ take-suc-set t i 0 h
-      ∙ ap (λ (s : Bytes). s ++ (0 ∷ [])) (z .front)
-      ∙ append-assoc (take from t₀) (replicate (i - from) 0) (0 ∷ [])
-      ∙ ap (λ (s : Bytes). take from t₀ ++ s) (replicate-append-replicate {A = ℕ} (i - from) 1 0)
-      ∙ ap (λ (k : ℕ). take from t₀ ++ replicate k 0) n
+module _ (t : Bytes) (from i : ℕ) (a : from ≤ i) (b : i ≤ length t) where
+  pub length-zeroed : length (zeroed t from i) ≡ length t
+  length-zeroed = let l = length-replicate {A = ℕ} (i - from) 0 in length-overwritten t from (replicate (i - from) 0) (omega arith)
 
-  pub one-more : i < length t → Zeroed t₀ from (set t i 0) (i + 1)
+  pub one-more : i < length t → set (zeroed t from i) i 0 ≡ zeroed t from (i + 1)
   one-more h =
-      record { start = omega arith; end = omega arith; size = length-set t i 0 ∙ z .size; front = more-front h }
+      let l = length-replicate {A = ℕ} (i - from) 0 in
+      let z = length-zeroed in
+      let n : i - from + 1 ≡ i + 1 - from = omega arith in
+      two-writes t (zeroed t from i) (set (zeroed t from i) i 0) (replicate (i - from) 0) (0 ∷ []) from i (omega arith) (omega arith) refl
+      (overwritten-one (zeroed t from i) i 0 (omega arith))
+      ∙ ap (overwritten t from) (replicate-append-replicate {A = ℕ} (i - from) 1 0 ∙ ap (λ (k : ℕ). replicate k 0) n)
 
-  pub all-zeroed : length t ≤ i → t ≡ take from t₀ ++ replicate (length t₀ - from) 0
-  all-zeroed h =
-      let e : i ≡ length t₀ = omega arith in
-      sym (take-all i t h) ∙ z .front ∙ ap (λ (k : ℕ). take from t₀ ++ replicate (k - from) 0) e
+-- up to the end nothing stands behind the zeros
+pub zeroed-on : (t : Bytes) (from : ℕ) → from ≤ length t → zeroed t from (length t) ≡ take from t ++ replicate (length t - from) 0
+zeroed-on t from h =
+    let l = length-replicate {A = ℕ} (length t - from) 0 in
+    let over : length t ≤ from + length (replicate {A = ℕ} (length t - from) 0) = omega arith in
+    ap (λ (s : Bytes). take from t ++ replicate (length t - from) 0 ++ s) (drop-of-length-le t over)
+    ∙ append-nil (take from t ++ replicate (length t - from) 0)

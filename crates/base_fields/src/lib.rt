@@ -166,16 +166,24 @@ pub fn copy_in(t: &mut [u8], at: usize, src: &[u8])
     }
 }
 
-// Writes 0 to every byte from `from` on.
+// Writes 0 to every byte from `from` up to `to`; then to every byte from `from` on.
+pub fn zero_to(t: &mut [u8], from: usize, to: usize)
+    requires { ⌜ (from ≤ to) × (to ≤ length (now t)) ⌝ }
+    ensures { λ _. ⌜ now (t .exit) ≡ overwritten (now (t .entry)) from (replicate (to - from) 0) ⌝ }
+{
+    let mut at = from;
+    while at < to {
+        t[at] = 0;
+        at += 1;
+    }
+}
+
 pub fn zero_from(t: &mut [u8], from: usize)
     requires { ⌜ from ≤ length (now t) ⌝ }
     ensures { λ _. ⌜ now (t .exit) ≡ take from (now (t .entry)) ++ replicate (length (now (t .entry)) - from) 0 ⌝ }
 {
-    let mut at = from;
-    while at < t.len() {
-        t[at] = 0;
-        at += 1;
-    }
+    let to = t.len();
+    zero_to(t, from, to);
 }
 
 // Whether every byte from `from` on is 0. It reads them all.

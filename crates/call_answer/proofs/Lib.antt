@@ -1,3 +1,5 @@
 pub mod Settles
 pub mod Admits
 pub mod Chains
+pub mod Keys
+pub mod OnePath

@@ -1,41 +1,37 @@
--- The calls that change one entry: their checks from 3 to 10, the root that none of them passes, and then the insertion.
+-- The calls that change one entry: the root that none of them passes, and their checks from 3 to 10, then the insertion.
 use mathlib.Core.Path.{_≡_, refl, sym, ap, subst, _∙_}
-use mathlib.Core.Bool.{Bool, true, false}
+use mathlib.Core.Bool.{true}
 use mathlib.Core.List.{[], _∷_}
 use mathlib.Core.Option.{Option, none}
 use Prim.Native.Nat.{ℕ, zero, suc, _≤_}
 use lib.ListN.{length, replicate}
-use Rattle.model.specs.Bytes.{Bytes, before}
-use Rattle.model.specs.Path.{Path, isPath}
+use Rattle.model.specs.Bytes.{Bytes}
+use Rattle.model.specs.Path.{Path}
 use Rattle.model.specs.Map.{put, lookup}
 use Rattle.model.specs.Tree.{Entry, Table, Tree, kind}
 use Rattle.model.specs.Listing.{treeIn}
 use Rattle.model.specs.Table.{encode, padded, entryOf, tableIn}
-use Rattle.model.specs.Checks.{Check, pass, refuse, _then_, unless, form, Memory, limited, unlimited, charged, parentChecks, unlinkAt, unlinkEntry}
+use Rattle.model.specs.Checks.{Check, _then_, form, Memory, limited, charged, parentChecks, unlinkAt, unlinkEntry}
 use Rattle.model.specs.Calls.{changed, forms, rules, valueOf}
-use Rattle.model.specs.Outcome.{Given, shownIn, Request, room, verdict, outcome}
+use Rattle.model.specs.Outcome.{Given, shownIn, Request, outcome}
 use Rattle.model.specs.declared.Record.{Record}
 use Rattle.model.specs.declared.Refusal.{Refusal}
 use Rattle.model.specs.declared.Answered.{Answered}
 use Rattle.model.specs.declared.Answer.the-variants.{Refused}
 use Rattle.model.proofs.Orders.{bot}
 use Rattle.model.proofs.Maps.{ascends-is, lookup-low}
-use Rattle.model.proofs.Invariant.{then-pass, form-is}
-use Rattle.model.proofs.Codec.{decoded, path-short}
+use Rattle.model.proofs.Codec.{decoded}
 use Rattle.table_write.specs.Merge.{Written}
 use Rattle.table_insert.specs.declared.Inserted.{Inserted}
 use Rattle.table_insert.specs.Insert.{insertion, ifDone}
 use Rattle.check_judged.specs.declared.Judged.{Judged}
 use Rattle.check_judged.specs.declared.Judged.the-variants as judge
 use Rattle.check_judged.specs.Judged.{checkOf, refuses}
-use Rattle.check_judged.proofs.Checked.{not-refused-passes, refused-not-passed}
-use Rattle.check_judged.proofs.Thens.{ends, goes-on}
 use Rattle.check_one_path.specs.Change.{changeChecks}
 use Rattle.check_one_path.specs.declared.Change.{Change}
 use Rattle.check_one_path.specs.declared.Change.the-variants as change
-use Rattle.call_answer.specs.Meets.{requested, stored, last, Meets, answeredOf}
-use Rattle.call_answer.proofs.Settles.{refused-meets, inserted-meets}
-use Rattle.call_answer.proofs.Admits.{given-verdict}
+use Rattle.call_answer.specs.Meets.{requested, stored, Meets, answeredOf}
+use Rattle.call_answer.proofs.OnePath as one-path
 use Rattle.call_one_path.specs.Called.{callOf, brings, kindPut}
 
 -- a call with the path p, by its checks from 3 to 10
@@ -44,7 +40,7 @@ module _ (l s : Bytes) (r : Record) (p : Path) (x : Change) where
   judged = form 0 p then changeChecks x (tableIn s r) (treeIn l) p
 
   -- each call refuses the root: write and unlink as a directory, rmdir by its own check
-  root : Given l s r → refuses (changeChecks x (tableIn s r) (treeIn l) []) ≡ true
+  pub root : Given l s r → refuses (changeChecks x (tableIn s r) (treeIn l) []) ≡ true
   root g = each x
     where
       each : (y : Change) → refuses (changeChecks y (tableIn s r) (treeIn l) []) ≡ true
@@ -55,29 +51,6 @@ module _ (l s : Bytes) (r : Record) (p : Path) (x : Change) where
           let f = shownIn l s r in
           ap (λ (o : Option Entry). refuses (unlinkEntry 0 o (parentChecks 0 f [] then unlinkAt 0 (kind f [])))) e
       each change.Rmdir = refl
-
-  -- so a path that passes is a key
-  may : Given l s r → (c : Check) → c ≡ judged → c ≡ pass → (before [] p ≡ true) × (length p ≤ 512)
-  may g c e h =
-      let k = then-pass (form 0 p) (changeChecks x (tableIn s r) (treeIn l) p) (sym e ∙ h) in
-      (not-root p (k .1), path-short p (form-is 0 p (k .0)))
-    where
-      not-root : (p : Path) → changeChecks x (tableIn s r) (treeIn l) p ≡ pass → before [] p ≡ true
-      not-root [] e = absurd (refused-not-passed (changeChecks x (tableIn s r) (treeIn l) []) (root g) e)
-      not-root (b ∷ p) e = refl
-
-  -- 3 gave j, and b is whether that refuses
-  module _ (g : Given l s r) (j : Check) (b : Bool) (e : j ≡ form 0 p) (i : b ≡ refuses j) where
-    pub is-path : b ≡ false → isPath p ≡ true
-    is-path h = form-is 0 p (sym e ∙ not-refused-passes j (sym i ∙ h))
-
-    pub by-form : b ≡ true → (j ≡ judged) × (j ≡ pass → (before [] p ≡ true) × (length p ≤ 512))
-    by-form h = let k = ends (form 0 p) j b e i (changeChecks x (tableIn s r) (treeIn l) p) h in (k, may g j k)
-
-    -- the checks behind it gave c
-    pub by-checks : b ≡ false → (c : Check) → c ≡ changeChecks x (tableIn s r) (treeIn l) p
-        → (c ≡ judged) × (c ≡ pass → (before [] p ≡ true) × (length p ≤ 512))
-    by-checks h c d = let k = goes-on (form 0 p) j b e i (changeChecks x (tableIn s r) (treeIn l) p) c h d in (k, may g c k)
 
 -- what such a call brings are an entry's fields, and the data's length is what it answers
 brought : (x : Change) (p : Path) (m : ℕ) (d : Bytes) → brings x m d ≡ true → Written (kindPut x) m 0 d × (length d ≡ valueOf (callOf x p m d))
@@ -97,30 +70,16 @@ called change.Write p m d o t l = (refl, refl, refl)
 called change.Unlink p m d o t l = (refl, refl, refl)
 called change.Rmdir p m d o t l = (refl, refl, refl)
 
-regroup : (a b c d : Check) → (a then (b then c) then d) ≡ ((a then b) then (c then d))
-regroup pass pass c d = refl
-regroup pass (refuse n w k) c d = refl
-regroup (refuse n w k) b c d = refl
-
 -- such a call behind 1 and 2, with the work buffer w; its checks from 3 to 10 gave j
 module _ (l s : Bytes) (r : Record) (w : Bytes) (p : Path) (x : Change) (m : ℕ) (d : Bytes) (limit : ℕ) (g : Given l s r) (h : length s ≤ length w)
     (j : Judged) (e : checkOf j ≡ judged l s r p x) where
   abbrev q : Request
   q = requested (callOf x p m d) limit w
 
-  grouped : verdict l q (stored s r) ≡ (judged l s r p x then last l q (stored s r))
-  grouped =
-      let o = limited (r .«entry_size») limit in
-      let t = tableIn s r in
-      let n = unless 13 (room l q (stored s r)) in
-      let k = called x p m d o t (treeIn l) in
-      given-verdict l q (stored s r) g h
-      ∙ ap (λ (y : Check). y then rules o t (treeIn l) (callOf x p m d) then n) (k .0)
-      ∙ ap (λ (y : Check). form 0 p then y then n) (k .1)
-      ∙ regroup (form 0 p) (changeChecks x t (treeIn l) p) (charged o (changed t (treeIn l) (callOf x p m d))) n
-
   pub call-refused : (y : Refusal) → j ≡ judge.Refused y → Meets (outcome l q (stored s r)) (record { answer = Refused y; «record» = r }) s w
-  call-refused y u = refused-meets l q (stored s r) (judged l s r p x) grouped y (sym (ap checkOf u) ∙ e)
+  call-refused =
+      let k = called x p m d (limited (r .«entry_size») limit) (tableIn s r) (treeIn l) in
+      one-path.call-refused l q (stored s r) g h p (changeChecks x (tableIn s r) (treeIn l) p) (k .0) (k .1) j e
 
   module _ (b : brings x m d ≡ true) (k : ℕ) (f : k ≡ kindPut x) where
     pub call-fields : Written k m 0 d
@@ -131,7 +90,9 @@ module _ (l s : Bytes) (r : Record) (w : Bytes) (p : Path) (x : Change) (m : ℕ
         → t ≡ ifDone i (padded (length s) (encode (put p (entryOf k m 0 d) (tableIn s r)))) s → v ≡ ifDone i (replicate (length w) 0) w
         → (a : Answered) → a ≡ answeredOf i r (length d) → Meets (outcome l q (stored s r)) a t v
     call-inserted u i y t v z n a o =
+        let c′ = called x p m d (limited (r .«entry_size») limit) (tableIn s r) (treeIn l) in
         let c : put p (entryOf k m 0 d) (tableIn s r) ≡ changed (tableIn s r) (treeIn l) (callOf x p m d) =
-        ap (λ (c : ℕ). put p (entryOf c m 0 d) (tableIn s r)) f ∙ called x p m d unlimited (tableIn s r) (treeIn l) .2 in
-        inserted-meets l q (stored s r) (judged l s r p x) grouped (sym (ap checkOf u) ∙ e) i (y ∙ ap (insertion (r .«entry_size») limit (length s)) c) t v
+        ap (λ (c : ℕ). put p (entryOf c m 0 d) (tableIn s r)) f ∙ c′ .2 in
+        one-path.call-inserted l q (stored s r) g h p (changeChecks x (tableIn s r) (treeIn l) p) (c′ .0) (c′ .1) j e u i
+        (y ∙ ap (insertion (r .«entry_size») limit (length s)) c) t v
         (z ∙ ap (λ (y : Table). ifDone i (padded (length s) (encode y)) s) c) n a (o ∙ ap (answeredOf i r) (brought x p m d b .1))

@@ -9,6 +9,6 @@ use Rattle.call_values.specs.declared.Order.{Order}
 use Rattle.call_values.specs.Values.{callBy, callOf}
 
 -- an order of the kind k is the call that k says
-pub by-kind : (g w p d : Bytes) (s : Store) (o : Order) (k : Kind) → o .kind ≡ k → {r : Answered} {t u : Bytes}
-    → Meets (outcome g (requested (callBy k o p d) (o .limit) w) s) r t u → Meets (outcome g (requested (callOf o p d) (o .limit) w) s) r t u
-by-kind g w p d s o k e {r} {t} {u} m = subst⁻¹ (λ (x : Kind). Meets (outcome g (requested (callBy x o p d) (o .limit) w) s) r t u) e m
+pub by-kind : (g w p d b : Bytes) (s : Store) (o : Order) (k : Kind) → o .kind ≡ k → {r : Answered} {t u : Bytes}
+    → Meets (outcome g (requested (callBy k o p d b) (o .limit) w) s) r t u → Meets (outcome g (requested (callOf o p d b) (o .limit) w) s) r t u
+by-kind g w p d b s o k e {r} {t} {u} m = subst⁻¹ (λ (x : Kind). Meets (outcome g (requested (callBy x o p d b) (o .limit) w) s) r t u) e m

@@ -4,13 +4,20 @@
 ghost use Rattle.model.specs.Outcome.{outcome};
 ghost use Rattle.call_answer.specs.Meets.{requested, stored, Meets};
 ghost use Rattle.call_values.specs.Values.{callOf};
+use call_content::append_bytes;
+use call_content::write_file_at;
+use call_mkdir::mkdir;
+use call_one_path::rmdir;
+use call_one_path::unlink;
+use call_one_path::write_bytes;
+use call_rename::rename;
 use call_values::Kind;
 use call_values::Order;
 use model::Answered;
 use model::Record;
 
-// Makes the call. `first` is its path, a rename's source; `second` is a write's data and a rename's destination, and no
-// other call looks at it.
+// Makes the call. `first` is its path, a rename's source; `second` is the data of the three calls that write, and a
+// rename's destination; `third` is what an append is lent. No other call looks at these two.
 pub fn make(
     listing: &[u8],
     table: &mut [u8],
@@ -18,51 +25,40 @@ pub fn make(
     work: &mut [u8],
     first: &[u8],
     second: &[u8],
+    third: &[u8],
     order: Order,
 ) -> Answered
     ensures { λ r. ⌜ Meets (outcome (now (listing .entry)) (requested (callOf order (now (first .entry))
-        (now (second .entry))) (order .limit) (now (work .entry))) (stored (now (table .entry)) rec)) r
-        (now (table .exit)) (now (work .exit)) ⌝ }
+        (now (second .entry)) (now (third .entry))) (order .limit) (now (work .entry))) (stored (now (table .entry))
+        rec)) r (now (table .exit)) (now (work .exit)) ⌝ }
 {
     let kind = order.kind;
     let mtime = order.mtime;
     let limit = order.limit;
     match kind {
         Kind::Write => {
-            return call_one_path::write_bytes(
-                listing,
-                table,
-                rec,
-                work,
-                first,
-                mtime,
-                second,
-                limit,
-            );
+            return write_bytes(listing, table, rec, work, first, mtime, second, limit);
+        }
+        Kind::Append => {
+            return append_bytes(listing, table, rec, work, first, mtime, second, third, limit);
+        }
+        Kind::WriteInside => {
+            let offset = order.offset;
+            return write_file_at(listing, table, rec, work, first, mtime, offset, second, limit);
         }
         Kind::Mkdir => {
             let parents = order.parents;
             let exist_ok = order.exist_ok;
-            return call_mkdir::mkdir(
-                listing,
-                table,
-                rec,
-                work,
-                first,
-                parents,
-                exist_ok,
-                mtime,
-                limit,
-            );
+            return mkdir(listing, table, rec, work, first, parents, exist_ok, mtime, limit);
         }
         Kind::Unlink => {
-            return call_one_path::unlink(listing, table, rec, work, first, limit);
+            return unlink(listing, table, rec, work, first, limit);
         }
         Kind::Rmdir => {
-            return call_one_path::rmdir(listing, table, rec, work, first, limit);
+            return rmdir(listing, table, rec, work, first, limit);
         }
         Kind::Rename => {
-            return call_rename::rename(listing, table, rec, work, first, second, limit);
+            return rename(listing, table, rec, work, first, second, limit);
         }
     }
 }

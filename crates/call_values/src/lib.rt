@@ -7,20 +7,23 @@ use model::Refusal;
 
 pub enum Kind {
     Write,
+    Append,
+    WriteInside,
     Mkdir,
     Unlink,
     Rmdir,
     Rename,
 }
 
-// What a call takes beside its paths and data. The flags are mkdir's, and the mtime is write's and mkdir's; the other
-// calls take no notice of them.
+// What a call takes beside its paths and data. The flags are mkdir's, the offset is that of writing inside, and the
+// mtime is for the calls that set one: write, append, writing inside and mkdir. The other calls take no notice of them.
 pub struct Order {
     pub kind: Kind,
     pub parents: bool,
     pub exist_ok: bool,
     pub mtime: u64,
     pub limit: u64,
+    pub offset: u64,
 }
 
 // An answer as a row. Accepted: 0, 0 and the value; refused: number, path and length.
@@ -55,6 +58,8 @@ pub fn told_refusal(refusal: Refusal) -> Row
         Refusal::Limit => refused(11, 0, 0),
         Refusal::KeyTooLong => refused(12, 0, 0),
         Refusal::NoRoom => refused(13, 0, 0),
+        Refusal::LentCount => refused(17, 0, 0),
+        Refusal::RangeTooLarge => refused(18, 0, 0),
     }
 }
 

@@ -1,26 +1,30 @@
--- Every answer fits in its packed number, and can be read from it again: a refusal's length is that of a path in form, and an accepted write's
--- value is the length of data that stands in a table.
+-- Every answer fits in its packed number, and can be read from it again: a refusal's length is that of a path in form, and the value of an
+-- accepted call that writes is the length of data that stands in a table.
 use mathlib.Core.Path.{_≡_, refl, ap, sym, _∙_, subst}
 use mathlib.Core.Bool.{Bool, true, false, cond}
+use mathlib.Core.List.{[]}
 use Prim.Native.Nat.{ℕ, _/_, _%_, _<_, _≤_}
 use native.Mathlib.Omega.{arith}
 use lib.Dec.{leb}
-use lib.ListN.{length}
+use lib.ListN.{length, length-append}
 use borrow.Author.Tests.{leb-true}
 use Rattle.model.specs.Bytes.{Bytes}
 use Rattle.model.specs.Path.{Path, isPath}
+use Rattle.model.specs.Map.{put}
 use Rattle.model.specs.Tree.{own, shown, kind}
 use Rattle.model.specs.Table.{encode, isTable, tableIn, sized}
 use Rattle.model.specs.Listing.{isListing, treeIn}
 use Rattle.model.specs.Checks.{Check, pass, refuse, _then_, unless, form, limited}
-use Rattle.model.specs.Calls.{Call, write, mkdir, unlink, rmdir, rename, changed, forms, rules, valueOf, Query, says}
+use Rattle.model.specs.Content.{contentOf, appended, spliced}
+use Rattle.model.specs.Calls.{Call, write, append, writeInside, mkdir, unlink, rmdir, rename, changed, forms, rules, valueOf, Query, says}
 use Rattle.model.specs.Answer.{accepted, refused}
 use Rattle.model.specs.Outcome.{Store, Request, lent, room, verdict, settle, outcome, answered, ask, opened}
 use Rattle.model.proofs.Orders.{bot, yea, nay, test, and-true}
 use Rattle.model.proofs.Codec.{decoded, path-short}
-use Rattle.model.proofs.Invariant.{then-pass, form-is}
+use Rattle.model.proofs.Invariant.{then-pass, unless-pass, form-is}
+use Rattle.model.proofs.Splices.{spliced-length}
 use Rattle.model.proofs.Rules.{below-length}
-use Rattle.model.proofs.Shapes.{Names, written, made, unlinked, removed, source, destination, Shaped, table, listing, malformed, at-path, at-ancestor, below-source, limit, key-too-long, no-room, shaped}
+use Rattle.model.proofs.Shapes.{Names, written, added, inside, made, unlinked, removed, source, destination, Shaped, table, listing, malformed, at-path, at-ancestor, below-source, limit, key-too-long, no-room, lent-count, range-too-large, shaped}
 use Rattle.model.proofs.Shapes.{bad-table-refused, bad-listing-refused, bad-path-refused}
 use Rattle.table_insert.proofs.Inserts as inserts
 use Rattle.overlay_packed.specs.Packed.{packed, Fits}
@@ -39,6 +43,8 @@ unpacked-value v = (omega arith, omega arith)
 -- the paths of a call: at most two, and short where they are in form
 names-few : {c : Call} {w : ℕ} {p : Path} → Names c w p → w < 2
 names-few (written p m d) = omega arith
+names-few (added p m d b) = omega arith
+names-few (inside p m o d) = omega arith
 names-few (made p up ok m) = omega arith
 names-few (unlinked p) = omega arith
 names-few (removed p) = omega arith
@@ -50,6 +56,8 @@ formed w p h = path-short p (form-is w p h)
 
 names-short : {c : Call} {w : ℕ} {p : Path} → forms c ≡ pass → Names c w p → length p ≤ 512
 names-short h (written p m d) = formed 0 p h
+names-short h (added p m d b) = formed 0 p h
+names-short h (inside p m o d) = formed 0 p h
 names-short h (made p up ok m) = formed 0 p h
 names-short h (unlinked p) = formed 0 p h
 names-short h (removed p) = formed 0 p h
@@ -70,6 +78,8 @@ shape-fits f (below-source a b e) = let d = names-short (sym (ap forms e) ∙ f)
 shape-fits f limit = (omega arith, omega arith, omega arith)
 shape-fits f (key-too-long a b e) = (omega arith, omega arith, omega arith)
 shape-fits f no-room = (omega arith, omega arith, omega arith)
+shape-fits f (lent-count p m d b e) = (omega arith, omega arith, omega arith)
+shape-fits f (range-too-large p m o d e) = (omega arith, omega arith, omega arith)
 
 -- 3
 abbrev FitsCheck : Check → Type 0
@@ -89,6 +99,8 @@ then-fits (refuse n w k) b f g = f
 
 forms-fit : (c : Call) → FitsCheck (forms c)
 forms-fit (write p m d) = form-fits 0 p (omega arith)
+forms-fit (append p m d b) = form-fits 0 p (omega arith)
+forms-fit (writeInside p m o d) = form-fits 0 p (omega arith)
 forms-fit (mkdir p up ok m) = form-fits 0 p (omega arith)
 forms-fit (unlink p) = form-fits 0 p (omega arith)
 forms-fit (rmdir p) = form-fits 0 p (omega arith)
@@ -109,17 +121,28 @@ module _ (l : Bytes) (q : Request) (s : Store) where
       go a b pass e = shape-fits e (shaped l q s n w k h)
       go a b (refuse i j m) e = subst Fits (sym (bad-path-refused l q s i j m a b e) ∙ h) (subst FitsCheck e (forms-fit (q .call)))
 
-  unless-pass : (n : ℕ) (b : Bool) → unless n b ≡ pass → b ≡ true
-  unless-pass n true h = refl
-  unless-pass n false h = absurd (bot (cc))
-
-  -- the data of an accepted write stands in the table, and a table has at most 16 MiB
-  value-fits : (c : Call) → isTable (s .table) (s .rec) ≡ true
-      → length (encode (changed (tableIn (s .table) (s .rec)) (treeIn l) c)) ≤ length (s .table) → valueOf c < 0x1_0000_0000_0000
-  value-fits (write p m d) h r =
+  -- a content stands in the table, and a table has at most 16 MiB
+  content-fits : (p : Path) (m : ℕ) (x : Bytes) → isTable (s .table) (s .rec) ≡ true
+      → length (encode (put p (own m x) (tableIn (s .table) (s .rec)))) ≤ length (s .table) → length x < 0x1_0000_0000_0000
+  content-fits p m x h r =
       let z = and-true (leb (s .rec .«entry_size») 4096) (leb (length (s .table)) 16777216) (decoded (s .table) (s .rec) h .size) in
       let n = leb-true (length (s .table)) 16777216 (z .1) in
-      let f = inserts.room p (own m d) (tableIn (s .table) (s .rec)) (length (s .table)) r in
+      let f = inserts.room p (own m x) (tableIn (s .table) (s .rec)) (length (s .table)) r in
+      omega arith
+
+  -- so do the data of an accepted call that writes, in the content that it leaves
+  value-fits : (c : Call) → isTable (s .table) (s .rec) ≡ true
+      → length (encode (changed (tableIn (s .table) (s .rec)) (treeIn l) c)) ≤ length (s .table) → valueOf c < 0x1_0000_0000_0000
+  value-fits (write p m d) h r = content-fits p m d h r
+  value-fits (append p m d b) h r =
+      let o = shown (tableIn (s .table) (s .rec)) (treeIn l) p in
+      let f = content-fits p m (appended o d b) h r in
+      let e = length-append (contentOf o b) d in
+      omega arith
+  value-fits (writeInside p m o d) h r =
+      let c : Bytes = contentOf (shown (tableIn (s .table) (s .rec)) (treeIn l) p) [] in
+      let f = content-fits p m (spliced o d c) h r in
+      let e = spliced-length o d c in
       omega arith
   value-fits (mkdir p up ok m) h r = omega arith
   value-fits (unlink p) h r = omega arith

@@ -129,6 +129,76 @@ pub extern "C" fn overlay_write_bytes(
     overlay_packed::store_and_pack(rec, answered)
 }
 
+// The data behind what the path's file holds, with these mtime bits. `lent` are the bytes of a listed file.
+#[no_mangle]
+pub extern "C" fn overlay_append_bytes(
+    listing: &[u8],
+    table: &mut [u8],
+    rec: &mut [u64],
+    work: &mut [u8],
+    path: &[u8],
+    data: &[u8],
+    lent: &[u8],
+    mtime: u64,
+    limit: u64,
+) -> u64
+    ensures { λ r. ⌜ left r (now (rec .exit)) (now (table .exit)) (now (work .exit)) ≡ called (now (listing .entry))
+        (requested (calls.append (now (path .entry)) mtime (now («data» .entry)) (now (lent .entry))) limit
+        (now (work .entry))) (now (table .entry)) (now (rec .entry)) ⌝ }
+{
+    if rec.len() != NUMBERS {
+        return overlay_packed::MALFORMED_TABLE;
+    }
+    let before = overlay_packed::record_in(&*rec);
+    let answered = call_content::append_bytes(
+        listing,
+        table,
+        before,
+        work,
+        path,
+        mtime,
+        data,
+        lent,
+        limit,
+    );
+    overlay_packed::store_and_pack(rec, answered)
+}
+
+// The data from the offset on, inside the path's own file, with these mtime bits.
+#[no_mangle]
+pub extern "C" fn overlay_write_file_at(
+    listing: &[u8],
+    table: &mut [u8],
+    rec: &mut [u64],
+    work: &mut [u8],
+    path: &[u8],
+    data: &[u8],
+    offset: u64,
+    mtime: u64,
+    limit: u64,
+) -> u64
+    ensures { λ r. ⌜ left r (now (rec .exit)) (now (table .exit)) (now (work .exit)) ≡ called (now (listing .entry))
+        (requested (calls.writeInside (now (path .entry)) mtime offset (now («data» .entry))) limit
+        (now (work .entry))) (now (table .entry)) (now (rec .entry)) ⌝ }
+{
+    if rec.len() != NUMBERS {
+        return overlay_packed::MALFORMED_TABLE;
+    }
+    let before = overlay_packed::record_in(&*rec);
+    let answered = call_content::write_file_at(
+        listing,
+        table,
+        before,
+        work,
+        path,
+        mtime,
+        offset,
+        data,
+        limit,
+    );
+    overlay_packed::store_and_pack(rec, answered)
+}
+
 // A directory with these mtime bits at the path; with the flag parents, at its missing ancestors too.
 #[no_mangle]
 pub extern "C" fn overlay_mkdir(

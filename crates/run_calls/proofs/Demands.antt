@@ -22,9 +22,9 @@ use Rattle.check_judged.specs.Judged.{asCheck, refuses}
 use Rattle.check_judged.proofs.Checked.{refusal-refuses}
 use Rattle.call_answer.specs.Meets.{stored}
 use Rattle.call_values.specs.declared.Kind.{Kind}
-use Rattle.call_values.specs.declared.Kind.the-variants.{Write, Mkdir, Unlink, Rmdir, Rename}
+use Rattle.call_values.specs.declared.Kind.the-variants.{Write, Append, WriteInside, Mkdir, Unlink, Rmdir, Rename}
 use Rattle.call_values.specs.Values.{callBy}
-use Rattle.run_script.specs.Script.{Step, firstPart, secondPart, stepEnd, stepKind, kindAt, orderAt, stepAt, stepsFrom, stepCount, stepsIn}
+use Rattle.run_script.specs.Script.{Step, isTwo, firstPart, secondPart, thirdPart, stepEnd, stepKind, kindAt, orderAt, stepAt, stepsFrom, stepCount, stepsIn}
 use Rattle.run_calls.specs.Runs.{requestOf, requests, leftAfter, Result, ranOn, asNew, ifOpened, ranNew, Gives, Holds}
 use Rattle.run_calls.specs.declared.Ran.{Ran}
 use Rattle.run_calls.specs.declared.RanNew.{RanNew}
@@ -41,21 +41,23 @@ ran-after listing (x ∷ xs) s work p =
     ran-after listing xs (o .store) (o .work) (step listing q (record { store = s; plain = p }) .plain)
 
 module _ (script : Bytes) (b : IsBytes script) where
-  worded : (at : ℕ) → WordedCall (stepAt script at .call)
-  worded at = go (stepKind (kindAt script at))
+  worded : (two : Bool) (at : ℕ) → WordedCall (stepAt two script at .call)
+  worded two at = go (stepKind (kindAt script at))
     where
-      go : (k : Kind) → WordedCall (callBy k (orderAt script at) (firstPart script at) (secondPart script at))
+      go : (k : Kind) → WordedCall (callBy k (orderAt two script at) (firstPart two script at) (secondPart two script at) (thirdPart two script at))
       go Write = number-below 8 (drop (at + 8) script) (bytes-drop (at + 8) script b)
+      go Append = number-below 8 (drop (at + 8) script) (bytes-drop (at + 8) script b)
+      go WriteInside = number-below 8 (drop (at + 8) script) (bytes-drop (at + 8) script b)
       go Mkdir = number-below 8 (drop (at + 8) script) (bytes-drop (at + 8) script b)
       go Unlink = tt
       go Rmdir = tt
       go Rename = tt
 
-  worded-all : (listing : Bytes) (n at : ℕ) (s : Store) (work : Bytes) → WordedCalls (requests listing (stepsFrom script n at) s work)
-  worded-all listing zero at s work = tt
-  worded-all listing (suc n) at s work =
-      let o : Outcome = outcome listing (requestOf (stepAt script at) work) s in
-      (worded at, worded-all listing n (stepEnd script at) (o .store) (o .work))
+  worded-all : (listing : Bytes) (two : Bool) (n at : ℕ) (s : Store) (work : Bytes) → WordedCalls (requests listing (stepsFrom two script n at) s work)
+  worded-all listing two zero at s work = tt
+  worded-all listing two (suc n) at s work =
+      let o : Outcome = outcome listing (requestOf (stepAt two script at) work) s in
+      (worded two at, worded-all listing two n (stepEnd two script at) (o .store) (o .work))
 
   -- demand 3 and POSIX on a script from an accepted opening on
   pub demanded : (listing : Bytes) → IsBytes listing → (E : ℕ) (buffer work : Bytes) (v : ℕ) → opened E buffer .reply ≡ accepted v → (s : Store)
@@ -63,7 +65,7 @@ module _ (script : Bytes) (b : IsBytes script) where
       → Holds listing (begin listing E buffer) (requests listing (stepsIn script) (opened E buffer .store) work) s
   demanded listing bl E buffer work v h s e =
       let calls : List Request = requests listing (stepsIn script) (opened E buffer .store) work in
-      let words : WordedCalls calls = worded-all listing (stepCount script) 8 (opened E buffer .store) work in
+      let words : WordedCalls calls = worded-all listing (isTwo script) (stepCount script) 8 (opened E buffer .store) work in
       record {
         demand-3 = demand.demand-3 listing bl E buffer v h calls words;
         posix = demand.posix listing bl E buffer v h calls words;

@@ -12,7 +12,7 @@ use Rattle.model.specs.Outcome.{Store}
 use Rattle.model.specs.declared.Record.{Record}
 use Rattle.model.proofs.Orders.{bot, and-true, test, yea, nay}
 use Rattle.call_answer.specs.Meets.{stored}
-use Rattle.run_script.specs.Script.{stepCount, stepsIn, filled, marked, isScript}
+use Rattle.run_script.specs.Script.{isTwo, stepCount, stepsIn, filled, marked, isScript}
 use Rattle.run_calls.specs.Runs.{RunLeft, leftAfter, rows, Result, done, unchanged, ranOn, asNew, Gives, Finished}
 use Rattle.run_calls.specs.declared.Ran.{Ran}
 use Rattle.run_calls.specs.declared.Ran.the-variants as ran
@@ -35,7 +35,7 @@ module _ (listing : Bytes) (s : Store) (work script report : Bytes) where
   is-done e f = rw (e, f)
 
   by-count : {b : Bool} → b ≡ leb (32 * stepCount script) (length report) → b ≡ enough
-  by-count e = e ∙ ap (λ (n : ℕ). leb (32 * n) (length report)) (sym (steps-length script (stepCount script) 8))
+  by-count e = e ∙ ap (λ (n : ℕ). leb (32 * n) (length report)) (sym (steps-length (isTwo script) script (stepCount script) 8))
 
   module _ {a : Bool} (ea : a ≡ isScript script) where
     pub malformed : not a ≡ true → Gives (ranOn listing s work script report) ran.MalformedScript (s .table) work report
@@ -48,7 +48,7 @@ module _ (listing : Bytes) (s : Store) (work script report : Bytes) where
       well = sym ea ∙ not-false a ha
 
       pub head-long : 8 ≤ length script
-      head-long = marked-long script (and-true (marked script) (filled script (stepCount script) 8) well .0)
+      head-long = marked-long script (and-true (marked script) (filled (isTwo script) script (stepCount script) 8) well .0)
 
       module _ {b : Bool} (eb : b ≡ leb (32 * stepCount script) (length report)) where
         pub short : not b ≡ true → Gives (ranOn listing s work script report) ran.ShortReport (s .table) work report

@@ -14,7 +14,7 @@ ghost use Rattle.model.specs.declared.Record as model;
 ghost use Rattle.base_fields.specs.Write.{overwritten};
 ghost use Rattle.call_answer.specs.Meets.{stored, Meets};
 ghost use Rattle.call_values.specs.Values.{rowOf};
-ghost use Rattle.run_script.specs.Script.{stepEnd, stepAt, stepCount, stepsIn, isScript};
+ghost use Rattle.run_script.specs.Script.{stepHead, stepEnd, stepAt, stepCount, stepsIn, isScript};
 ghost use Rattle.run_calls.specs.Runs.{requestOf, requests, rowBytes, ranOn, ranNew, leftAfter, asNew, Gives};
 ghost use Rattle.run_calls.specs.Runs.{Holds, Finished};
 use model::Answer;
@@ -57,23 +57,25 @@ fn put_row(report: &mut [u8], at: usize, answered: Answered, charge: u64)
     put_pair(report, at + 16, row.len, charge);
 }
 
-// Makes the call of the step at `at`.
+// Makes the call of the step at `at`; `two` says that the script's mark is TSC2.
 fn run_step(
     listing: &[u8],
     table: &mut [u8],
     rec: Record,
     work: &mut [u8],
     script: &[u8],
+    two: bool,
     at: usize,
 ) -> Answered
-    requires { ⌜ (at + 24 ≤ length (now script)) × (stepEnd (now script) at ≤ length (now script)) ⌝ }
-    ensures { λ r. ⌜ Meets (outcome (now (listing .entry)) (requestOf (stepAt (now (script .entry)) at)
+    requires { ⌜ (at + stepHead two ≤ length (now script)) × (stepEnd two (now script) at ≤ length (now script)) ⌝ }
+    ensures { λ r. ⌜ Meets (outcome (now (listing .entry)) (requestOf (stepAt two (now (script .entry)) at)
         (now (work .entry))) (stored (now (table .entry)) rec)) r (now (table .exit)) (now (work .exit)) ⌝ }
 {
-    let order = run_script::order_at(script, at);
-    let first = run_script::first_part(script, at);
-    let second = run_script::second_part(script, at);
-    call_order::make(listing, table, rec, work, first, second, order)
+    let order = run_script::order_at(script, two, at);
+    let first = run_script::first_part(script, two, at);
+    let second = run_script::second_part(script, two, at);
+    let third = run_script::third_part(script, two, at);
+    call_order::make(listing, table, rec, work, first, second, third, order)
 }
 
 // Makes the calls of a script, one after another, each with the table, the record and the work buffer that the one
@@ -92,15 +94,16 @@ fn run_steps(
         (stored (now (table .entry)) rec) (now (work .entry))) (now (report .entry)) r (now (table .exit))
         (now (work .exit)) (now (report .exit)) ⌝ }
 {
+    let two = run_script::is_two(script);
     let mut last = rec;
     let mut more = base_fields::le32(script, 4);
     let mut place: usize = run_script::SCRIPT_HEAD;
     let mut row: usize = 0;
     while 0 < more {
-        let answered = run_step(listing, table, last, work, script, place);
+        let answered = run_step(listing, table, last, work, script, two, place);
         put_row(report, row, answered, answered.record.charge);
         last = answered.record;
-        place = run_script::end_of(script, place);
+        place = run_script::end_of(script, two, place);
         row += ROW_SIZE;
         more -= 1;
     }

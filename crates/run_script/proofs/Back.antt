@@ -2,8 +2,8 @@
 -- bytes, so this asks `IsBytes`.
 -- Assumes nothing else.
 use mathlib.Core.Path.{_≡_, refl, ap, sym, _∙_}
-use mathlib.Core.Bool.{true, false, cond, _&&_, _||_}
-use mathlib.Core.List.{[], _∷_, _++_}
+use mathlib.Core.Bool.{Bool, true, false, cond, _&&_, _||_}
+use mathlib.Core.List.{[], _∷_, _++_, append-assoc}
 use Prim.Native.Nat.{ℕ, zero, suc, _+_, _/_, _%_, _<_, _≤_}
 use native.Mathlib.Omega.{arith}
 use lib.Dec.{ltb, eqb}
@@ -15,31 +15,50 @@ use Rattle.model.proofs.Words.{IsBytes}
 use Rattle.model.proofs.Orders.{bot, yea, nay, test, and-true, eqb-eq}
 use Rattle.base_fields.proofs.Pieces.{cut, part-length, piece, grouped}
 use Rattle.call_values.specs.Values.{callOf}
-use Rattle.run_script.specs.Script.{kindAt, flagsAt, firstLength, secondLength, mtimeAt, limitAt, firstPart, secondPart, stepEnd, stepAt}
-use Rattle.run_script.specs.Script.{stepsFrom, ruled, fits, headed, filled}
-use Rattle.run_script.specs.Encoded.{StepFields, fieldsOf, laid, stepBytes, stepsBytes}
-use Rattle.run_script.proofs.Steps.{fits-is}
+use Rattle.run_script.specs.Script.{kindAt, flagsAt, firstLength, secondLength, mtimeAt, limitAt, offsetAt, thirdLength, stepHead, secondFrom}
+use Rattle.run_script.specs.Script.{thirdFrom, stepEnd, firstPart, secondPart, thirdPart, stepAt, stepsFrom, hasData, ruled, fits, headed, filled}
+use Rattle.run_script.specs.Encoded.{StepFields, fieldsOf, laidMore, laid, stepBytes, stepsBytes}
+use Rattle.run_script.proofs.Steps.{head-least, fits-is}
 use Rattle.run_script.proofs.Forth.{orderOf}
 
 -- the rules of a step's numbers, apart
-record Rules (k f m t : ℕ) : Type 0 where
+record Rules (k f m t o n : ℕ) : Type 0 where
   some : 0 < k
-  known : k < 6
+  known : k < 8
   flags : (eqb f 0 || (eqb k 2 && ltb f 4)) ≡ true
-  second : (eqb m 0 || (eqb k 1 || eqb k 5)) ≡ true
-  mtime : (eqb t 0 || (eqb k 1 || eqb k 2)) ≡ true
+  second : (eqb m 0 || (hasData k || eqb k 5)) ≡ true
+  mtime : (eqb t 0 || (hasData k || eqb k 2)) ≡ true
+  offset : (eqb o 0 || eqb k 7) ≡ true
+  third : (eqb n 0 || eqb k 6) ≡ true
 
-rules : (k f m t : ℕ) → ruled k f m t ≡ true → Rules k f m t
+below-eight : (two : Bool) (k : ℕ) → (ltb k 6 || (two && ltb k 8)) ≡ true → k < 8
+below-eight two k h =
+    elim (test (ltb k 6)) [ yea e ↦ let z = ltb-true k 6 e in omega arith | nay e ↦ ltb-true k 8 (and-true two (ltb k 8) (cc) .1) ]
+
+rules : (two : Bool) (k f m t o n : ℕ) → ruled two k f m t o n ≡ true → Rules k f m t o n
 unfolding ruled
-rules k f m t h =
+rules two k f m t o n h =
+    let known = ltb k 6 || (two && ltb k 8) in
     let a = eqb f 0 || (eqb k 2 && ltb f 4) in
-    let b = eqb m 0 || (eqb k 1 || eqb k 5) in
-    let c = eqb t 0 || (eqb k 1 || eqb k 2) in
-    let x = and-true (ltb 0 k && ltb k 6) (a && (b && c)) h in
-    let y = and-true (ltb 0 k) (ltb k 6) (x .0) in
-    let z = and-true a (b && c) (x .1) in
-    let w = and-true b c (z .1) in
-    record { some = ltb-true 0 k (y .0); known = ltb-true k 6 (y .1); flags = z .0; second = w .0; mtime = w .1 }
+    let b = eqb m 0 || (hasData k || eqb k 5) in
+    let c = eqb t 0 || (hasData k || eqb k 2) in
+    let d = eqb o 0 || eqb k 7 in
+    let e = eqb n 0 || eqb k 6 in
+    let v = and-true (ltb 0 k && known) (a && (b && (c && (d && e)))) h in
+    let w = and-true (ltb 0 k) known (v .0) in
+    let x = and-true a (b && (c && (d && e))) (v .1) in
+    let y = and-true b (c && (d && e)) (x .1) in
+    let z = and-true c (d && e) (y .1) in
+    let l = and-true d e (z .1) in
+    record {
+      some = ltb-true 0 k (w .0);
+      known = below-eight two k (w .1);
+      flags = x .0;
+      second = y .0;
+      mtime = z .0;
+      offset = l .0;
+      third = l .1;
+    }
 
 -- what they leave once the kind is known
 nought : (n : ℕ) → (eqb n 0 || false) ≡ true → n ≡ 0
@@ -60,42 +79,96 @@ flags-back (suc (suc (suc zero))) h = refl
 flags-back (suc (suc (suc (suc f)))) h = absurd (omega arith)
 
 -- where the numbers in some fields go together, the call that is read from them has these fields
-fields-back : (k f t limit : ℕ) (a b : Bytes) → Rules k f (length b) t
-    → let x : StepFields = record { kind = k; flags = f; mtime = t; first = a; second = b } in fieldsOf (callOf (orderOf x limit) a b) ≡ x
-fields-back zero f t limit a b r = let z = r .some in absurd (omega arith)
-fields-back (suc zero) f t limit a b r =
+fields-back : (k f t o limit : ℕ) (a b c : Bytes) → Rules k f (length b) t o (length c)
+    → let x : StepFields = record { kind = k; flags = f; mtime = t; offset = o; first = a; second = b; third = c } in
+    fieldsOf (callOf (orderOf x limit) a b c) ≡ x
+fields-back zero f t o limit a b c r = let z = r .some in absurd (omega arith)
+fields-back (suc zero) f t o limit a b c r =
     let e = nought f (r .flags) in
-    λ i. record { kind = 1; flags = sym e i; mtime = t; first = a; second = b }
-fields-back (suc (suc zero)) f t limit a b r =
+    let p = nought o (r .offset) in
+    let n = none c (r .third) in
+    λ i. record { kind = 1; flags = sym e i; mtime = t; offset = sym p i; first = a; second = b; third = sym n i }
+fields-back (suc (suc zero)) f t o limit a b c r =
     let e = flags-back f (few f (r .flags)) in
-    let n = none b (r .second) in
-    λ i. record { kind = 2; flags = e i; mtime = t; first = a; second = sym n i }
-fields-back (suc (suc (suc zero))) f t limit a b r =
+    let p = nought o (r .offset) in
+    let m = none b (r .second) in
+    let n = none c (r .third) in
+    λ i. record { kind = 2; flags = e i; mtime = t; offset = sym p i; first = a; second = sym m i; third = sym n i }
+fields-back (suc (suc (suc zero))) f t o limit a b c r =
     let e = nought f (r .flags) in
-    let n = none b (r .second) in
-    let m = nought t (r .mtime) in
-    λ i. record { kind = 3; flags = sym e i; mtime = sym m i; first = a; second = sym n i }
-fields-back (suc (suc (suc (suc zero)))) f t limit a b r =
+    let p = nought o (r .offset) in
+    let m = none b (r .second) in
+    let n = none c (r .third) in
+    let u = nought t (r .mtime) in
+    λ i. record { kind = 3; flags = sym e i; mtime = sym u i; offset = sym p i; first = a; second = sym m i; third = sym n i }
+fields-back (suc (suc (suc (suc zero)))) f t o limit a b c r =
     let e = nought f (r .flags) in
-    let n = none b (r .second) in
-    let m = nought t (r .mtime) in
-    λ i. record { kind = 4; flags = sym e i; mtime = sym m i; first = a; second = sym n i }
-fields-back (suc (suc (suc (suc (suc zero))))) f t limit a b r =
+    let p = nought o (r .offset) in
+    let m = none b (r .second) in
+    let n = none c (r .third) in
+    let u = nought t (r .mtime) in
+    λ i. record { kind = 4; flags = sym e i; mtime = sym u i; offset = sym p i; first = a; second = sym m i; third = sym n i }
+fields-back (suc (suc (suc (suc (suc zero))))) f t o limit a b c r =
     let e = nought f (r .flags) in
-    let m = nought t (r .mtime) in
-    λ i. record { kind = 5; flags = sym e i; mtime = sym m i; first = a; second = b }
-fields-back (suc (suc (suc (suc (suc (suc k)))))) f t limit a b r = let z = r .known in absurd (omega arith)
+    let p = nought o (r .offset) in
+    let n = none c (r .third) in
+    let u = nought t (r .mtime) in
+    λ i. record { kind = 5; flags = sym e i; mtime = sym u i; offset = sym p i; first = a; second = b; third = sym n i }
+fields-back (suc (suc (suc (suc (suc (suc zero)))))) f t o limit a b c r =
+    let e = nought f (r .flags) in
+    let p = nought o (r .offset) in
+    λ i. record { kind = 6; flags = sym e i; mtime = t; offset = sym p i; first = a; second = b; third = c }
+fields-back (suc (suc (suc (suc (suc (suc (suc zero))))))) f t o limit a b c r =
+    let e = nought f (r .flags) in
+    let n = none c (r .third) in
+    λ i. record { kind = 7; flags = sym e i; mtime = t; offset = o; first = a; second = b; third = sym n i }
+fields-back (suc (suc (suc (suc (suc (suc (suc (suc k)))))))) f t o limit a b c r = let z = r .known in absurd (omega arith)
 
-module _ (s : Bytes) (bs : IsBytes s) (at : ℕ) (h : fits s at ≡ true) where
+-- what only TSC2 has in the head stands there
+more-stands : (two : Bool) (s : Bytes) → IsBytes s → (at : ℕ) → at + stepHead two ≤ length s
+    → drop (at + 24) s ≡ laidMore two (offsetAt two s at) (thirdLength two s at) ++ drop (at + stepHead two) s
+more-stands false s bs at h = refl
+more-stands true s bs at h =
+    piece s bs (at + 24) 8 (at + 32) (omega arith) (omega arith)
+    ∙ ap (λ (l : Bytes). bytes 8 (offsetAt true s at) ++ l) (piece s bs (at + 32) 4 (at + 36) (omega arith) (omega arith))
+    ∙ sym (append-assoc (bytes 8 (offsetAt true s at)) (bytes 4 (thirdLength true s at)) (drop (at + 36) s))
+
+module _ (two : Bool) (s : Bytes) (bs : IsBytes s) (at : ℕ) (h : fits two s at ≡ true) where
   -- what stands in the step's fields
   abbrev fieldsAt : StepFields
-  fieldsAt = record { kind = kindAt s at; flags = flagsAt s at; mtime = mtimeAt s at; first = firstPart s at; second = secondPart s at }
+  fieldsAt = record {
+    kind = kindAt s at;
+    flags = flagsAt s at;
+    mtime = mtimeAt s at;
+    offset = offsetAt two s at;
+    first = firstPart two s at;
+    second = secondPart two s at;
+    third = thirdPart two s at;
+  }
+
+  abbrev more : Bytes
+  more = laidMore two (offsetAt two s at) (thirdLength two s at)
+
+  abbrev parts : Bytes
+  parts = firstPart two s at ++ (secondPart two s at ++ thirdPart two s at)
+
+  abbrev rest : Bytes
+  rest = drop (stepEnd two s at) s
+
+  parts-stand : drop (at + stepHead two) s ≡ parts ++ rest
+  parts-stand =
+      cut s (at + stepHead two) (firstLength s at) (secondFrom two s at) refl
+      ∙ ap (λ (l : Bytes). firstPart two s at ++ l) (cut s (secondFrom two s at) (secondLength s at) (thirdFrom two s at) refl
+      ∙ ap (λ (l : Bytes). secondPart two s at ++ l) (cut s (thirdFrom two s at) (thirdLength two s at) (stepEnd two s at) refl)
+      ∙ sym (append-assoc (secondPart two s at) (thirdPart two s at) rest))
+      ∙ sym (append-assoc (firstPart two s at) (secondPart two s at ++ thirdPart two s at) rest)
 
   numbers-stand : drop at s
       ≡ kindAt s at ∷ flagsAt s at ∷ (bytes 2 (firstLength s at) ++ (bytes 4 (secondLength s at) ++ (bytes 8 (mtimeAt s at) ++ (bytes 8 (limitAt s at)
-      ++ (firstPart s at ++ (secondPart s at ++ drop (stepEnd s at) s))))))
+      ++ (more ++ (parts ++ rest))))))
   numbers-stand =
-      let g = fits-is s at h .0 in
+      let g = fits-is two s at h .0 in
+      let z = head-least two in
       let e : suc at ≡ at + 1 = omega arith in
       let d : suc (at + 1) ≡ at + 2 = omega arith in
       drop-cons s at 0 (omega arith)
@@ -104,41 +177,48 @@ module _ (s : Bytes) (bs : IsBytes s) (at : ℕ) (h : fits s at ≡ true) where
       ∙ ap (λ (l : Bytes). bytes 2 (firstLength s at) ++ l) (piece s bs (at + 4) 4 (at + 8) (omega arith) (omega arith)
       ∙ ap (λ (l : Bytes). bytes 4 (secondLength s at) ++ l) (piece s bs (at + 8) 8 (at + 16) (omega arith) (omega arith)
       ∙ ap (λ (l : Bytes). bytes 8 (mtimeAt s at) ++ l) (piece s bs (at + 16) 8 (at + 24) (omega arith) (omega arith)
-      ∙ ap (λ (l : Bytes). bytes 8 (limitAt s at) ++ l) (cut s (at + 24) (firstLength s at) (at + 24 + firstLength s at) refl
-      ∙ ap (λ (l : Bytes). firstPart s at ++ l) (cut s (at + 24 + firstLength s at) (secondLength s at) (stepEnd s at) refl)))))))
+      ∙ ap (λ (l : Bytes). bytes 8 (limitAt s at) ++ l) (more-stands two s bs at g
+      ∙ ap (λ (l : Bytes). more ++ l) parts-stand))))))
 
-  first-length : firstLength s at ≡ length (firstPart s at)
-  first-length = let e = fits-is s at h .1 in sym (part-length s (at + 24) (firstLength s at) (omega arith))
+  first-length : firstLength s at ≡ length (firstPart two s at)
+  first-length = let e = fits-is two s at h .1 in sym (part-length s (at + stepHead two) (firstLength s at) (omega arith))
 
-  second-length : secondLength s at ≡ length (secondPart s at)
-  second-length = sym (part-length s (at + 24 + firstLength s at) (secondLength s at) (fits-is s at h .1))
+  second-length : secondLength s at ≡ length (secondPart two s at)
+  second-length = let e = fits-is two s at h .1 in sym (part-length s (secondFrom two s at) (secondLength s at) (omega arith))
 
-  laid-here : drop at s ≡ laid fieldsAt (limitAt s at) ++ drop (stepEnd s at) s
+  third-length : thirdLength two s at ≡ length (thirdPart two s at)
+  third-length = sym (part-length s (thirdFrom two s at) (thirdLength two s at) (fits-is two s at h .1))
+
+  laid-here : drop at s ≡ laid two fieldsAt (limitAt s at) ++ rest
   unfolding laid
   laid-here =
       numbers-stand
       ∙ grouped (kindAt s at ∷ flagsAt s at ∷ []) (bytes 2 (firstLength s at)) (bytes 4 (secondLength s at)) (bytes 8 (mtimeAt s at))
-      (bytes 8 (limitAt s at)) (firstPart s at) (secondPart s at) (drop (stepEnd s at) s)
-      ∙ (let n = first-length in let m = second-length in
+      (bytes 8 (limitAt s at)) more parts rest
+      ∙ (let n = first-length in let m = second-length in let k = third-length in
       λ i. (kindAt s at ∷ flagsAt s at ∷ (bytes 2 (n i) ++ (bytes 4 (m i) ++ (bytes 8 (mtimeAt s at) ++ (bytes 8 (limitAt s at)
-      ++ (firstPart s at ++ secondPart s at)))))) ++ drop (stepEnd s at) s)
+      ++ (laidMore two (offsetAt two s at) (k i) ++ parts)))))) ++ rest)
 
-  step-back : headed s at ≡ true → drop at s ≡ stepBytes (stepAt s at) ++ drop (stepEnd s at) s
+  step-back : headed two s at ≡ true → drop at s ≡ stepBytes two (stepAt two s at) ++ rest
   unfolding headed
   step-back g =
-      let r : Rules (kindAt s at) (flagsAt s at) (length (secondPart s at)) (mtimeAt s at)
-      = rules (kindAt s at) (flagsAt s at) (length (secondPart s at)) (mtimeAt s at) (rw (← second-length) g) in
-      let e = fields-back (kindAt s at) (flagsAt s at) (mtimeAt s at) (limitAt s at) (firstPart s at) (secondPart s at) r in
-      laid-here ∙ (λ i. laid (sym e i) (limitAt s at) ++ drop (stepEnd s at) s)
+      let m : ℕ = length (secondPart two s at) in
+      let n : ℕ = length (thirdPart two s at) in
+      let r : Rules (kindAt s at) (flagsAt s at) m (mtimeAt s at) (offsetAt two s at) n
+      = rules two (kindAt s at) (flagsAt s at) m (mtimeAt s at) (offsetAt two s at) n (rw (← second-length, ← third-length) g) in
+      let e = fields-back (kindAt s at) (flagsAt s at) (mtimeAt s at) (offsetAt two s at) (limitAt s at) (firstPart two s at) (secondPart two s at)
+      (thirdPart two s at) r in
+      laid-here ∙ (λ i. laid two (sym e i) (limitAt s at) ++ rest)
 
 -- n steps from `at` on, up to the end
-pub steps-back : (s : Bytes) → IsBytes s → (n at : ℕ) → filled s n at ≡ true → drop at s ≡ stepsBytes (stepsFrom s n at)
-steps-back s bs zero at h = let e = eqb-eq at (length s) h in ap (λ (n : ℕ). drop n s) e ∙ drop-length s
-steps-back s bs (suc n) at h =
-    let x = and-true (fits s at && headed s at) (filled s n (stepEnd s at)) h in
-    let y = and-true (fits s at) (headed s at) (x .0) in
-    step-back s bs at (y .0) (y .1) ∙ ap (λ (l : Bytes). stepBytes (stepAt s at) ++ l) (steps-back s bs n (stepEnd s at) (x .1))
+pub steps-back : (two : Bool) (s : Bytes) → IsBytes s → (n at : ℕ) → filled two s n at ≡ true → drop at s ≡ stepsBytes two (stepsFrom two s n at)
+steps-back two s bs zero at h = let e = eqb-eq at (length s) h in ap (λ (n : ℕ). drop n s) e ∙ drop-length s
+steps-back two s bs (suc n) at h =
+    let x = and-true (fits two s at && headed two s at) (filled two s n (stepEnd two s at)) h in
+    let y = and-true (fits two s at) (headed two s at) (x .0) in
+    step-back two s bs at (y .0) (y .1)
+    ∙ ap (λ (l : Bytes). stepBytes two (stepAt two s at) ++ l) (steps-back two s bs n (stepEnd two s at) (x .1))
 
-pub steps-length : (s : Bytes) (n at : ℕ) → length (stepsFrom s n at) ≡ n
-steps-length s zero at = refl
-steps-length s (suc n) at = ap suc (steps-length s n (stepEnd s at))
+pub steps-length : (two : Bool) (s : Bytes) (n at : ℕ) → length (stepsFrom two s n at) ≡ n
+steps-length two s zero at = refl
+steps-length two s (suc n) at = ap suc (steps-length two s n (stepEnd two s at))

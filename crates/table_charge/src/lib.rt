@@ -9,9 +9,8 @@ ghost use Rattle.model.specs.Tree.{Entry};
 ghost use Rattle.model.specs.Table.{bodyOf, bodyCharge, entryCharge};
 ghost use Rattle.table_charge.specs.Charge.{baseCharge, chargeBy};
 
-// What a body of this length is charged. No slice is longer than the bound.
+// What a body of this length is charged; for any length, also one that no body has.
 pub fn body_charge(len: u64) -> u64
-    requires { ⌜ len ≤ 0x8000_0000_0000_0000 ⌝ }
     ensures { λ r. ⌜ r ≡ bodyCharge len ⌝ }
 {
     len

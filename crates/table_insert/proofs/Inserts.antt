@@ -23,7 +23,7 @@ use Rattle.table_entries.proofs.Cuts.{put-cut, encode-append}
 use Rattle.table_measure.specs.Measure.{Measured, Counts}
 use Rattle.table_measure.proofs.Passes.{measure-begun}
 use Rattle.table_write.specs.Merge.{Written, Merged}
-use Rattle.table_insert.specs.Insert.{judged, insertion, ifDone}
+use Rattle.table_insert.specs.Insert.{judged, insertion, isDone, ifDone}
 use Rattle.table_insert.specs.declared.Inserted.{Inserted}
 use Rattle.table_insert.specs.declared.Inserted.the-variants.{Done, MemoryUsageLimitExceeded, NoRoom}
 
@@ -125,13 +125,8 @@ no-room r limit n h g = rw (le-leb (r .charge) limit h, lt-leb (r .used) n g)
 pub in-both : (r : Record) (limit n : ℕ) → r .charge ≤ limit → r .used ≤ n → Done r ≡ judged r limit n
 in-both r limit n h g = rw (le-leb (r .charge) limit h, le-leb (r .used) n g)
 
-abbrev isDone : Inserted → Bool
-isDone (Done r) = true
-isDone MemoryUsageLimitExceeded = false
-isDone NoRoom = false
-
 -- it is done only in the room that there is
-done-fits : (r : Record) (limit n : ℕ) → isDone (judged r limit n) ≡ true → r .used ≤ n
+pub done-fits : (r : Record) (limit n : ℕ) → isDone (judged r limit n) ≡ true → r .used ≤ n
 done-fits r limit n h =
     elim (test (leb (r .charge) limit)) [
       | yea a ↦ elim (test (leb (r .used) n)) [ yea b ↦ leb-true (r .used) n b | nay b ↦ absurd (bot (cc)) ]

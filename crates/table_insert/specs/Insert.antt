@@ -1,5 +1,5 @@
 -- What inserting answers, and what it leaves.
-use mathlib.Core.Bool.{cond}
+use mathlib.Core.Bool.{Bool, true, false, cond}
 use Prim.Native.Nat.{ℕ}
 use lib.Dec.{leb}
 use Rattle.model.specs.Bytes.{Bytes}
@@ -16,6 +16,11 @@ judged r limit n = cond (leb (r .charge) limit) (cond (leb (r .used) n) (Done r)
 
 abbrev pub insertion : ℕ → ℕ → ℕ → Table → Inserted
 insertion E limit n t = judged (recordOf E t) limit n
+
+abbrev pub isDone : Inserted → Bool
+isDone (Done r) = true
+isDone MemoryUsageLimitExceeded = false
+isDone NoRoom = false
 
 -- one of two, by whether it is done
 abbrev pub ifDone : Inserted → Bytes → Bytes → Bytes

@@ -194,6 +194,18 @@ module _ (E : ℕ) where
     pub in-charge : charge E (since q b) ≤ charge E t
     in-charge = let h = charge-cut in omega arith
 
+  -- another entry put at q in the place of v₀: only the body counts
+  pub other-body : (q : Path) (v₀ v : Entry) (t : Table)
+      → replaced (recordOf E (put q v₀ t)) (length (bodyOf v₀)) (length (bodyOf v)) ≡ recordOf E (put q v t)
+  other-body q v₀ v t =
+      let b0 = bytes-put t [] t q v₀ refl refl in
+      let b1 = bytes-put t [] t q v refl refl in
+      let n0 = count-put t [] t q v₀ refl refl in
+      let n1 = count-put t [] t q v refl refl in
+      let c0 = charge-put t [] t q v₀ refl refl in
+      let c1 = charge-put t [] t q v refl refl in
+      same-record t [] t q v refl refl _ _ _ (omega arith) (omega arith) (omega arith)
+
 -- an entry put makes a table longer by no more than its own bytes
 pub put-bytes : (q : Path) (v : Entry) (t : Table) → length (encode (put q v t)) ≤ length (encode t) + (24 + length q + length (bodyOf v))
 put-bytes q v [] = let l = bytes-cons 0 q v [] in omega arith

@@ -11,38 +11,44 @@ use Rattle.model.specs.Bytes.{Bytes, bytes, before}
 use Rattle.model.specs.Path.{Path}
 use Rattle.model.specs.Map.{put}
 use Rattle.model.specs.Tree.{Entry, Table}
-use Rattle.model.specs.Table.{entryBytes, encode, padded, entryOf, entriesAt, tableIn, isTable}
+use Rattle.model.specs.Table.{bodyOf, entryBytes, encode, padded, entryOf, entriesAt, tableIn, isTable}
 use Rattle.model.specs.declared.Record.{Record}
 use Rattle.model.proofs.Codec.{entry-length}
 use Rattle.base_fields.specs.Write.{overwritten}
 use Rattle.base_fields.proofs.Writes.{length-overwritten, take-overwritten, two-writes, three-writes}
 use Rattle.base_fields.proofs.Zeros.{zeroed-behind}
-use Rattle.table_entries.specs.Place.{Standing, Sought}
+use Rattle.table_entries.specs.Place.{Standing, Sought, endOf}
 use Rattle.table_entries.specs.Cut.{upTo, since, unlessFirst, behind}
 use Rattle.table_entries.proofs.Cuts.{up-since, encode-append}
 use Rattle.table_measure.proofs.Passes.{begun, begun-done, put-on, put-on-done}
-use Rattle.table_write.specs.Merge.{Written, Merged}
+use Rattle.table_measure.proofs.Steps.{sought-end}
+use Rattle.table_write.specs.Merge.{headBytes, Written, Merged, Copied}
+
+pub head-length : (k : Path) (kind m z n : ℕ) → length (headBytes k kind m z n) ≡ 24 + length k
+head-length k kind m z n = omega arith
+
+-- a head's bytes, written in three parts
+pub head-put : (w w₁ w₂ w₃ k : Bytes) (kind m z n at : ℕ) → at + 24 + length k ≤ length w
+    → w₁ ≡ overwritten w at (bytes 2 (length k) ++ (bytes 2 kind ++ bytes 4 n))
+    → w₂ ≡ overwritten w₁ (at + 8) (bytes 8 m ++ bytes 8 z)
+    → w₃ ≡ overwritten w₂ (at + 24) k → w₃ ≡ overwritten w at (headBytes k kind m z n)
+head-put w w₁ w₂ w₃ k kind m z n at h e₁ e₂ e₃ =
+    three-writes w w₁ w₂ w₃ (bytes 2 (length k) ++ (bytes 2 kind ++ bytes 4 n)) (bytes 8 m ++ bytes 8 z) k at (at + 8) (at + 24) (omega arith) (omega arith)
+    (omega arith) e₁ e₂ e₃
 
 -- an entry's bytes, from its fields
-pub entry-written : (k : Path) (kind m z : ℕ) (b : Bytes) → Written kind m z b
-    → bytes 2 (length k) ++ (bytes 2 kind ++ (bytes 4 (length b) ++ (bytes 8 m ++ (bytes 8 z ++ (k ++ b))))) ≡ entryBytes k (entryOf kind m z b)
+pub entry-written : (k : Path) (kind m z : ℕ) (b : Bytes) → Written kind m z b → headBytes k kind m z (length b) ++ b ≡ entryBytes k (entryOf kind m z b)
 entry-written k kind m z b w =
     sym (λ i. bytes 2 (length k) ++ (bytes 2 (w .type i) ++ (bytes 4 (length (w .content i)) ++ (bytes 8 (w .time i) ++ (bytes 8 (w .long i) ++ (k ++ w .content i))))))
 
-pub written-length : (k : Path) (kind m z : ℕ) (b : Bytes) → Written kind m z b → length (entryBytes k (entryOf kind m z b)) ≡ 24 + length k + length b
-written-length k kind m z b w = entry-length k (entryOf kind m z b) ∙ ap (λ (x : Bytes). 24 + length k + length x) (w .content)
-
--- an entry's bytes, written in four parts
-pub entry-put : (w w₁ w₂ w₃ w₄ k b : Bytes) (kind m z at : ℕ) → Written kind m z b → at + 24 + length k + length b ≤ length w
-    → w₁ ≡ overwritten w at (bytes 2 (length k) ++ (bytes 2 kind ++ bytes 4 (length b)))
-    → w₂ ≡ overwritten w₁ (at + 8) (bytes 8 m ++ bytes 8 z)
-    → w₃ ≡ overwritten w₂ (at + 24) k → w₄ ≡ overwritten w₃ (at + 24 + length k) b
-    → w₄ ≡ overwritten w at (entryBytes k (entryOf kind m z b))
-entry-put w w₁ w₂ w₃ w₄ k b kind m z at e h e₁ e₂ e₃ e₄ =
-    let sizes : Bytes = bytes 2 (length k) ++ (bytes 2 kind ++ bytes 4 (length b)) in
-    let times : Bytes = bytes 8 m ++ bytes 8 z in
-    let f : w₂ ≡ overwritten w at (sizes ++ times) = two-writes w w₁ w₂ sizes times at (at + 8) (omega arith) (omega arith) e₁ e₂ in
-    three-writes w w₂ w₃ w₄ (sizes ++ times) k b at (at + 24) (at + 24 + length k) (omega arith) (omega arith) (omega arith) f e₃ e₄
+-- an entry's bytes: its head, and its body behind it
+pub entry-put : (w w₁ w₂ k b : Bytes) (kind m z at n : ℕ) → Written kind m z b → at + 24 + length k ≤ length w → n ≡ length b
+    → w₁ ≡ overwritten w at (headBytes k kind m z n) → w₂ ≡ overwritten w₁ (at + 24 + length k) b
+    → w₂ ≡ overwritten w at (entryBytes k (entryOf kind m z b))
+entry-put w w₁ w₂ k b kind m z at n e h l e₁ e₂ =
+    let f = head-length k kind m z (length b) in
+    two-writes w w₁ w₂ (headBytes k kind m z (length b)) b at (at + 24 + length k) (omega arith) (omega arith)
+    (e₁ ∙ ap (λ (x : ℕ). overwritten w at (headBytes k kind m z x)) l) e₂
     ∙ ap (overwritten w at) (entry-written k kind m z b e)
 
 pub merge-begun : (s w : Bytes) (r : Record) → isTable s r ≡ true → Merged s w (tableIn s r) [] (r .count) 0 0
@@ -93,27 +99,33 @@ module _ (s w : Bytes) (t : Table) (k q : Path) (v : Entry) (left at out left′
     size = e ∙ ap (λ (n : ℕ). n + length new) (m .size) ∙ sym (ap length encode-new ∙ length-append (encode (m .passed .done)) new);
   }
 
--- `put_next`: what stands up to q is written behind what is there, then the entry, and what is ahead is what stands behind q
-pub next-put : (s w w₁ w₂ q b : Bytes) (kind mtime z left at out left₁ to left′ at′ : ℕ)
-    → Standing s left at → Written kind mtime z b
-    → out + length (encode (upTo q (entriesAt s left at))) + (24 + length q + length b) ≤ length w
-    → Sought s q left at left₁ to
+-- `copy_up_to`: what stands up to q is written behind what is there, and what is ahead is what stands behind q
+pub copied-up : (s w w₁ q : Bytes) (left at out left₁ to left′ at′ : ℕ) → Standing s left at → Sought s q left at left₁ to
     → w₁ ≡ overwritten w out (take (to - at) (drop at s))
-    → w₂ ≡ overwritten w₁ (out + (to - at)) (entryBytes q (entryOf kind mtime z b))
-    → Standing s left′ at′ → entriesAt s left′ at′ ≡ unlessFirst q (entriesAt s left₁ to)
-    → (t : Table) (k : Path) → Merged s w t k left at out → before k q ≡ true
-    → Merged s w₂ (put q (entryOf kind mtime z b) t) q left′ at′ (out + (to - at) + 24 + length q + length b)
-next-put s w w₁ w₂ q b kind mtime z left at out left₁ to left′ at′ st e fits found e₁ e₂ stand are t k m up =
-    let v : Entry = entryOf kind mtime z b in
+    → Standing s left′ at′ → entriesAt s left′ at′ ≡ unlessFirst q (entriesAt s left₁ to) → endOf s left′ at′ ≡ endOf s left₁ to
+    → Copied s w w₁ q left at out left′ at′ (out + (to - at))
+copied-up s w w₁ q left at out left₁ to left′ at′ st found e stand are end =
+    let there = found .there in
+    record {
+      stand = stand;
+      are = are ∙ ap (unlessFirst q) (found .are);
+      copied = e ∙ ap (overwritten w out) (stretch s q left at to st there);
+      size = omega arith;
+      end = end ∙ sought-end s q left at left₁ to found;
+    }
+
+-- `put_next`: the entry, with a body of n bytes, is written behind what is copied
+pub next-put : (s w w₁ w₂ q : Bytes) (v : Entry) (left at out left′ at′ out′ n : ℕ) → length (bodyOf v) ≡ n
+    → out + length (encode (upTo q (entriesAt s left at))) + (24 + length q + n) ≤ length w
+    → Copied s w w₁ q left at out left′ at′ out′ → w₂ ≡ overwritten w₁ out′ (entryBytes q v)
+    → (t : Table) (k : Path) → Merged s w t k left at out → before k q ≡ true → Merged s w₂ (put q v t) q left′ at′ (out′ + 24 + length q + n)
+next-put s w w₁ w₂ q v left at out left′ at′ out′ n b fits c e t k m up =
     let u : Bytes = encode (upTo q (entriesAt s left at)) in
-    let there : to ≡ at + length u = found .there in
-    let f : w₁ ≡ overwritten w out u = e₁ ∙ ap (overwritten w out) (stretch s q left at to st there) in
-    let g : w₂ ≡ overwritten w out (u ++ entryBytes q v) =
-    two-writes w w₁ w₂ u (entryBytes q v) out (out + (to - at)) (omega arith) (omega arith) f e₂ in
+    let o = c .size in
+    let g : w₂ ≡ overwritten w out (u ++ entryBytes q v) = two-writes w w₁ w₂ u (entryBytes q v) out out′ (omega arith) (omega arith) (c .copied) e in
     let l : length (u ++ entryBytes q v) ≡ length u + length (entryBytes q v) = length-append u (entryBytes q v) in
-    let n : length (entryBytes q v) ≡ 24 + length q + length b = written-length q kind mtime z b e in
-    rw g (merged-on s w t k q v left at out left′ at′ (out + (to - at) + 24 + length q + length b) m up stand
-    (are ∙ ap (unlessFirst q) (found .are)) (omega arith) (omega arith))
+    let h = entry-length q v in
+    rw g (merged-on s w t k q v left at out left′ at′ (out′ + 24 + length q + n) m up (c .stand) (c .are) (omega arith) (omega arith))
 
 -- the end: what is left is written behind what is there, and the table's bytes are the new table's
 module _ (s w : Bytes) (t : Table) (k : Path) (left at out used : ℕ) (m : Merged s w t k left at out) (e : used ≡ at + length (encode (entriesAt s left at))) where

@@ -15,7 +15,7 @@ ghost use Rattle.model.specs.Table.{entryBytes, encode, padded, entryOf, entrie
 ghost use Rattle.base_fields.specs.Write.{overwritten};
 ghost use Rattle.table_entries.specs.Place.{Standing, endOf};
 ghost use Rattle.table_entries.specs.Cut.{upTo};
-ghost use Rattle.table_write.specs.Merge.{Written, Merged};
+ghost use Rattle.table_write.specs.Merge.{headBytes, Written, Merged, Copied};
 
 // How far a table is written: `left` entries of the old one stand from `at` on, and `out` bytes of the new one are in
 // the work buffer.
@@ -43,6 +43,17 @@ fn put_times(work: &mut [u8], at: usize, mtime: u64, size: u64)
     base_fields::put64(work, at + 8, size);
 }
 
+// What stands before an entry's body, from `at` on: its fields, with `len` as the body's length, and its key.
+pub fn put_head(work: &mut [u8], at: usize, key: &[u8], kind: u64, mtime: u64, size: u64, len: u64)
+    requires { ⌜ at + 24 + length (now key) ≤ length (now work) ⌝ }
+    ensures { λ _. ⌜ now (work .exit) ≡ overwritten (now (work .entry)) at (headBytes (now (key .entry)) kind mtime size
+        len) ⌝ }
+{
+    put_sizes(work, at, key.len() as u64, kind, len);
+    put_times(work, at + 8, mtime, size);
+    base_fields::copy_in(work, at + model::ENTRY_HEAD, key);
+}
+
 // An entry's bytes, from `at` on.
 pub fn put_entry(
     work: &mut [u8],
@@ -58,11 +69,31 @@ pub fn put_entry(
     ensures { λ _. ⌜ now (work .exit) ≡ overwritten (now (work .entry)) at (entryBytes (now (key .entry))
         (entryOf kind mtime size (now (body .entry)))) ⌝ }
 {
-    let n = key.len();
-    put_sizes(work, at, n as u64, kind, body.len() as u64);
-    put_times(work, at + 8, mtime, size);
-    base_fields::copy_in(work, at + model::ENTRY_HEAD, key);
-    base_fields::copy_in(work, at + model::ENTRY_HEAD + n, body);
+    put_head(work, at, key, kind, mtime, size, body.len() as u64);
+    base_fields::copy_in(work, at + model::ENTRY_HEAD + key.len(), body);
+}
+
+// What stays up to this key, copied; the old entry with this key, if any, is passed over.
+pub fn copy_up_to(work: &mut [u8], table: &[u8], merge: Merge, key: &[u8]) -> Merge
+    requires { ⌜ Standing (now table) (merge .left) (merge .at) ⌝ }
+    requires { ⌜ merge .out + length (encode (upTo (now key) (entriesAt (now table) (merge .left) (merge .at)))) ≤ length
+        (now work) ⌝ }
+    ensures { λ r. ⌜ Copied (now (table .entry)) (now (work .entry)) (now (work .exit)) (now (key .entry)) (merge .left)
+        (merge .at) (merge .out) (r .left) (r .at) (r .out) ⌝ }
+{
+    let at = merge.at;
+    let left = merge.left;
+    let out = merge.out;
+    let place = table_entries::Place { at: at, left: left };
+    let found = table_entries::seek(table, place, key);
+    let to = found.at;
+    base_fields::copy_in(work, out, &table[at..to]);
+    let next = table_measure::behind_key(table, found, key);
+    Merge {
+        at: next.at,
+        left: next.left,
+        out: out + (to - at),
+    }
 }
 
 // What stays up to this key, then the entry; the old entry with this key, if any, is passed over.
@@ -88,20 +119,13 @@ pub fn put_next(
     ensures { λ r. ⌜ endOf (now (table .entry)) (r .left) (r .at) ≡ endOf (now (table .entry)) (merge .left)
         (merge .at) ⌝ }
 {
-    let at = merge.at;
-    let left = merge.left;
-    let out = merge.out;
-    let place = table_entries::Place { at: at, left: left };
-    let found = table_entries::seek(table, place, key);
-    let to = found.at;
-    base_fields::copy_in(work, out, &table[at..to]);
-    let here = out + (to - at);
-    put_entry(work, here, key, kind, mtime, size, body);
-    let next = table_measure::behind_key(table, found, key);
+    let behind = copy_up_to(work, table, merge, key);
+    let out = behind.out;
+    put_entry(work, out, key, kind, mtime, size, body);
     Merge {
-        at: next.at,
-        left: next.left,
-        out: here + model::ENTRY_HEAD + key.len() + body.len(),
+        at: behind.at,
+        left: behind.left,
+        out: out + model::ENTRY_HEAD + key.len() + body.len(),
     }
 }
 

@@ -82,6 +82,18 @@ enum-told-5 c = search needs
 refused-requires-13 : tie.Need-refused-requires-13
 refused-requires-13 c κs = search needs
 
+enum-told-6 : tie.Need-enum-told-6
+enum-told-6 c = search needs
+
+refused-requires-14 : tie.Need-refused-requires-14
+refused-requires-14 c κs = search needs
+
+enum-told-7 : tie.Need-enum-told-7
+enum-told-7 c = search needs
+
+refused-requires-15 : tie.Need-refused-requires-15
+refused-requires-15 c κs = search needs
+
 returns : tie.Need-returns
 returns c = by-refusal (c .before .before .before .args .refusal) _ (c .before .enum-told .given .1) (c .refused .ensures)
 
@@ -121,6 +133,12 @@ returns-12 c = by-refusal (c .before .before .before .args .refusal) _ (c .befor
 returns-13 : tie.Need-returns-13
 returns-13 c = by-refusal (c .before .before .before .args .refusal) _ (c .before .enum-told5 .given .1) (c .refused13 .ensures)
 
+returns-14 : tie.Need-returns-14
+returns-14 c = by-refusal (c .before .before .before .args .refusal) _ (c .before .enum-told6 .given .1) (c .refused14 .ensures)
+
+returns-15 : tie.Need-returns-15
+returns-15 c = by-refusal (c .before .before .before .args .refusal) _ (c .before .enum-told7 .given .1) (c .refused15 .ensures)
+
 pub told-refusal-spec : {M : Type 1} → statement M
 told-refusal-spec =
     tie.close
@@ -151,6 +169,10 @@ told-refusal-spec =
     refused-requires-12
     enum-told-5
     refused-requires-13
+    enum-told-6
+    refused-requires-14
+    enum-told-7
+    refused-requires-15
     returns
     returns-2
     returns-3
@@ -163,4 +185,6 @@ told-refusal-spec =
     returns-10
     returns-11
     returns-12
-    returns-13)
+    returns-13
+    returns-14
+    returns-15)

@@ -14,6 +14,9 @@ first-part-requires c κs = search needs
 second-part-requires : tie.Need-second-part-requires
 second-part-requires c κs = search needs
 
+third-part-requires : tie.Need-third-part-requires
+third-part-requires c κs = search needs
+
 make-requires : tie.Need-make-requires
 make-requires c κs = search needs
 
@@ -26,12 +29,13 @@ same-length-2 c = search needs
 returns : tie.Need-returns
 returns c =
     let x = c .before .before .before .before in
-    let m = x .before .before .before in
+    let t = x .before .before .before in
+    let m = t .before in
     let f = m .before in
     let o = f .before in
     let a = o .before .before .before .before .before .args in
-    step-met (a .listing .now) (a .script .now) (a .at) (stored (a .table .now) (a .rec)) (a .work .now)
-    (o .order-at .ensures) (f .first-part .ensures) (m .second-part .ensures) (x .make .ensures)
+    step-met (a .listing .now) (a .script .now) (a .two) (a .at) (stored (a .table .now) (a .rec)) (a .work .now)
+    (o .order-at .ensures) (f .first-part .ensures) (m .second-part .ensures) (t .third-part .ensures) (x .make .ensures)
 
 pub run-step-spec : {M : Type 1} → statement M
 run-step-spec =
@@ -40,6 +44,7 @@ run-step-spec =
     order-at-requires
     first-part-requires
     second-part-requires
+    third-part-requires
     make-requires
     same-length
     same-length-2

@@ -9,11 +9,11 @@ use Rattle.run_calls.proofs.run_steps.Statement.{statement}
 use Rattle.run_calls.proofs.run_steps.Tie as tie
 
 abbrev Inv-loop : tie.InvT-loop
-Inv-loop listing table₀ work₀ script report₀ last₀ more₀ place₀ row₀ table work report last more place row =
-    Going listing script (leftAfter listing (stepsIn script) (stored table₀ last₀) work₀) table₀ work₀ report₀ more place row table work report last
+Inv-loop listing table₀ work₀ script report₀ two last₀ more₀ place₀ row₀ table work report last more place row =
+    Going listing script two (leftAfter listing (stepsIn script) (stored table₀ last₀) work₀) table₀ work₀ report₀ more place row table work report last
 
 abbrev μ-loop : tie.MeasureT-loop
-μ-loop listing table₀ work₀ script report₀ last₀ more₀ place₀ row₀ table work report last more place row = more
+μ-loop listing table₀ work₀ script report₀ two last₀ more₀ place₀ row₀ table work report last more place row = more
 
 le32-requires : tie.Need-le32-requires Inv-loop μ-loop
 le32-requires c κs = let e = c .before .before .before .before .before in script-long (e .args .script .now) (e .pre .0)

@@ -4,6 +4,9 @@ use Rattle.run_script.proofs.Parts.{first-is}
 use Rattle.run_script.proofs.first_part.Statement.{statement}
 use Rattle.run_script.proofs.first_part.Tie as tie
 
+step-head-requires : tie.Need-step-head-requires
+step-head-requires c κs = search needs
+
 add-from : tie.Need-add-from
 add-from c = search needs
 
@@ -27,14 +30,16 @@ part-result-end c = search needs
 
 returns : tie.Need-returns
 returns c =
-    let a = c .before .before .before .args in
     let n = c .before .le16 in
-    first-is (a .script .now) (a .at) (n .result) (n .ensures .0)
+    let h = c .before .before .step-head in
+    let a = c .before .before .before .before .args in
+    first-is (a .two) (a .script .now) (a .at) (h .result) (n .result) (h .ensures .0) (n .ensures .0)
 
 pub first-part-spec : {M : Type 1} → statement M
 first-part-spec =
     tie.close
     (tie.spec
+    step-head-requires
     add-from
     add-le16
     le16-requires

@@ -19,11 +19,22 @@ slice-aggregate-is-same c = search needs
 is-same-requires : tie.Need-is-same-requires
 is-same-requires c κs = search needs
 
+is-two-requires : tie.Need-is-two-requires
+is-two-requires c κs = search needs
+
 returns-2 : tie.Need-returns-2
 returns-2 c =
-    by-mark (c .before .before .before .before .before .args .script .now) (search needs) (c .is-same .result) (c .is-same .ensures)
+    let a = c .before .before .before .before .before .before .args in
+    let one = c .before .is-same in
+    by-mark (a .script .now) (search needs) (one .result) (c .is-two .result) (one .ensures) (c .is-two .ensures)
 
 pub is-marked-spec : {M : Type 1} → statement M
 is-marked-spec =
     tie.close
-    (tie.spec returns slice-aggregate-mark slice-aggregate-is-same is-same-requires returns-2)
+    (tie.spec
+    returns
+    slice-aggregate-mark
+    slice-aggregate-is-same
+    is-same-requires
+    is-two-requires
+    returns-2)

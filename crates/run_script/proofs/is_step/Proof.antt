@@ -8,17 +8,21 @@ is-inside-requires : tie.Need-is-inside-requires
 is-inside-requires c κs = search needs
 
 returns : tie.Need-returns
-returns c = let a = c .before .before .before .args in not-fitting (a .script .now) (a .at) (c .before .is-inside .ensures) (c .if1 .taken)
+returns c =
+    let a = c .before .before .before .args in
+    not-fitting (a .two) (a .script .now) (a .at) (c .before .is-inside .ensures) (c .if1 .taken)
 
 is-headed-requires : tie.Need-is-headed-requires
 is-headed-requires c κs =
     let a = c .before .before .before .args in
-    fits-is (a .script .now) (a .at) (fitting (a .script .now) (a .at) (c .before .is-inside .ensures) (c .if1 .left)) .0
+    let s = a .script .now in
+    fits-is (a .two) s (a .at) (fitting (a .two) s (a .at) (c .before .is-inside .ensures) (c .if1 .left)) .0
 
 returns-2 : tie.Need-returns-2
 returns-2 c =
     let a = c .before .before .before .before .args in
-    by-head (a .script .now) (a .at) (c .before .before .is-inside .ensures) (c .before .if1 .left) (c .is-headed .result) (c .is-headed .ensures)
+    let i = c .before in
+    by-head (a .two) (a .script .now) (a .at) (i .before .is-inside .ensures) (i .if1 .left) (c .is-headed .result) (c .is-headed .ensures)
 
 pub is-step-spec : {M : Type 1} → statement M
 is-step-spec = tie.close (tie.spec is-inside-requires returns is-headed-requires returns-2)

@@ -1,8 +1,11 @@
--- `second_part` meets its contract: the second part stands between the first and the end.
+-- `second_part` meets its contract: the second part stands between the first and the third.
 use borrow.Author.Needs.{needs}
 use Rattle.run_script.proofs.Parts.{second-is}
 use Rattle.run_script.proofs.second_part.Statement.{statement}
 use Rattle.run_script.proofs.second_part.Tie as tie
+
+step-head-requires : tie.Need-step-head-requires
+step-head-requires c κs = search needs
 
 add-from : tie.Need-add-from
 add-from c = search needs
@@ -16,8 +19,8 @@ le16-requires c κs = search needs
 add-from-2 : tie.Need-add-from-2
 add-from-2 c = search needs
 
-end-of-requires : tie.Need-end-of-requires
-end-of-requires c κs = search needs
+third-from-requires : tie.Need-third-from-requires
+third-from-requires c κs = search needs
 
 sub-result : tie.Need-sub-result
 sub-result c = search needs
@@ -30,20 +33,22 @@ part-result-end c = search needs
 
 returns : tie.Need-returns
 returns c =
-    let a = c .before .before .before .before .args in
+    let e = c .before .third-from in
     let n = c .before .before .le16 in
-    let e = c .before .end-of in
-    second-is (a .script .now) (a .at) (n .result) (n .ensures .0) (e .result) (e .ensures)
+    let h = c .before .before .before .step-head in
+    let a = c .before .before .before .before .before .args in
+    second-is (a .two) (a .script .now) (a .at) (h .result) (n .result) (h .ensures .0) (n .ensures .0) (e .result) (e .ensures .0)
 
 pub second-part-spec : {M : Type 1} → statement M
 second-part-spec =
     tie.close
     (tie.spec
+    step-head-requires
     add-from
     add-le16
     le16-requires
     add-from-2
-    end-of-requires
+    third-from-requires
     sub-result
     part-result-start
     part-result-end

@@ -1,0 +1,4 @@
+pub mod Splices
+pub mod Lengths
+pub mod Begins
+pub mod Places
