@@ -4,16 +4,9 @@
 // content of every own file too. One call in four has a limit near the charge: it may give 11 where the plain rules
 // accept. How many calls are accepted and refused is not known beforehand; `stdout` has the counts of a run without
 // differences.
-mod rows;
-
 ghost use mathlib.Core.Path.{_≡_};
 ghost use mathlib.Core.Bool.{true};
 ghost use Rattle.model.specs.Table.{isTable};
-use crate::rows::DIRECTORY;
-use crate::rows::FILE;
-use crate::rows::LINK;
-use crate::rows::NOTHING;
-use crate::rows::PATHS;
 use call_values::Kind;
 use call_values::Order;
 use libc::STDOUT_FILENO;
@@ -22,6 +15,11 @@ use model::Answered;
 use model::Finding;
 use model::Record;
 use table_entries::OverlayEntry;
+use test_rows::DIRECTORY;
+use test_rows::FILE;
+use test_rows::LINK;
+use test_rows::NOTHING;
+use test_rows::PATHS;
 
 const LARGE: u64 = 1_000_000;
 
@@ -111,7 +109,7 @@ fn parents(tree: &[u8], i: usize, made: bool) -> u64 {
     let mut number = 0;
     let mut at = parent(i);
     for _step in 0..2u64 {
-        number = through(made, rows::kind(tree, at), number);
+        number = through(made, test_rows::kind(tree, at), number);
         at = parent(at);
     }
     number
@@ -120,7 +118,7 @@ fn parents(tree: &[u8], i: usize, made: bool) -> u64 {
 fn has_child(tree: &[u8], i: usize) -> bool {
     let mut found = false;
     for k in 1..PATHS {
-        found = found | ((parent(k) == i) & (rows::kind(tree, k) != NOTHING));
+        found = found | ((parent(k) == i) & (test_rows::kind(tree, k) != NOTHING));
     }
     found
 }
@@ -128,7 +126,7 @@ fn has_child(tree: &[u8], i: usize) -> bool {
 fn has_link_below(tree: &[u8], a: usize) -> bool {
     let mut found = false;
     for k in 1..PATHS {
-        found = found | (is_below(a, k) & (rows::kind(tree, k) == LINK));
+        found = found | (is_below(a, k) & (test_rows::kind(tree, k) == LINK));
     }
     found
 }
@@ -178,14 +176,14 @@ fn rename_places(tree: &[u8], a: usize, b: usize) -> u64 {
     if first != 0 {
         return first;
     }
-    if rows::kind(tree, b) == LINK {
+    if test_rows::kind(tree, b) == LINK {
         return 4;
     }
     let second = parents(tree, a, false);
     if second != 0 {
         return second;
     }
-    if rows::kind(tree, a) == LINK {
+    if test_rows::kind(tree, a) == LINK {
         return 4;
     }
     0
@@ -210,8 +208,8 @@ fn rename_types(source: u8, there: u8, child: bool) -> u64 {
 
 // Rename, where its places passed. The walk has no budget here, and gives 4 at a link.
 fn rename_moves(tree: &[u8], a: usize, b: usize) -> u64 {
-    let source = rows::kind(tree, a);
-    let number = rename_types(source, rows::kind(tree, b), has_child(tree, b));
+    let source = test_rows::kind(tree, a);
+    let number = rename_types(source, test_rows::kind(tree, b), has_child(tree, b));
     if number != 0 {
         return number;
     }
@@ -253,9 +251,9 @@ fn write_inside(own: bool, offset: u64, n: u64) -> u64 {
 fn judged(tree: &[u8], call: Call, n: usize) -> u64 {
     let letter = call.letter;
     let i = call.path;
-    let there = rows::kind(tree, i);
+    let there = test_rows::kind(tree, i);
     if letter == b'i' {
-        return write_inside(rows::is_own(tree, i), call.offset, n as u64);
+        return write_inside(test_rows::is_own(tree, i), call.offset, n as u64);
     }
     if letter == b'n' {
         return rename(tree, i, call.other);
@@ -271,7 +269,7 @@ fn judged(tree: &[u8], call: Call, n: usize) -> u64 {
         return number;
     }
     let last = other(letter, there, has_child(tree, i));
-    if (last == 0) & (letter == b'a') & call.again & (rows::lent(tree, i).len() != n) {
+    if (last == 0) & (letter == b'a') & call.again & (test_rows::lent(tree, i).len() != n) {
         return 17;
     }
     last
@@ -279,8 +277,8 @@ fn judged(tree: &[u8], call: Call, n: usize) -> u64 {
 
 // A path without a node gets a directory.
 fn make(tree: &mut [u8], i: usize) {
-    if rows::kind(tree, i) == NOTHING {
-        rows::set_kind(tree, i, DIRECTORY);
+    if test_rows::kind(tree, i) == NOTHING {
+        test_rows::set_kind(tree, i, DIRECTORY);
     }
 }
 
@@ -319,7 +317,7 @@ fn moved(a: usize, b: usize, k: usize) -> usize {
 fn is_too_deep(tree: &[u8], a: usize, b: usize) -> bool {
     let mut found = false;
     for k in 1..PATHS {
-        found = found | ((PATHS <= moved(a, b, k)) & (rows::kind(tree, k) != NOTHING));
+        found = found | ((PATHS <= moved(a, b, k)) & (test_rows::kind(tree, k) != NOTHING));
     }
     found
 }
@@ -327,22 +325,22 @@ fn is_too_deep(tree: &[u8], a: usize, b: usize) -> bool {
 // a and all below it move to b, where nothing is below; what is elsewhere moves to where it is.
 fn move_all(tree: &mut [u8], a: usize, b: usize) {
     for k in 1..PATHS {
-        rows::move_row(tree, k, moved(a, b, k));
+        test_rows::move_row(tree, k, moved(a, b, k));
     }
 }
 
 // A file is written, or data are added to it: behind what it holds, or behind the data where these are lent for it.
 fn write_whole(tree: &mut [u8], i: usize, data: &[u8]) {
-    rows::clear(tree, i);
-    rows::write_at(tree, i, 0, data);
+    test_rows::clear(tree, i);
+    test_rows::write_at(tree, i, 0, data);
 }
 
 fn add(tree: &mut [u8], i: usize, data: &[u8], again: bool) {
-    if again & !rows::is_own(tree, i) {
+    if again & !test_rows::is_own(tree, i) {
         write_whole(tree, i, data);
     }
-    let end = rows::count(tree, i);
-    rows::write_at(tree, i, end, data);
+    let end = test_rows::count(tree, i);
+    test_rows::write_at(tree, i, end, data);
 }
 
 // The tree after a call that was accepted; a rename onto itself does nothing.
@@ -356,9 +354,9 @@ fn effect(tree: &mut [u8], call: Call, data: &[u8]) {
     } else if letter == b'a' {
         add(tree, i, data, call.again);
     } else if letter == b'i' {
-        rows::write_at(tree, i, call.offset as usize, data);
+        test_rows::write_at(tree, i, call.offset as usize, data);
     } else if letter != b'n' {
-        rows::clear(tree, i);
+        test_rows::clear(tree, i);
     } else if i != call.other {
         move_all(tree, i, call.other);
     }
@@ -431,7 +429,7 @@ fn drawn_letter(tree: &[u8], n: u64, path: usize, other: usize) -> u8 {
     if (drawn == b'n') & (path != 0) & is_too_deep(tree, path, other) {
         return b'u';
     }
-    if (drawn == b'a') & (19 < rows::count(tree, path)) {
+    if (drawn == b'a') & (19 < test_rows::count(tree, path)) {
         return b'u';
     }
     drawn
@@ -522,7 +520,14 @@ fn is_seen(listing: &[u8], table: &[u8], rec: Record, path: &[u8], kind: u8) -> 
 fn is_all_seen(listing: &[u8], table: &[u8], rec: Record, tree: &[u8], names: &[u8]) -> bool {
     let mut right = true;
     for i in 0..PATHS {
-        right = right & is_seen(listing, table, rec, bytes(names, i), rows::kind(tree, i));
+        right = right
+            & is_seen(
+                listing,
+                table,
+                rec,
+                bytes(names, i),
+                test_rows::kind(tree, i),
+            );
     }
     right
 }
@@ -569,7 +574,13 @@ fn is_all_held(table: &[u8], rec: Record, tree: &[u8], names: &[u8]) -> bool
     let mut right = true;
     for i in 0..PATHS {
         let entry = table_entries::get(table, rec, bytes(names, i));
-        right = right & is_held(table, entry, rows::is_own(tree, i), rows::content(tree, i));
+        right = right
+            & is_held(
+                table,
+                entry,
+                test_rows::is_own(tree, i),
+                test_rows::content(tree, i),
+            );
     }
     right
 }
@@ -674,7 +685,7 @@ fn made(
         let second = bytes(names, call.other);
         return made_with(listing, names, table, old, work, rec, call, second);
     }
-    let third = rows::lent(tree, call.path);
+    let third = test_rows::lent(tree, call.path);
     made_with(listing, names, table, old, work, rec, call, third)
 }
 
@@ -741,11 +752,11 @@ fn sprout(n: u64) -> u8 {
 // is seven numbers on, which is not the path that a reference to it has.
 fn sow(tree: &mut [u8], names: &[u8], i: usize, n: u64) {
     let kind = sprout(n);
-    if rows::kind(tree, parent(i)) == DIRECTORY {
+    if test_rows::kind(tree, parent(i)) == DIRECTORY {
         if kind == FILE {
-            rows::write_at(tree, i, 0, bytes(names, (i % PATHS + 7) % PATHS));
+            test_rows::write_at(tree, i, 0, bytes(names, (i % PATHS + 7) % PATHS));
         }
-        rows::set_kind(tree, i, kind);
+        test_rows::set_kind(tree, i, kind);
     }
 }
 
@@ -845,8 +856,8 @@ fn listed(s: &mut [u8], tree: &[u8], names: &[u8]) -> usize {
     let mut count = 0;
     for i in 0..39usize {
         let k = in_order(i);
-        let there = rows::kind(tree, k);
-        at = put(s, at, there, rows::count(tree, k), bytes(names, k));
+        let there = test_rows::kind(tree, k);
+        at = put(s, at, there, test_rows::count(tree, k), bytes(names, k));
         count = std::num::wrapping_add_u64(count, (there != NOTHING) as u64);
     }
     head(s, count);

@@ -5,7 +5,7 @@
 ghost use mathlib.Core.Path.{_≡_};
 ghost use Prim.Native.Nat.{_≤_};
 ghost use lib.ListN.{length, getD};
-ghost use Rattle.prog_random.specs.Rows.{rowAt, kindIn, ownIn, countIn};
+ghost use Rattle.test_rows.specs.Rows.{rowAt, kindIn, ownIn, countIn};
 
 pub const PATHS: usize = 40;
 
@@ -136,8 +136,14 @@ fn put(tree: &mut [u8], at: usize, data: &[u8]) {
     }
 }
 
-// Data go into the content from `from` on, and the file is an own one. It ends behind them, if it did not end later; a
-// gap before them is 0 already. Data for which the row has no room are left out.
+// The content ends at `end`, if it did not end later; a gap before it is 0 already.
+fn reach(tree: &mut [u8], i: usize, end: u8) {
+    if count(tree, i) < end as usize {
+        set(tree, row(i) + 1, end);
+    }
+}
+
+// Data go into the content from `from` on, and the file is an own one. Data for which the row has no room are left out.
 pub fn write_at(tree: &mut [u8], i: usize, from: usize, data: &[u8]) {
     let n = data.len();
     if MOST < n {
@@ -146,10 +152,7 @@ pub fn write_at(tree: &mut [u8], i: usize, from: usize, data: &[u8]) {
     if MOST - n < from {
         return;
     }
-    let end = from + n;
     put(tree, row(i) + 2 + from, data);
-    if count(tree, i) < end {
-        set(tree, row(i) + 1, end as u8);
-    }
+    reach(tree, i, (from + n) as u8);
     set_kind(tree, i, OWN);
 }
