@@ -329,24 +329,31 @@ fn move_all(tree: &mut [u8], a: usize, b: usize) {
     }
 }
 
-// A file is written, or data are added to it: behind what it holds, or behind the data where these are lent for it.
 fn write_whole(tree: &mut [u8], i: usize, data: &[u8]) {
     test_rows::clear(tree, i);
     test_rows::write_at(tree, i, 0, data);
 }
 
-fn add(tree: &mut [u8], i: usize, data: &[u8], again: bool) {
+// What is lent for an append is the file's content, unless it is an own one.
+fn lend(tree: &mut [u8], i: usize, lent: &[u8], again: bool) {
     if again & !test_rows::is_own(tree, i) {
-        write_whole(tree, i, data);
+        write_whole(tree, i, lent);
     }
+}
+
+fn add(tree: &mut [u8], i: usize, data: &[u8], again: bool) {
+    lend(tree, i, data, again);
     let end = test_rows::count(tree, i);
     test_rows::write_at(tree, i, end, data);
 }
 
-// The tree after a call that was accepted; a rename onto itself does nothing.
-fn effect(tree: &mut [u8], call: Call, data: &[u8]) {
+// The tree after a call; a refused one does nothing, and a rename onto itself neither.
+fn effect(tree: &mut [u8], call: Call, data: &[u8], accepted: bool) {
     let letter = call.letter;
     let i = call.path;
+    if !accepted {
+        return;
+    }
     if letter == b'm' {
         make_all(tree, i);
     } else if letter == b'w' {
@@ -706,9 +713,7 @@ fn step(
     let done = made(listing, names, table, old, work, tree, given, call);
     let answer = done.answer;
     let number = call_values::told(answer).number;
-    if number == 0 {
-        effect(tree, call, data);
-    }
+    effect(tree, call, data, number == 0);
     let left = is_left_well(listing, names, table, old, work, tree, given, done, call);
     counted(
         st,
@@ -748,14 +753,17 @@ fn sprout(n: u64) -> u8 {
     LINK
 }
 
-// What stands at a path of a random listing: something only below a directory. A file holds the name of the path that
-// is seven numbers on, which is not the path that a reference to it has.
-fn sow(tree: &mut [u8], names: &[u8], i: usize, n: u64) {
-    let kind = sprout(n);
+// A listed file holds the name of the path that is seven numbers on, which is not the path that a reference to it has.
+fn fill(tree: &mut [u8], names: &[u8], i: usize, kind: u8) {
+    if kind == FILE {
+        test_rows::write_at(tree, i, 0, bytes(names, (i % PATHS + 7) % PATHS));
+    }
+}
+
+// What stands at a path of a random listing: something only below a directory.
+fn sow(tree: &mut [u8], names: &[u8], i: usize, kind: u8) {
     if test_rows::kind(tree, parent(i)) == DIRECTORY {
-        if kind == FILE {
-            test_rows::write_at(tree, i, 0, bytes(names, (i % PATHS + 7) % PATHS));
-        }
+        fill(tree, names, i, kind);
         test_rows::set_kind(tree, i, kind);
     }
 }
@@ -765,7 +773,7 @@ fn plant(tree: &mut [u8], names: &[u8], seed: u64) -> u64 {
     let mut now = seed;
     for i in 1..PATHS {
         now = next(now);
-        sow(tree, names, i, below(now, 32));
+        sow(tree, names, i, sprout(below(now, 32)));
     }
     now
 }
@@ -820,6 +828,12 @@ fn in_order(i: usize) -> usize {
     PATHS
 }
 
+fn set(s: &mut [u8], at: usize, b: u8) {
+    if at < s.len() {
+        s[at] = b;
+    }
+}
+
 // A record, where something is there; the mtime is 0.
 fn put(s: &mut [u8], at: usize, kind: u8, size: usize, path: &[u8]) -> usize {
     let n = path.len();
@@ -836,7 +850,7 @@ fn put(s: &mut [u8], at: usize, kind: u8, size: usize, path: &[u8]) -> usize {
         return at;
     }
     base_fields::put16(s, at, n as u64);
-    s[at + 2] = kind;
+    set(s, at + 2, kind);
     base_fields::put64(s, at + 11, size as u64);
     base_fields::copy_in(s, at + 19, path);
     at + 19 + n
