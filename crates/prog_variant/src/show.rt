@@ -169,8 +169,9 @@ fn line(script: &[u8], two: bool, at: usize, report: &[u8], row: usize) -> usize
         return script.len();
     }
     let order = run_script::order_at(script, two, at);
+    let kind = order.kind;
     column((row / ROW_SIZE) as u64 + 1, 6);
-    name(order.kind);
+    name(kind);
     answer(
         base_fields::le64(report, row),
         base_fields::le64(report, row + 8),
