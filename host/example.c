@@ -1,6 +1,6 @@
 /* A table over a listing, from C: directories and files are made, moved and deleted, by one call after the other and
- * by a script; directories are shown; table and listing are kept in a file's bytes and read again; and each answer is
- * printed. */
+ * by a script; files are added to and written inside; directories are shown; table and listing are kept in a file's
+ * bytes and read again; and each answer is printed. */
 #include <stdio.h>
 #include <string.h>
 
@@ -84,6 +84,36 @@ static void run_scripts(struct plan *plan) {
            overlay_run_new(LISTING, LENT(&other), script, sizeof script, report, sizeof report, 40),
            OVERLAY_ACCEPTED, 0);
     if (other.record[OVERLAY_RECORD_COUNT] != 2 || !overlay_check_table(TABLE(&other)))
+        differences++;
+}
+
+/* Adds to the listed file `a/f`, whose five bytes are lent, and writes inside what has become an own file. */
+static void change_content(void) {
+    static const char content[] = "track 12\0\0!";
+    static struct plan plan;
+    size_t head = 24 + strlen("a/f");
+
+    expect("open", overlay_open_table(TABLE(&plan), 40), OVERLAY_ACCEPTED, 0);
+    expect("append to a/f, nothing lent",
+           overlay_append_bytes(LISTING, LENT(&plan), PATH("a/f"), PATH(" 42"), NULL, 0, one_second, no_limit),
+           OVERLAY_LENT_COUNT, 0);
+    expect("write inside a/f, not own",
+           overlay_write_file_at(LISTING, LENT(&plan), PATH("a/f"), PATH("1"), 6, one_second, no_limit),
+           OVERLAY_NOT_FOUND, 3);
+    expect("append to a/f",
+           overlay_append_bytes(LISTING, LENT(&plan), PATH("a/f"), PATH(" 42"), PATH("track"), one_second, no_limit),
+           OVERLAY_ACCEPTED, 3);
+    expect("write inside a/f",
+           overlay_write_file_at(LISTING, LENT(&plan), PATH("a/f"), PATH("1"), 6, one_second, no_limit),
+           OVERLAY_ACCEPTED, 1);
+    expect("write behind a gap of two",
+           overlay_write_file_at(LISTING, LENT(&plan), PATH("a/f"), PATH("!"), 10, one_second, no_limit),
+           OVERLAY_ACCEPTED, 1);
+    expect("write at 2^64 - 1",
+           overlay_write_file_at(LISTING, LENT(&plan), PATH("a/f"), PATH("!"), UINT64_MAX, one_second, no_limit),
+           OVERLAY_RANGE_TOO_LARGE, 0);
+    if (plan.record[OVERLAY_RECORD_USED] != head + sizeof content - 1 ||
+        memcmp(plan.table + head, content, sizeof content - 1) != 0)
         differences++;
 }
 
@@ -185,6 +215,7 @@ int main(void) {
            overlay_exists(LISTING, plan.table, sizeof plan.table, plan.record, 3, PATH("a")),
            OVERLAY_MALFORMED_TABLE, 0);
 
+    change_content();
     run_scripts(&plan);
     keep_and_read(&plan);
     if (!overlay_check_table(TABLE(&plan)))

@@ -70,21 +70,25 @@ enum overlay_number {
     OVERLAY_IS_A_DIRECTORY = 8,     /* path, length */
     OVERLAY_NOT_EMPTY = 9,          /* path, length */
     OVERLAY_BELOW_SOURCE = 10,      /* length: the destination lies below the source */
-    OVERLAY_LIMIT = 11,             /* the charge, or what a rename plans, exceeds the limit */
+    OVERLAY_LIMIT = 11,             /* the charge, what a rename plans, or an append's whole content beside the charge
+                                       exceeds the limit */
     OVERLAY_KEY_TOO_LONG = 12,      /* a moved key has more than 512 bytes or 32 components */
     OVERLAY_NO_ROOM = 13,           /* the entries after the call are longer than the table, a file or names than the
                                        output */
     OVERLAY_NOT_KEPT = 14,          /* not the mark and the version of a kept file, or too short for them */
     OVERLAY_DAMAGED = 15,           /* a kept file with any other damage */
     OVERLAY_OTHER_ENTRY_SIZE = 16,  /* only a table of entry size 40 is written to a kept file */
+    OVERLAY_LENT_COUNT = 17,        /* the lent bytes are not as many as the listed file's recorded size, or not 0 where
+                                       none are needed */
+    OVERLAY_RANGE_TOO_LARGE = 18,   /* offset and data length together exceed 2^64 - 1 */
     OVERLAY_MALFORMED_SCRIPT = 254, /* only overlay_run and overlay_run_new: the bytes are no script */
     OVERLAY_SHORT_REPORT = 255      /* only these two: the report has not a row for each call */
 };
 
 /* An answer is packed in one number: the number above in the low 8 bits, the path (0: only or source, 1: destination)
  * in the next 8, and from bit 16 on the length of that path, or of the ancestor at which mkdir with parents met a file.
- * Accepted, these 48 bits hold the value: the data's length for a write, the file's for overlay_write_kept, the number
- * of bytes written for overlay_show, 1 or 0 for a query, else 0. */
+ * Accepted, these 48 bits hold the value: the data's length for a write, an append and a writing inside, the file's for
+ * overlay_write_kept, the number of bytes written for overlay_show, 1 or 0 for a query, else 0. */
 static inline int overlay_answer_number(uint64_t answer) { return (int)(answer & 0xff); }
 static inline int overlay_answer_path(uint64_t answer) { return (int)(answer >> 8 & 0xff); }
 static inline uint64_t overlay_answer_length(uint64_t answer) { return answer >> 16; }
@@ -130,6 +134,31 @@ uint64_t overlay_write_bytes(const uint8_t *listing, size_t listing_length, uint
                              const uint8_t *path, size_t path_length, const uint8_t *data, size_t data_length,
                              uint64_t mtime, uint64_t limit);
 
+/* The data is put behind the content of the file at the path, and the whole becomes the content of the path's own file,
+ * also where there is no data; at an absent or a deleted path a new file is made. The value is the data's length.
+ * The lent bytes are the content of the listed file that is visible at the path, as itself or by a reference: as many
+ * as its recorded size, else the call is refused with OVERLAY_LENT_COUNT. What they are is left to the caller. For an
+ * own file, a deleted and an absent path none are needed, and any that are lent are refused in the same way.
+ * Refused with OVERLAY_MALFORMED_TABLE, OVERLAY_MALFORMED_LISTING, OVERLAY_MALFORMED_PATH, as a write is by what is
+ * visible at the path and above it, then with OVERLAY_LENT_COUNT, OVERLAY_LIMIT or OVERLAY_NO_ROOM, the first of them
+ * that holds. Where no own file is at the path, OVERLAY_LIMIT is also given if the charge before the call and the whole
+ * new content together exceed the limit; this decides only at a reference, whose entry the call replaces. */
+uint64_t overlay_append_bytes(const uint8_t *listing, size_t listing_length, uint8_t *table, size_t table_length,
+                              uint64_t *record, size_t record_length, uint8_t *work, size_t work_length,
+                              const uint8_t *path, size_t path_length, const uint8_t *data, size_t data_length,
+                              const uint8_t *lent, size_t lent_length, uint64_t mtime, uint64_t limit);
+
+/* The data is written inside the path's own file, from the offset on: it replaces what stands there, the file grows
+ * where the data ends behind it, and what stands before the offset and behind the data stays. A gap between the file's
+ * end and the offset is filled with zeros, also where there is no data. The value is the data's length.
+ * Refused with OVERLAY_MALFORMED_TABLE, OVERLAY_MALFORMED_LISTING, OVERLAY_MALFORMED_PATH, OVERLAY_NOT_FOUND (the path
+ * has no own file: a listed file, a reference and a directory too), OVERLAY_RANGE_TOO_LARGE, OVERLAY_LIMIT or
+ * OVERLAY_NO_ROOM, the first of them that holds. */
+uint64_t overlay_write_file_at(const uint8_t *listing, size_t listing_length, uint8_t *table, size_t table_length,
+                               uint64_t *record, size_t record_length, uint8_t *work, size_t work_length,
+                               const uint8_t *path, size_t path_length, const uint8_t *data, size_t data_length,
+                               uint64_t offset, uint64_t mtime, uint64_t limit);
+
 /* A directory at the path; with parents, at its missing ancestors too. With exist_ok a directory that is there is
  * accepted, and nothing changes but the work buffer. */
 uint64_t overlay_mkdir(const uint8_t *listing, size_t listing_length, uint8_t *table, size_t table_length,
@@ -151,15 +180,17 @@ uint64_t overlay_rename(const uint8_t *listing, size_t listing_length, uint8_t *
                         const uint8_t *source, size_t source_length, const uint8_t *destination,
                         size_t destination_length, uint64_t limit);
 
-/* A SCRIPT is a list of changing calls as bytes: the mark "TSC1", a 32-bit count, then the steps: kind (8 bits: 1
- * write, 2 mkdir, 3 unlink, 4 rmdir, 5 rename), flags (8 bits, for mkdir: 1 parents, 2 exist_ok), lengths of the first
- * part (16 bits: the path, a rename's source) and of the second (32 bits: the data, a rename's destination), mtime (64
- * bits), limit (64 bits), the two parts. What a step has no use for is 0. docs/FORMATS.md has one byte by byte.
+/* A SCRIPT is a list of changing calls as bytes: the mark "TSC1" or "TSC2", a 32-bit count, then the steps: kind (8
+ * bits: 1 write, 2 mkdir, 3 unlink, 4 rmdir, 5 rename, and only in TSC2 6 append, 7 writing inside), flags (8 bits, for
+ * mkdir: 1 parents, 2 exist_ok), lengths of the first part (16 bits: the path, a rename's source) and of the second (32
+ * bits: the data, a rename's destination), mtime (64 bits), limit (64 bits), in TSC2 also the offset (64 bits, for
+ * writing inside) and the length of the third part (32 bits: the bytes lent to an append), then the parts. What a step
+ * has no use for is 0. docs/FORMATS.md has one byte by byte.
  *
  * Its calls are made in their order on one table, each with the table, the record and the work buffer that the one
  * before left; a refused call does not end the run. Each gets a row of OVERLAY_ROW_LENGTH bytes in the report, four
- * 64-bit numbers: the number of its answer, the path, the length or value, and the table's charge after the call.
- * Behind the last row the report is as it was. */
+ * 64-bit numbers: the number of its answer (0 to 13, 17 or 18), the path, the length or value, and the table's charge
+ * after the call. Behind the last row the report is as it was. */
 #define OVERLAY_ROW_LENGTH 32
 
 /* Runs a script on the table. The answer is 0 if its calls were made, whatever each of them answered; table, record and

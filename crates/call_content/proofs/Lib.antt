@@ -1,1 +1,3 @@
 mod Judges
+mod Owns
+mod Calls

@@ -6,21 +6,34 @@
 // what it is lent.
 ghost use mathlib.Core.Path.{_≡_};
 ghost use mathlib.Core.Bool.{true, false};
-ghost use mathlib.Core.List.{[]};
+ghost use mathlib.Core.List.{[], _++_};
+ghost use mathlib.Core.Option.{some};
 ghost use Prim.Native.Nat.{ℕ, _+_, _≤_};
-ghost use lib.Dec.{leb};
+ghost use lib.Dec.{leb, eqb};
 ghost use lib.ListN.{length};
 ghost use Rattle.model.specs.Bytes.{Bytes, before};
+ghost use Rattle.model.specs.Map.{lookup, put};
+ghost use Rattle.model.specs.Tree.{own};
 ghost use Rattle.model.specs.Table.{tableIn, isTable};
 ghost use Rattle.model.specs.Checks.{pass, limited};
-ghost use Rattle.model.specs.Content.{isOwn, appendMemory};
-ghost use Rattle.model.specs.Outcome.{Given, shownIn};
+ghost use Rattle.model.specs.Content.{isOwn, needed, appended, appendMemory};
+ghost use Rattle.model.specs.Calls as calls;
+ghost use Rattle.model.specs.Outcome.{Given, shownIn, outcome};
+ghost use Rattle.table_entries.specs.Place.{Sought};
+ghost use Rattle.table_splice.specs.Splice.{isOwnFile};
 ghost use Rattle.check_judged.specs.Judged.{checkOf};
+ghost use Rattle.call_answer.specs.Meets.{requested, stored, Meets};
 ghost use Rattle.call_content.specs.Judged.{appendJudged, insideJudged};
+ghost use Rattle.call_content.specs.Leaves.{Leaves};
 use base_budget::Shrunk;
 use check_judged::Judged;
+use model::Answer;
+use model::Answered;
 use model::Record;
 use model::Refusal;
+use table_entries::Place;
+use table_insert::Inserted;
+use table_splice::insert_parts;
 
 // Whether `len` bytes are within what the charge leaves of the limit; equal passes.
 fn check_budget(charge: u64, len: u64, limit: u64) -> bool
@@ -108,7 +121,8 @@ fn append_file(
     limit: u64,
 ) -> Inserted
     requires { ⌜ isTable (now table) rec ≡ true ⌝ }
-    requires { ⌜ (before [] (now path) ≡ true) × (length (now path) ≤ 512) × (length (now table) ≤ length (now work)) ⌝ }
+    requires { ⌜ (before [] (now path) ≡ true) × (length (now path) ≤ 512)
+        × (length (now table) ≤ length (now work)) ⌝ }
     requires { ⌜ Sought (now table) (now path) (rec .count) 0 (place .left) (place .at) ⌝ }
     requires { ⌜ isOwnFile (lookup (tableIn (now table) rec) (now path)) ≡ true ⌝ }
     ensures { λ r. ⌜ ((m : ℕ) (c : Bytes) → lookup (tableIn (now (table .entry)) rec) (now (path .entry))
@@ -118,7 +132,7 @@ fn append_file(
 {
     let content = table_entries::entry_body(table, place);
     let end = content.len() as u64;
-    table_splice::insert_parts(table, work, rec, path, mtime, place, end, data, limit)
+    insert_parts(table, work, rec, path, mtime, place, end, data, limit)
 }
 
 // The data behind what the file at the path holds: an own file's content, or else the lent bytes.
@@ -133,7 +147,8 @@ fn insert_appended(
     limit: u64,
 ) -> Inserted
     requires { ⌜ isTable (now table) rec ≡ true ⌝ }
-    requires { ⌜ (before [] (now path) ≡ true) × (length (now path) ≤ 512) × (length (now table) ≤ length (now work)) ⌝ }
+    requires { ⌜ (before [] (now path) ≡ true) × (length (now path) ≤ 512)
+        × (length (now table) ≤ length (now work)) ⌝ }
     ensures { λ r. ⌜ ((l : Bytes) → eqb (length (now (lent .entry))) (needed (shownIn l (now (table .entry)) rec
         (now (path .entry)))) ≡ true → Leaves (rec .«entry_size») limit (now (table .entry)) (now (work .entry))
         (put (now (path .entry)) (own mtime (appended (shownIn l (now (table .entry)) rec (now (path .entry)))
@@ -142,8 +157,10 @@ fn insert_appended(
 {
     let first = table_entries::first_entry(table, rec);
     let got = table_entries::get_from(table, first, path);
-    if check_content::is_own(got.entry) {
-        return append_file(table, work, rec, path, mtime, got.place, data, limit);
+    let entry = got.entry;
+    let place = got.place;
+    if check_content::is_own(entry) {
+        return append_file(table, work, rec, path, mtime, place, data, limit);
     }
     table_splice::insert_lent(table, work, rec, path, mtime, lent, data, limit)
 }
@@ -238,7 +255,17 @@ pub fn write_file_at(
             };
         }
         Judged::Pass => {
-            return write_file_at_admitted(listing, table, rec, work, path, mtime, offset, data, limit);
+            return write_file_at_admitted(
+                listing,
+                table,
+                rec,
+                work,
+                path,
+                mtime,
+                offset,
+                data,
+                limit,
+            );
         }
     }
 }
@@ -261,7 +288,8 @@ pub fn write_file_at_admitted(
         offset (now («data» .entry))) limit (now (work .entry))) (stored (now (table .entry)) rec)) r
         (now (table .exit)) (now (work .exit)) ⌝ }
 {
-    let judged = inside_judge(table, rec, path, offset, data.len() as u64);
+    let added = data.len() as u64;
+    let judged = inside_judge(table, rec, path, offset, added);
     match judged {
         Judged::Refused(refusal) => {
             return Answered {
@@ -272,8 +300,8 @@ pub fn write_file_at_admitted(
         Judged::Pass => {
             let first = table_entries::first_entry(table, rec);
             let place = table_entries::seek(table, first, path);
-            let inserted = table_splice::insert_parts(table, work, rec, path, mtime, place, offset, data, limit);
-            return call_answer::answered(inserted, rec, data.len() as u64);
+            let inserted = insert_parts(table, work, rec, path, mtime, place, offset, data, limit);
+            return call_answer::answered(inserted, rec, added);
         }
     }
 }

@@ -1,5 +1,5 @@
 -- One entry put in two steps: judged and written up to it, and then settled. What each step leaves.
-use mathlib.Core.Path.{_≡_, refl, ap, ap₂, sym, subst, _∙_}
+use mathlib.Core.Path.{_≡_, refl, ap, sym, subst, _∙_}
 use mathlib.Core.Bool.{Bool, true, false, not}
 use mathlib.Core.List.{[]}
 use Prim.Native.Nat.{ℕ, _+_, _≤_}
@@ -9,8 +9,9 @@ use borrow.Author.Tests.{not-true, not-false}
 use Rattle.model.specs.Bytes.{Bytes, before}
 use Rattle.model.specs.Path.{Path}
 use Rattle.model.specs.Map.{put}
-use Rattle.model.specs.Tree.{Entry, Table}
+use Rattle.model.specs.Tree.{Entry, own, Table}
 use Rattle.model.specs.Table.{bodyOf, encode, padded, recordOf, tableIn, isTable}
+use Rattle.model.specs.Content.{spliced}
 use Rattle.model.specs.declared.Record.{Record}
 use Rattle.model.proofs.Orders.{bot}
 use Rattle.table_entries.specs.Place.{endOf}
@@ -22,6 +23,7 @@ use Rattle.table_insert.specs.Insert.{insertion, isDone, ifDone}
 use Rattle.table_insert.specs.declared.Inserted.{Inserted}
 use Rattle.table_insert.specs.declared.Inserted.the-variants.{Done, MemoryUsageLimitExceeded, NoRoom}
 use Rattle.table_insert.proofs.Inserts.{room, rest-fits, same-used, done-fits}
+use Rattle.table_splice.specs.declared.Splice.{Splice}
 use Rattle.table_splice.specs.Splice.{Fitting, Begun}
 
 -- the test's answer b, both ways
@@ -30,45 +32,6 @@ is-refused a b e h = sym e ∙ not-true b h
 
 pub is-done : (a : Inserted) (b : Bool) → b ≡ isDone a → not b ≡ false → isDone a ≡ true
 is-done a b e h = sym e ∙ not-false b h
-
--- a table that is done fits its buffer
-done-room : (E limit n : ℕ) (t : Table) (a : Inserted) → a ≡ insertion E limit n t → isDone a ≡ true → length (encode t) ≤ n
-done-room E limit n t a e d = done-fits (recordOf E t) limit n (sym (ap isDone e) ∙ d)
-
--- what is refused is not begun
-pub refused : (s w : Bytes) (t : Table) (k : Path) (a : Inserted) (left at out used : ℕ) → isDone a ≡ false → Begun s w w t k a left at out used
-refused s w t k a left at out used h = record { merged = λ d. absurd (bot (cc)); end = λ d. absurd (bot (cc)); kept = λ d. refl; size = refl }
-
-module _ (s : Bytes) (r : Record) (table : isTable s r ≡ true) (k : Path) (v : Entry) (limit : ℕ) (a : Inserted)
-    (e : a ≡ insertion (r .«entry_size») limit (length s) (put k v (tableIn s r))) where
-  abbrev new : Table
-  new = put k v (tableIn s r)
-
-  pub room-in : (n : ℕ) → isDone a ≡ true → length s ≤ n → 0 + length (encode (upTo k (tableIn s r))) + (24 + length k + length (bodyOf v)) ≤ n
-  room-in n d h = let f = room k v (tableIn s r) (length s) (done-room (r .«entry_size») limit (length s) new a e d) in omega arith
-
-  -- written up to the entry, as the step over the whole old table leaves it
-  pub begun : (w w′ : Bytes) (left at out : ℕ) → isDone a ≡ true → before [] k ≡ true
-      → ((t : Table) (q : Path) → Merged s w t q (r .count) 0 0 → before q k ≡ true → Merged s w′ (put k v t) k left at out)
-      → length w′ ≡ length w → endOf s left at ≡ endOf s (r .count) 0 → Begun s w w′ new k a left at out (r .used)
-  begun w w′ left at out d up m l f = record {
-    merged = λ _. m (tableIn s r) [] (merge-begun s w r table) up;
-    end = λ _. same-used s r left at table f;
-    kept = λ n. absurd (bot (cc));
-    size = l;
-  }
-
-  pub fitting : (w w′ : Bytes) (left at out : ℕ) → Begun s w w′ new k a left at out (r .used) → isDone a ≡ true → Fitting (length s) at out (r .used)
-  fitting w w′ left at out b d =
-      rest-fits s w′ r new k left at out table (b .merged d) (sym (b .end d) ∙ sym (table-end s r table)) (done-room (r .«entry_size») limit (length s) new a e d)
-
-  -- the same of an entry that is the same
-  pub as-well : (v′ : Entry) (w w′ : Bytes) (left at out : ℕ) → v ≡ v′ → Begun s w w′ new k a left at out (r .used)
-      → (a ≡ insertion (r .«entry_size») limit (length s) (put k v′ (tableIn s r))) × Begun s w w′ (put k v′ (tableIn s r)) k a left at out (r .used)
-  as-well v′ w w′ left at out q b = (
-    e ∙ ap (λ (x : Entry). insertion (r .«entry_size») limit (length s) (put k x (tableIn s r))) q,
-    subst (λ (x : Entry). Begun s w w′ (put k x (tableIn s r)) k a left at out (r .used)) q b,
-  )
 
 -- one of two, as it is done or not
 if-not : (a : Inserted) (new old : Bytes) → isDone a ≡ false → old ≡ ifDone a new old
@@ -81,30 +44,64 @@ if-is (Done r) new old h = refl
 if-is MemoryUsageLimitExceeded new old h = absurd (bot (cc))
 if-is NoRoom new old h = absurd (bot (cc))
 
--- settled: all as it was, or the new table in its buffer and the work buffer all zero
-module _ (s w w′ : Bytes) (t : Table) (k : Path) (a : Inserted) (left at out used : ℕ) (b : Begun s w w′ t k a left at out used) where
-  abbrev Settled : Bytes → Bytes → Type 0
-  Settled s″ w″ = (s″ ≡ ifDone a (padded (length s) (encode t)) s) × (w″ ≡ ifDone a (replicate (length w) 0) w)
+module _ (s : Bytes) (r : Record) (limit : ℕ) (k : Path) (v : Entry) (x : Splice) where
+  abbrev new : Table
+  new = put k v (tableIn s r)
 
-  pub settled-not : isDone a ≡ false → Settled s w′
-  settled-not h = (if-not a (padded (length s) (encode t)) s h, b .kept h ∙ if-not a (replicate (length w) 0) w h)
+  abbrev Judged : Type 0
+  Judged = x .answer ≡ insertion (r .«entry_size») limit (length s) new
 
-  pub settled-done : (s″ w″ : Bytes) → isDone a ≡ true
-      → ((x : Table) (q : Path) → Merged s w′ x q left at out → used ≡ endOf s left at → s″ ≡ padded (length s) (encode x))
-      → w″ ≡ replicate (length w′) 0 → Settled s″ w″
-  settled-done s″ w″ h f g = (
-    f t k (b .merged h) (b .end h) ∙ if-is a (padded (length s) (encode t)) s h,
-    g ∙ ap (λ (n : ℕ). replicate n 0) (b .size) ∙ if-is a (replicate (length w) 0) w h,
-  )
+  -- a table that is done fits its buffer
+  done-room : Judged → isDone (x .answer) ≡ true → length (encode new) ≤ length s
+  done-room e d = done-fits (recordOf (r .«entry_size») new) limit (length s) (sym (ap isDone e) ∙ d)
 
--- the answer r, and what is left then, of the table t; as well of t′, which is the same
-pub inserted : (E limit n : ℕ) (t : Table) (a r : Inserted) (s w s″ w″ : Bytes) → a ≡ insertion E limit n t → r ≡ a
-    → (s″ ≡ ifDone a (padded (length s) (encode t)) s) × (w″ ≡ ifDone a (replicate (length w) 0) w) → (t′ : Table) → t ≡ t′
-    → (r ≡ insertion E limit n t′) × ((s″ ≡ ifDone r (padded (length s) (encode t′)) s) × (w″ ≡ ifDone r (replicate (length w) 0) w))
-inserted E limit n t a r s w s″ w″ i j p t′ e = (
-  j ∙ i ∙ ap (insertion E limit n) e,
-  (
-    p .0 ∙ ap₂ (λ (x : Inserted) (y : Table). ifDone x (padded (length s) (encode y)) s) (sym j) e,
-    p .1 ∙ ap (λ (x : Inserted). ifDone x (replicate (length w) 0) w) (sym j),
-  ),
-)
+  pub room-in : Judged → isDone (x .answer) ≡ true → (n : ℕ) → length s ≤ n
+      → 0 + length (encode (upTo k (tableIn s r))) + (24 + length k + length (bodyOf v)) ≤ n
+  room-in e d n h = let f = room k v (tableIn s r) (length s) (done-room e d) in omega arith
+
+  -- what is refused is not begun
+  pub refused : (w : Bytes) → Judged → isDone (x .answer) ≡ false → Begun s r limit k v w w x
+  refused w e h = record { judged = e; merged = λ d. absurd (bot (cc)); end = λ d. absurd (bot (cc)); kept = λ d. refl; size = refl }
+
+  module _ (w w′ : Bytes) (table : isTable s r ≡ true) where
+    -- written up to the entry, as the step over the whole old table leaves it
+    pub begun : Judged → isDone (x .answer) ≡ true → before [] k ≡ true
+        → ((t : Table) (q : Path) → Merged s w t q (r .count) 0 0 → before q k ≡ true
+        → Merged s w′ (put k v t) k (x .merge .left) (x .merge .at) (x .merge .out))
+        → length w′ ≡ length w → endOf s (x .merge .left) (x .merge .at) ≡ endOf s (r .count) 0 → Begun s r limit k v w w′ x
+    begun e d up m l f = record {
+      judged = e;
+      merged = λ _. m (tableIn s r) [] (merge-begun s w r table) up;
+      end = λ _. same-used s r (x .merge .left) (x .merge .at) table f;
+      kept = λ n. absurd (bot (cc));
+      size = l;
+    }
+
+    pub fitting : Begun s r limit k v w w′ x → isDone (x .answer) ≡ true → Fitting (length s) (x .merge .at) (x .merge .out) (r .used)
+    fitting b d =
+        rest-fits s w′ r new k (x .merge .left) (x .merge .at) (x .merge .out) table (b .merged d) (sym (b .end d) ∙ sym (table-end s r table))
+        (done-room (b .judged) d)
+
+  -- settled: all as it was, or the new table in its buffer and the work buffer all zero
+  module _ (w w′ : Bytes) (b : Begun s r limit k v w w′ x) where
+    abbrev Settled : Bytes → Bytes → Type 0
+    Settled s″ w″ = Judged × (s″ ≡ ifDone (x .answer) (padded (length s) (encode new)) s) × (w″ ≡ ifDone (x .answer) (replicate (length w) 0) w)
+
+    pub settled-not : isDone (x .answer) ≡ false → Settled s w′
+    settled-not h =
+        (b .judged, if-not (x .answer) (padded (length s) (encode new)) s h, b .kept h ∙ if-not (x .answer) (replicate (length w) 0) w h)
+
+    pub settled-done : (s″ w″ : Bytes) → isDone (x .answer) ≡ true
+        → ((t : Table) (q : Path) → Merged s w′ t q (x .merge .left) (x .merge .at) (x .merge .out) → r .used ≡ endOf s (x .merge .left) (x .merge .at)
+        → s″ ≡ padded (length s) (encode t))
+        → w″ ≡ replicate (length w′) 0 → Settled s″ w″
+    settled-done s″ w″ h f g = (
+      b .judged,
+      f new k (b .merged h) (b .end h) ∙ if-is (x .answer) (padded (length s) (encode new)) s h,
+      g ∙ ap (λ (n : ℕ). replicate n 0) (b .size) ∙ if-is (x .answer) (replicate (length w) 0) w h,
+    )
+
+-- the same of a content that is the same
+pub other-content : (s : Bytes) (r : Record) (limit : ℕ) (k : Path) (x : Splice) (w w′ d : Bytes) (m o : ℕ) (c c′ : Bytes) → c ≡ c′
+    → Begun s r limit k (own m (spliced o d c)) w w′ x → Begun s r limit k (own m (spliced o d c′)) w w′ x
+other-content s r limit k x w w′ d m o c c′ e b = subst (λ (y : Bytes). Begun s r limit k (own m (spliced o d y)) w w′ x) e b

@@ -15,7 +15,6 @@ use Rattle.model.proofs.Orders.{test, yea, nay}
 use Rattle.table_measure.specs.Measure.{replaced}
 use Rattle.table_measure.proofs.Passes.{other-body}
 use Rattle.table_insert.specs.Insert.{insertion}
-use Rattle.table_insert.specs.declared.Inserted.{Inserted}
 use Rattle.table_insert.specs.declared.Inserted.the-variants.{Done, MemoryUsageLimitExceeded, NoRoom}
 use Rattle.table_insert.proofs.Inserts.{over-limit, no-room, in-both, answered}
 

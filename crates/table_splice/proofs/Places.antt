@@ -7,7 +7,7 @@ use Prim.Native.Nat.{ℕ, zero, suc, _<_}
 use native.Mathlib.Omega.{arith}
 use Rattle.model.specs.Bytes.{Bytes, same}
 use Rattle.model.specs.Path.{Path}
-use Rattle.model.specs.Map.{lookup, put}
+use Rattle.model.specs.Map.{lookup}
 use Rattle.model.specs.Tree.{Entry, own, Table}
 use Rattle.model.specs.Table.{bodyOf, keyAt, entryAt, entriesAt, tableIn, isTable}
 use Rattle.model.specs.Content.{spliced}
@@ -47,7 +47,3 @@ module _ (s : Bytes) (r : Record) (k : Path) (left at : ℕ) (table : isTable s 
     pub body-there : (m : ℕ) (c : Bytes) → lookup t k ≡ some (own m c) → bodyOf (entryAt s at) ≡ c
     body-there m c l =
         first-body (same (keyAt s at) k) (entryAt s at) m c (sym (ap (firstIf k) (first-entry s left at some-there)) ∙ sym first ∙ l)
-
-    pub new-there : (x y : ℕ) (d : Bytes) (m : ℕ) (c : Bytes) → lookup t k ≡ some (own m c)
-        → put k (own x (spliced y d (bodyOf (entryAt s at)))) t ≡ put k (own x (spliced y d c)) t
-    new-there x y d m c l = ap (λ (b : Bytes). put k (own x (spliced y d b)) t) (body-there m c l)

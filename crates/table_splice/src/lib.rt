@@ -1,7 +1,8 @@
-// A file's content with data written at an offset, put as an own file's entry into a table. The old content lies in the
-// table itself, or in bytes that the caller lends. Assumes a table that agrees with its record, and a key that is not
-// empty: only this repository's crates call, after a check. Nothing is written before the charge and the room are
-// known. Each call is a constant number of passes over table, work buffer, data and lent bytes.
+// #103: a file's content with data written at an offset, put as an own file's entry: `append_file` and `write_file_at`
+// of overlay_state.rs. The old content lies in the table itself, or in bytes that the caller lends. Assumes a table
+// that agrees with its record, and a key that is not empty: only this repository's crates call, after a check. Nothing
+// is written before the charge and the room are known. Each call is a constant number of passes over table, work
+// buffer, data and lent bytes.
 ghost use mathlib.Core.Path.{_≡_};
 ghost use mathlib.Core.Bool.{true};
 ghost use mathlib.Core.List.{[], _++_};
@@ -204,12 +205,8 @@ fn write_spliced(
     requires { ⌜ isTable (now table) rec ≡ true ⌝ }
     requires { ⌜ (before [] (now key) ≡ true) × (length (now key) ≤ 512) ⌝ }
     requires { ⌜ (offset + length (now «data») < 0x1_0000_0000_0000_0000) × (length (now table) ≤ length (now work)) ⌝ }
-    ensures { λ r. ⌜ r .answer ≡ insertion (rec .«entry_size») limit (length (now (table .entry))) (put
-        (now (key .entry)) (own mtime (spliced offset (now («data» .entry)) (now (content .entry))))
-        (tableIn (now (table .entry)) rec)) ⌝ }
-    ensures { λ r. ⌜ Begun (now (table .entry)) (now (work .entry)) (now (work .exit)) (put (now (key .entry)) (own mtime
-        (spliced offset (now («data» .entry)) (now (content .entry)))) (tableIn (now (table .entry)) rec))
-        (now (key .entry)) (r .answer) (r .merge .left) (r .merge .at) (r .merge .out) (rec .used) ⌝ }
+    ensures { λ r. ⌜ Begun (now (table .entry)) rec limit (now (key .entry)) (own mtime (spliced offset
+        (now («data» .entry)) (now (content .entry)))) (now (work .entry)) (now (work .exit)) r ⌝ }
 {
     let len = spliced_len(content.len() as u64, offset, data.len() as u64);
     let answer = judge_length(table, rec, key, len, limit);
@@ -250,11 +247,11 @@ fn settle(
     requires { ⌜ (isDone (splice .answer) ≡ true → Fitting (length (now table)) (splice .merge .at) (splice .merge .out)
         (rec .used)) ⌝ }
     requires { ⌜ length (now table) ≤ length (now work) ⌝ }
-    ensures { λ r. ⌜ r ≡ splice .answer ⌝ }
-    ensures { λ _. ⌜ ((w : Bytes) (t : Table) (k : Path) → Begun (now (table .entry)) w (now (work .entry)) t k
-        (splice .answer) (splice .merge .left) (splice .merge .at) (splice .merge .out) (rec .used)
-        → (now (table .exit) ≡ ifDone (splice .answer) (padded (length (now (table .entry))) (encode t))
-        (now (table .entry))) × (now (work .exit) ≡ ifDone (splice .answer) (replicate (length w) 0) w)) ⌝ }
+    ensures { λ r. ⌜ ((limit : ℕ) (k : Path) (v : Entry) (w : Bytes) → Begun (now (table .entry)) rec limit k v w
+        (now (work .entry)) splice → (r ≡ insertion (rec .«entry_size») limit (length (now (table .entry)))
+        (put k v (tableIn (now (table .entry)) rec))) × (now (table .exit) ≡ ifDone r
+        (padded (length (now (table .entry))) (encode (put k v (tableIn (now (table .entry)) rec))))
+        (now (table .entry))) × (now (work .exit) ≡ ifDone r (replicate (length w) 0) w)) ⌝ }
 {
     let answer = splice.answer;
     if !is_done(answer) {
@@ -280,13 +277,9 @@ fn write_inside(
     requires { ⌜ (before [] (now key) ≡ true) × (length (now key) ≤ 512) ⌝ }
     requires { ⌜ (offset + length (now «data») < 0x1_0000_0000_0000_0000) × (length (now table) ≤ length (now work)) ⌝ }
     requires { ⌜ Standing (now table) (place .left) (place .at) × (0 < place .left) ⌝ }
-    ensures { λ r. ⌜ r .answer ≡ insertion (rec .«entry_size») limit (length (now (table .entry))) (put
-        (now (key .entry)) (own mtime (spliced offset (now («data» .entry)) (bodyOf (entryAt (now (table .entry))
-        (place .at))))) (tableIn (now (table .entry)) rec)) ⌝ }
-    ensures { λ r. ⌜ Begun (now (table .entry)) (now (work .entry)) (now (work .exit)) (put (now (key .entry)) (own mtime
-        (spliced offset (now («data» .entry)) (bodyOf (entryAt (now (table .entry)) (place .at)))))
-        (tableIn (now (table .entry)) rec)) (now (key .entry)) (r .answer) (r .merge .left) (r .merge .at)
-        (r .merge .out) (rec .used) ⌝ }
+    ensures { λ r. ⌜ Begun (now (table .entry)) rec limit (now (key .entry)) (own mtime (spliced offset
+        (now («data» .entry)) (bodyOf (entryAt (now (table .entry)) (place .at))))) (now (work .entry))
+        (now (work .exit)) r ⌝ }
 {
     let content = table_entries::entry_body(table, place);
     write_spliced(work, table, rec, key, mtime, content, offset, data, limit)
@@ -310,12 +303,13 @@ pub fn insert_parts(
     requires { ⌜ (offset + length (now «data») < 0x1_0000_0000_0000_0000) × (length (now table) ≤ length (now work)) ⌝ }
     requires { ⌜ Sought (now table) (now key) (rec .count) 0 (place .left) (place .at) ⌝ }
     requires { ⌜ isOwnFile (lookup (tableIn (now table) rec) (now key)) ≡ true ⌝ }
-    ensures { λ r. ⌜ ((m : ℕ) (c : Bytes) → lookup (tableIn (now (table .entry)) rec) (now (key .entry)) ≡ some (own m c)
-        → r ≡ insertion (rec .«entry_size») limit (length (now (table .entry))) (put (now (key .entry)) (own mtime
-        (spliced offset (now («data» .entry)) c)) (tableIn (now (table .entry)) rec))) ⌝ }
-    ensures { λ r. ⌜ ((m : ℕ) (c : Bytes) → lookup (tableIn (now (table .entry)) rec) (now (key .entry)) ≡ some (own m c)
-        → now (table .exit) ≡ ifDone r (padded (length (now (table .entry))) (encode (put (now (key .entry)) (own mtime
-        (spliced offset (now («data» .entry)) c)) (tableIn (now (table .entry)) rec)))) (now (table .entry))) ⌝ }
+    ensures { λ r. ⌜ ((m : ℕ) (c : Bytes) → lookup (tableIn (now (table .entry)) rec) (now (key .entry)) ≡ some
+        (own m c) → r ≡ insertion (rec .«entry_size») limit (length (now (table .entry))) (put (now (key .entry))
+        (own mtime (spliced offset (now («data» .entry)) c)) (tableIn (now (table .entry)) rec))) ⌝ }
+    ensures { λ r. ⌜ ((m : ℕ) (c : Bytes) → lookup (tableIn (now (table .entry)) rec) (now (key .entry)) ≡ some
+        (own m c) → now (table .exit) ≡ ifDone r (padded (length (now (table .entry))) (encode (put (now (key .entry))
+        (own mtime (spliced offset (now («data» .entry)) c)) (tableIn (now (table .entry)) rec)))) (now
+        (table .entry))) ⌝ }
     ensures { λ r. ⌜ now (work .exit) ≡ ifDone r (replicate (length (now (work .entry))) 0) (now (work .entry)) ⌝ }
 {
     let splice = write_inside(work, table, rec, key, mtime, place, offset, data, limit);

@@ -30,7 +30,8 @@ pub record Merged (s w : Bytes) (t : Table) (k : Path) (left at out : ℕ) : Typ
   pub front : take out w ≡ encode (passed .done)
   pub size : out ≡ length (encode (passed .done))
 
--- what stands from `at` on up to the key k is copied to w from `out` on, which is w′ then; the old table goes on behind k
+-- what stands from `at` on up to the key k is copied to w from `out` on, which gives w′; the old table goes on behind
+-- k
 pub record Copied (s w w′ : Bytes) (k : Path) (left at out left′ at′ out′ : ℕ) : Type 0 where
   pub stand : Standing s left′ at′
   pub are : entriesAt s left′ at′ ≡ behind k (entriesAt s left at)

@@ -76,8 +76,8 @@ pub fn put_entry(
 // What stays up to this key, copied; the old entry with this key, if any, is passed over.
 pub fn copy_up_to(work: &mut [u8], table: &[u8], merge: Merge, key: &[u8]) -> Merge
     requires { ⌜ Standing (now table) (merge .left) (merge .at) ⌝ }
-    requires { ⌜ merge .out + length (encode (upTo (now key) (entriesAt (now table) (merge .left) (merge .at)))) ≤ length
-        (now work) ⌝ }
+    requires { ⌜ merge .out + length (encode (upTo (now key) (entriesAt (now table) (merge .left) (merge .at))))
+        ≤ length (now work) ⌝ }
     ensures { λ r. ⌜ Copied (now (table .entry)) (now (work .entry)) (now (work .exit)) (now (key .entry)) (merge .left)
         (merge .at) (merge .out) (r .left) (r .at) (r .out) ⌝ }
 {

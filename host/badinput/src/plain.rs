@@ -1,7 +1,8 @@
-//! A plain reader and a plain writer of kept files and a plain showing of directories, from the words of change requests
-//! #101 and #102 and document 01's forms of a listing and a table alone. Nothing of the library is called: they are the
-//! opinion that its answers are held against.
+//! A plain reader and a plain writer of kept files, a plain showing of directories, a plain append and a plain writing
+//! inside, and the form of a script, from the words of change requests #101 to #103 and the forms of a listing, a table
+//! and a script alone. Nothing of the library is called: they are the opinion that its answers are held against.
 use std::{
+    borrow::Cow,
     collections::{BTreeMap, BTreeSet},
     str,
 };
@@ -44,7 +45,12 @@ fn is_listing(bytes: &[u8]) -> bool {
 
 /// The kinds of the listed paths, where the records are in form and end with the bytes.
 fn listed(bytes: &[u8]) -> Option<BTreeMap<&str, u64>> {
-    let (mut rest, mut kinds) = (Rest(bytes), BTreeMap::new());
+    Some(records(bytes)?.into_iter().map(|(path, (kind, _))| (path, kind)).collect())
+}
+
+/// The kinds and sizes of the listed paths, in the same way.
+fn records(bytes: &[u8]) -> Option<BTreeMap<&str, (u64, i64)>> {
+    let (mut rest, mut records) = (Rest(bytes), BTreeMap::new());
     if (rest.take(3)?, rest.number(2)?) != (b"RDL", 1) {
         return None;
     }
@@ -57,14 +63,14 @@ fn listed(bytes: &[u8]) -> Option<BTreeMap<&str, u64>> {
             3 => size == 0 && mtime == 0,
             _ => false,
         };
-        let ascends = kinds.last_key_value().is_none_or(|(last, _)| *last < path);
-        let below_directories = path.match_indices('/').all(|(at, _)| kinds.get(&path[..at]) == Some(&1));
+        let ascends = records.last_key_value().is_none_or(|(last, _)| *last < path);
+        let below_directories = path.match_indices('/').all(|(at, _)| records.get(&path[..at]) == Some(&(1, 0)));
         if !(formed && ascends && below_directories) {
             return None;
         }
-        kinds.insert(path, kind);
+        records.insert(path, (kind, size));
     }
-    rest.0.is_empty().then_some(kinds)
+    rest.0.is_empty().then_some(records)
 }
 
 /// The record of a table whose entries are these bytes, where they are entries in form and end with the bytes.
@@ -99,14 +105,202 @@ fn entries<'a>(table: &'a [u8], record: &[u64]) -> Option<&'a [u8]> {
 
 /// The kinds of the keys, of entries in form.
 fn held(entries: &[u8]) -> Option<BTreeMap<&str, u64>> {
-    let (mut rest, mut kinds) = (Rest(entries), BTreeMap::new());
+    Some(bodies(entries)?.into_iter().map(|(key, entry)| (key, entry.kind)).collect())
+}
+
+/// An entry without its key.
+#[derive(Clone)]
+struct Held<'a> {
+    kind: u64,
+    mtime: u64,
+    size: u64,
+    body: Cow<'a, [u8]>,
+}
+
+/// The entries by their keys, of entries in form.
+fn bodies(entries: &[u8]) -> Option<BTreeMap<&str, Held<'_>>> {
+    let (mut rest, mut held) = (Rest(entries), BTreeMap::new());
     while !rest.0.is_empty() {
         let (key_length, kind, body_length) = (rest.number(2)?, rest.number(2)?, rest.number(4)?);
-        rest.take(16)?;
-        kinds.insert(path(rest.take(key_length)?)?, kind);
-        rest.take(body_length)?;
+        let (mtime, size) = (rest.number(8)?, rest.number(8)?);
+        let (key, body) = (path(rest.take(key_length)?)?, rest.take(body_length)?.into());
+        held.insert(key, Held { kind, mtime, size, body });
     }
-    Some(kinds)
+    Some(held)
+}
+
+/// What an append and a writing inside are given, but for the lent bytes and the offset.
+pub struct Given<'a> {
+    pub listing: &'a [u8],
+    pub table: &'a [u8],
+    pub record: &'a [u64],
+    pub work: usize,
+    pub path: &'a [u8],
+    pub data: &'a [u8],
+    pub mtime: u64,
+    pub limit: u64,
+}
+
+/// A table that a call leaves, up to the last byte of its buffer, and its record.
+pub type After = (Vec<u8>, Vec<u64>);
+
+/// The number and the length of a refusal; the path is the first.
+pub type Refused = (u64, usize);
+
+/// What is given, read: entries, listed paths and the path.
+struct Read<'a> {
+    held: BTreeMap<&'a str, Held<'a>>,
+    listed: BTreeMap<&'a str, (u64, i64)>,
+    path: &'a str,
+}
+
+impl<'a> Given<'a> {
+    /// Refuses by 1, 2 and 3.
+    fn read(&self) -> Result<Read<'a>, Refused> {
+        let entries = entries(self.table, self.record).filter(|_| self.work >= self.table.len());
+        let held = entries.and_then(bodies).ok_or((1, 0))?;
+        let listed = Some(self.listing).filter(|bytes| is_listing(bytes)).and_then(records).ok_or((2, 0))?;
+        let path = str::from_utf8(self.path).ok().filter(|path| in_form(path)).ok_or((3, 0))?;
+        Ok(Read { held, listed, path })
+    }
+
+    /// The table with this content as the path's own file, of so many bytes; refused by 11 and 13.
+    fn put(&self, read: &Read, length: u128, content: impl FnOnce() -> Vec<u8>) -> Result<After, Refused> {
+        let key = read.path.len() as u64;
+        let old = read.held.get(read.path).map(|entry| entry.body.len() as u64);
+        let [head, base] = [24 + key, 256 + key + self.record[3]].map(|new| old.map_or(0, |body| new + body));
+        let sum = |before: u64, old: u64, new: u64| u128::from(before - old + new) + length;
+        if sum(self.record[2], base, 256 + key + self.record[3]) > self.limit.into() {
+            return Err((11, 0));
+        }
+        if sum(self.record[0], head, 24 + key) > self.table.len() as u128 {
+            return Err((13, 0));
+        }
+        let mut held = read.held.clone();
+        held.insert(read.path, Held { kind: 1, mtime: self.mtime, size: 0, body: content().into() });
+        let mut table = Vec::new();
+        for (key, entry) in held {
+            let lengths = [key.len() as u64, entry.kind, entry.body.len() as u64, entry.mtime, entry.size];
+            for (number, width) in lengths.into_iter().zip([2, 2, 4, 8, 8]) {
+                table.extend(&number.to_le_bytes()[..width]);
+            }
+            table.extend(key.as_bytes());
+            table.extend(entry.body.iter());
+        }
+        let record = record_of(&table, self.record[3]).expect("entries in form").to_vec();
+        table.resize(self.table.len(), 0);
+        Ok((table, record))
+    }
+}
+
+impl Read<'_> {
+    /// Refuses as a write does: by a parent, a directory and a link.
+    fn writable(&self) -> Result<(), Refused> {
+        let length = self.path.len();
+        for (at, _) in self.path.match_indices('/') {
+            let above = &self.path[..at];
+            match (self.held.get(above).map(|entry| entry.kind), self.listed.get(above).map(|(kind, _)| kind)) {
+                (Some(3), _) | (None, Some(1)) => {}
+                (None, Some(3)) => return Err((4, length)),
+                _ => return Err((5, length)),
+            }
+        }
+        let listed = if self.path.is_empty() { Some(1) } else { self.listed.get(self.path).map(|(kind, _)| *kind) };
+        match (self.held.get(self.path).map(|entry| entry.kind), listed) {
+            (Some(3), _) | (None, Some(1)) => Err((8, length)),
+            (None, Some(3)) => Err((4, length)),
+            _ => Ok(()),
+        }
+    }
+
+    /// How many bytes an append needs.
+    fn needed(&self) -> u64 {
+        match (self.held.get(self.path), self.listed.get(self.path)) {
+            (Some(entry), _) if entry.kind == 2 => entry.size,
+            (None, Some((2, size))) => *size as u64,
+            _ => 0,
+        }
+    }
+
+    /// The content of the path's own file.
+    fn own(&self) -> Option<&[u8]> {
+        self.held.get(self.path).filter(|entry| entry.kind == 1).map(|entry| &*entry.body)
+    }
+}
+
+/// How many bytes an append is to be lent, where its input is in form.
+pub fn needed(given: &Given) -> Option<u64> {
+    given.read().ok().map(|read| read.needed())
+}
+
+/// "For append to a listed file the caller lends its bytes."
+pub fn append(given: &Given, lent: &[u8]) -> Result<After, Refused> {
+    let read = given.read()?;
+    read.writable()?;
+    // "Lent bytes whose count isn't the recorded size (0 where no listed file's bytes are needed) are 17 before 11"
+    if lent.len() as u64 != read.needed() {
+        return Err((17, 0));
+    }
+    let content = [read.own().unwrap_or(lent), given.data].concat();
+    // "The memory checks are those two functions' own": the whole content beside the charge, but for an own file.
+    if read.own().is_none() && given.record[2] + content.len() as u64 > given.limit {
+        return Err((11, 0));
+    }
+    given.put(&read, content.len() as u128, || content)
+}
+
+/// "A gap before the offset fills with zeros, in own files only; another path is 5."
+pub fn write_at(given: &Given, offset: u64) -> Result<After, Refused> {
+    let read = given.read()?;
+    let old = read.own().ok_or((5, read.path.len()))?;
+    // "an offset whose sum with the data length passes 2^64 − 1 is 18 after 5 and before 11"
+    let end = offset.checked_add(given.data.len() as u64).ok_or((18, 0))?;
+    let length = u128::from(end).max(old.len() as u128);
+    given.put(&read, length, || {
+        let byte = |at: usize| match at.checked_sub(offset as usize).and_then(|at| given.data.get(at)) {
+            Some(byte) => *byte,
+            None => *old.get(at).unwrap_or(&0),
+        };
+        (0..length as usize).map(byte).collect()
+    })
+}
+
+/// A step of a script: what it has for its call. The numbers are mtime, limit and offset.
+pub struct Step<'a> {
+    pub kind: u64,
+    pub flags: u64,
+    pub parts: [&'a [u8]; 3],
+    pub numbers: [u64; 3],
+}
+
+/// The steps of a script, where the bytes are one: "TSC1" or "TSC2", a count, and as many steps up to the end.
+pub fn script(bytes: &[u8]) -> Option<Vec<Step<'_>>> {
+    let (mut rest, mut steps) = (Rest(bytes), Vec::new());
+    let wide = match rest.take(4)? {
+        b"TSC1" => false,
+        b"TSC2" => true,
+        _ => return None,
+    };
+    for _ in 0..rest.number(4)? {
+        steps.push(step(&mut rest, wide)?);
+    }
+    rest.0.is_empty().then_some(steps)
+}
+
+/// The next step, where its numbers go together: what its kind has no use for is 0.
+fn step<'a>(rest: &mut Rest<'a>, wide: bool) -> Option<Step<'a>> {
+    let (kind, flags) = (rest.number(1)?, rest.number(1)?);
+    let (first, second, mtime, limit) = (rest.number(2)?, rest.number(4)?, rest.number(8)?, rest.number(8)?);
+    let (offset, third) = if wide { (rest.number(8)?, rest.number(4)?) } else { (0, 0) };
+    let has_data = [1, 6, 7].contains(&kind);
+    let ruled = (1..=if wide { 7 } else { 5 }).contains(&kind)
+        && (flags == 0 || kind == 2 && flags < 4)
+        && (second == 0 || has_data || kind == 5)
+        && (mtime == 0 || has_data || kind == 2)
+        && (offset == 0 || kind == 7)
+        && (third == 0 || kind == 6);
+    let parts = [rest.take(first)?, rest.take(second)?, rest.take(third)?];
+    ruled.then_some(Step { kind, flags, parts, numbers: [mtime, limit, offset] })
 }
 
 /// What is written for a path in an output of this length, or the refusal's number and length.
@@ -129,6 +323,13 @@ pub fn show(listing: &[u8], table: &[u8], record: &[u64], path: &[u8], room: usi
     }
     let names = names(&held, &listed, path);
     if names.len() > room { Err((13, 0)) } else { Ok(names) }
+}
+
+/// The paths that are listed or have an entry.
+pub fn named(listing: &[u8], entries: &[u8]) -> Vec<String> {
+    let (listed, held) = (listed(listing).unwrap_or_default(), held(entries).unwrap_or_default());
+    let all: BTreeSet<&str> = listed.into_keys().chain(held.into_keys()).collect();
+    all.into_iter().map(str::to_owned).collect()
 }
 
 /// The paths right above those that are listed or have an entry: what may be a directory.
@@ -262,4 +463,97 @@ fn a_directory_shown_by_hand() {
     assert_eq!(show(b"RDL", b"", &[0, 0, 0, 40], b".", 0), Err((2, 0)));
     assert_eq!(show(b"RDL", b"", &[0, 0, 1, 40], b".", 0), Err((1, 0)));
     assert_eq!(show(&listing, b"", &[0, 0, 0], b"", 9), Err((1, 0)));
+}
+
+#[test]
+fn contents_changed_by_hand() {
+    let record = |path: &str, kind: u8, size: u8| {
+        [&[path.len() as u8, 0, kind][..], &[0; 8], &[size, 0, 0, 0, 0, 0, 0, 0], path.as_bytes()].concat()
+    };
+    let listing = [b"RDL\x01\x00\x03\x00\x00\x00", &record("d", 1, 0)[..], &record("f", 2, 5), &record("l", 3, 0)];
+    let listing = listing.concat();
+    let entry = |key: &str, kind: u8, size: u8, body: &str| {
+        let lengths = [key.len() as u8, 0, kind, 0, body.len() as u8, 0, 0, 0];
+        [&lengths[..], &[0; 8], &[size, 0, 0, 0, 0, 0, 0, 0], key.as_bytes(), body.as_bytes()].concat()
+    };
+    // 24 + 1 + 3, 25, 24 + 1 + 1 and 25 bytes, with 4 more; the charge is 300 + 297 + 298 + 297.
+    let table = [entry("n", 1, 0, "abc"), entry("q", 4, 0, ""), entry("r", 2, 5, "f"), entry("s", 3, 0, "")].concat();
+    let table = [&table[..], &[0; 4]].concat();
+    let numbers = record_of(&table[..104], 40).expect("entries in form");
+    assert_eq!(numbers, [104, 4, 1192, 40]);
+    let given = |path: &'static str, data: &'static str, limit| Given {
+        listing: &listing,
+        table: &table,
+        record: &numbers,
+        work: 108,
+        path: path.as_bytes(),
+        data: data.as_bytes(),
+        mtime: 9,
+        limit,
+    };
+    let appended = |path, data, lent: &str, limit| append(&given(path, data, limit), lent.as_bytes());
+    let written = |path, data, offset, limit| write_at(&given(path, data, limit), offset);
+    let content = |after: Result<After, Refused>, key: &str| {
+        let (table, record) = after.expect("accepted");
+        let held = bodies(&table[..record[0] as usize]).expect("entries in form")[key].clone();
+        (String::from_utf8(held.body.into_owned()).expect("text"), held.mtime, record[2])
+    };
+    assert_eq!(content(appended("n", "xy", "", 1194), "n"), ("abcxy".into(), 9, 1194));
+    assert_eq!(content(appended("q", "x", "", 1193), "q"), ("x".into(), 9, 1193));
+    assert_eq!(content(appended("r", "", "12345", 1197), "r"), ("12345".into(), 9, 1196));
+    for (path, data, lent, limit, refused) in [
+        ("r", "", "12345", 1196, (11, 0)),
+        ("r", "", "1234", 0, (17, 0)),
+        ("n", "", "1", 0, (17, 0)),
+        ("n", "x", "", 1192, (11, 0)),
+        ("n", "12345", "", 5000, (13, 0)),
+        ("f", "", "", 0, (17, 0)),
+        ("d", "", "1", 0, (8, 1)),
+        ("", "", "1", 0, (8, 0)),
+        ("l", "", "1", 0, (4, 1)),
+        ("l/x", "", "1", 0, (4, 3)),
+        ("n/x", "", "1", 0, (5, 3)),
+        ("/", "", "1", 0, (3, 0)),
+    ] {
+        assert_eq!(appended(path, data, lent, limit), Err(refused), "{path} {data} {lent} {limit}");
+    }
+    assert_eq!(content(written("n", "x", 1, 1192), "n"), ("axc".into(), 9, 1192));
+    assert_eq!(content(written("n", "", 5, 1194), "n"), ("abc\0\0".into(), 9, 1194));
+    assert_eq!(content(written("n", "xy", 4, 1195), "n"), ("abc\0xy".into(), 9, 1195));
+    for (path, data, offset, limit, refused) in [
+        ("n", "", 0, 1191, (11, 0)),
+        ("n", "x", u64::MAX, 0, (18, 0)),
+        ("n", "x", u64::MAX - 1, u64::MAX, (11, 0)),
+        ("n", "x", 7, 5000, (13, 0)),
+        ("q", "x", u64::MAX, 0, (5, 1)),
+        ("r", "", 0, 0, (5, 1)),
+        ("f", "", 0, 0, (5, 1)),
+        ("", "", 0, 0, (5, 0)),
+        ("/", "", 0, 0, (3, 0)),
+    ] {
+        assert_eq!(written(path, data, offset, limit), Err(refused), "{path} {data} {offset} {limit}");
+    }
+    assert_eq!(append(&Given { work: 107, ..given("n", "", 0) }, b"1"), Err((1, 0)));
+    assert_eq!(write_at(&Given { listing: b"RDL", ..given(".", "", 0) }, 0), Err((2, 0)));
+}
+
+#[test]
+fn scripts_by_hand() {
+    let is_script = |bytes: &[u8]| script(bytes).is_some();
+    let step = |kind: u8, wide: usize| [&[kind, 0, 1, 0][..], &[0; 20], &vec![0; wide], b"a"].concat();
+    let of = |mark: &[u8; 4], step: &[u8]| [mark, &[1, 0, 0, 0][..], step].concat();
+    for kind in 0..9 {
+        assert_eq!(is_script(&of(b"TSC1", &step(kind, 0))), (1..6).contains(&kind), "{kind}");
+        assert_eq!(is_script(&of(b"TSC2", &step(kind, 12))), (1..8).contains(&kind), "{kind}");
+        assert!(!is_script(&of(b"TSC2", &step(kind, 0))) && !is_script(&of(b"TSC1", &step(kind, 12))));
+        for (at, allowed) in [(1, 2..3), (24, 7..8)] {
+            let mut changed = step(kind, 12);
+            changed[at] = 1;
+            assert_eq!(is_script(&of(b"TSC2", &changed)), allowed.contains(&kind), "{kind} {at}");
+        }
+        let mut lent = [step(kind, 12), b"x".to_vec()].concat();
+        lent[32] = 1;
+        assert_eq!(is_script(&of(b"TSC2", &lent)), kind == 6, "{kind}");
+    }
+    assert!(is_script(b"TSC2\0\0\0\0") && !is_script(b"TSC3\0\0\0\0") && !is_script(b"TSC2\0\0\0"));
 }

@@ -5,6 +5,8 @@ use differential::{
 };
 use overlay::raw;
 
+use crate::plain::{self, Given};
+
 #[derive(Clone, Copy, Debug, PartialEq)]
 pub enum Op {
     Exists,
@@ -12,6 +14,8 @@ pub enum Op {
     IsDir,
     Open,
     Write,
+    Append,
+    WriteAt,
     Mkdir,
     Unlink,
     Rmdir,
@@ -19,7 +23,7 @@ pub enum Op {
 }
 
 const QUERIES: [Op; 3] = [Op::Exists, Op::IsFile, Op::IsDir];
-const CHANGES: [Op; 5] = [Op::Write, Op::Mkdir, Op::Unlink, Op::Rmdir, Op::Rename];
+const CHANGES: [Op; 7] = [Op::Write, Op::Append, Op::WriteAt, Op::Mkdir, Op::Unlink, Op::Rmdir, Op::Rename];
 
 impl Op {
     pub fn is_query(self) -> bool {
@@ -27,7 +31,7 @@ impl Op {
     }
 
     fn any(random: &mut Random) -> Op {
-        match random.below(9) {
+        match random.below(11) {
             0 => Op::Open,
             n if n < 4 => QUERIES[n - 1],
             n => CHANGES[n - 4],
@@ -35,7 +39,8 @@ impl Op {
     }
 }
 
-/// Everything that one call is given. The numbers are mtime (or entry size) and limit, the flags mkdir's.
+/// Everything that one call is given. The numbers are mtime (or entry size), limit and offset, the flags mkdir's; the
+/// bytes are those that an append is lent.
 #[derive(Clone, Debug)]
 pub struct Input {
     pub op: Op,
@@ -45,20 +50,23 @@ pub struct Input {
     pub work: Vec<u8>,
     pub paths: [Vec<u8>; 2],
     pub data: Vec<u8>,
+    pub bytes: Vec<u8>,
     pub flags: [bool; 2],
-    pub numbers: [u64; 2],
+    pub numbers: [u64; 3],
 }
 
 impl Input {
     /// Makes the call on what it is lent: copies of what the input has. The packed answer.
-    pub fn call(&self, listing: &[u8], lent: &mut raw::Lent, paths: [&[u8]; 2], data: &[u8]) -> u64 {
-        let ([path, to], [mtime, limit], [parents, exist_ok]) = (paths, self.numbers, self.flags);
+    pub fn call(&self, listing: &[u8], lent: &mut raw::Lent, paths: [&[u8]; 2], [data, bytes]: [&[u8]; 2]) -> u64 {
+        let ([path, to], [mtime, limit, offset], [parents, exist_ok]) = (paths, self.numbers, self.flags);
         match self.op {
             Op::Exists => raw::exists(listing, lent.table, lent.record, path),
             Op::IsFile => raw::is_file(listing, lent.table, lent.record, path),
             Op::IsDir => raw::is_dir(listing, lent.table, lent.record, path),
             Op::Open => raw::open_table(lent.table, lent.record, mtime),
             Op::Write => raw::write_bytes(listing, lent, path, data, mtime, limit),
+            Op::Append => raw::append_bytes(listing, lent, path, data, bytes, mtime, limit),
+            Op::WriteAt => raw::write_file_at(listing, lent, path, data, offset, mtime, limit),
             Op::Mkdir => raw::mkdir(listing, lent, path, parents, exist_ok, mtime, limit),
             Op::Unlink => raw::unlink(listing, lent, path, limit),
             Op::Rmdir => raw::rmdir(listing, lent, path, limit),
@@ -102,7 +110,11 @@ fn listing(random: &mut Random) -> Vec<u8> {
             let kind = [Kind::Directory, Kind::Directory, Kind::Directory, Kind::File, Kind::File, Kind::Link];
             let kind = *random.pick(&kind);
             let mtime = if kind == Kind::Link { 0 } else { random.number() };
-            let size = if kind == Kind::File { (random.number() >> 1) as i64 } else { 0 };
+            let size = match kind {
+                Kind::File if random.one_in(3) => (random.number() >> 1) as i64,
+                Kind::File => random.below(12) as i64,
+                _ => 0,
+            };
             tree.insert(path, Node { kind, mtime, size });
         }
     }
@@ -112,6 +124,29 @@ fn listing(random: &mut Random) -> Vec<u8> {
 /// Limits near the charges that small tables have, and no limit.
 fn limit(random: &mut Random) -> u64 {
     if random.one_in(4) { random.below(3000) as u64 } else { u64::MAX }
+}
+
+/// How many bytes an append is lent: as many as it needs, or about as many, or as many as another file has.
+fn lent(input: &Input, random: &mut Random) -> usize {
+    let [path, _] = &input.paths;
+    let Input { listing, table, record, data, .. } = input;
+    let given = Given { listing, table, record, work: table.len(), path, data, mtime: 0, limit: 0 };
+    let needed = plain::needed(&given).filter(|needed| *needed < 100).unwrap_or(0) as usize;
+    match random.below(8) {
+        0 => random.below(12),
+        1 => needed + 1,
+        2 => needed.saturating_sub(1),
+        _ => needed,
+    }
+}
+
+/// Offsets near the start of small files, and at the edges of what 64 bits hold.
+fn offset(random: &mut Random) -> u64 {
+    match random.below(8) {
+        0 => u64::MAX - random.below(24) as u64,
+        1 => random.number() >> random.below(64),
+        _ => random.below(30) as u64,
+    }
 }
 
 /// A call with a good path on the given state.
@@ -126,7 +161,9 @@ pub fn asked(input: &mut Input, random: &mut Random) {
     input.data = random.bytes(length);
     input.flags = [random.one_in(2), random.one_in(2)];
     let entry_size = if random.one_in(3) { random.number() } else { random.below(5000) as u64 };
-    input.numbers = [if input.op == Op::Open { entry_size } else { random.number() }, limit(random)];
+    input.numbers = [if input.op == Op::Open { entry_size } else { random.number() }, limit(random), offset(random)];
+    let count = lent(input, random);
+    input.bytes = random.bytes(count);
     let longer = random.below(3);
     input.work = random.bytes(input.table.len() + longer);
 }
@@ -142,8 +179,9 @@ pub fn built(random: &mut Random) -> Input {
         work: vec![0; room],
         paths: [Vec::new(), Vec::new()],
         data: Vec::new(),
+        bytes: Vec::new(),
         flags: [false; 2],
-        numbers: [0; 2],
+        numbers: [0; 3],
     };
     let entry_size = random.below(100) as u64;
     assert_eq!(raw::open_table(&mut state.table, &mut state.record, entry_size), 0);
@@ -159,7 +197,7 @@ pub fn built(random: &mut Random) -> Input {
         if CHANGES.contains(&state.op) {
             let mut after = state.clone();
             let mut lent = raw::Lent { table: &mut after.table, record: &mut after.record, work: &mut after.work };
-            state.call(&state.listing, &mut lent, [&state.paths[0], &state.paths[1]], &state.data);
+            state.call(&state.listing, &mut lent, [&state.paths[0], &state.paths[1]], [&state.data, &state.bytes]);
             state = after;
         }
     }

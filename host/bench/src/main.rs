@@ -4,6 +4,7 @@
 //! the thread's own CPU clock (so that other programs on the machine count less), less what reading that clock takes.
 //! The original keeps its table as a map and looks paths up; the port reads and checks all bytes with every call.
 
+mod contents;
 mod kept;
 mod shows;
 mod walks;
@@ -276,6 +277,9 @@ fn main() {
     }
     if word.as_deref() == Some("show") {
         return shows::rows();
+    }
+    if word.as_deref() == Some("content") {
+        return contents::rows(&SIZES);
     }
     let most = word.and_then(|word| word.parse().ok()).unwrap_or(16 << 20);
     let sizes = SIZES.into_iter().filter(|size| *size <= most).collect::<Vec<_>>();

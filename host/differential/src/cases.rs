@@ -1,5 +1,5 @@
-//! Document 01's cases, those of change request #102 and the inputs of docs/DIFFERENCES.md that the original can be
-//! asked, with the answers written out: the original, the model and the port are each held to them.
+//! Document 01's cases, those of change requests #102 and #103 and the inputs of docs/DIFFERENCES.md that the original
+//! can be asked, with the answers written out: the original, the model and the port are each held to them.
 
 use differential::{
     listing::{listing_l, tree},
@@ -21,6 +21,13 @@ fn mkdir(path: &str, flags: &str) -> Call {
 }
 fn write(path: &str, data: &str) -> Call {
     Call::new(Op::Write { data: data.as_bytes().to_vec() }, path)
+}
+/// An append that is lent what it needs, and so many bytes more.
+fn append(path: &str, data: &str, more: i8) -> Call {
+    Call::new(Op::Append { data: data.as_bytes().to_vec(), more }, path)
+}
+fn write_at(path: &str, data: &str, offset: u64) -> Call {
+    Call::new(Op::WriteAt { data: data.as_bytes().to_vec(), offset }, path)
 }
 fn exists(path: &str) -> Call {
     Call::new(Op::Exists, path)
@@ -196,6 +203,71 @@ fn shown() -> Vec<Case> {
     ]
 }
 
+/// The cases of change request #103.
+fn partial() -> Vec<Case> {
+    vec![
+        (
+            "L",
+            vec![
+                (append("a/f", "hi", 0).at(305), "11 (0, 0)", Some(0)),
+                (append("a/f", "hi", 0).at(306), "0 (0, 2)", Some(306)),
+                (append("a/f", "", 0).at(305), "11 (0, 0)", Some(306)),
+                (append("a/f", "", 0).at(306), "0 (0, 0)", Some(306)),
+                (append("a/f", "x", 0).at(307), "0 (0, 1)", Some(307)),
+                (write_at("a/f", "X", 7), "0 (0, 1)", Some(307)),
+                (write_at("a/f", "", 10).at(308), "11 (0, 0)", Some(307)),
+                (write_at("a/f", "", 10).at(309), "0 (0, 0)", Some(309)),
+            ],
+        ),
+        (
+            "L",
+            vec![
+                (rename("z", "y"), "0 (0, 0)", Some(595)),
+                (append("y", "", 0).at(594), "11 (0, 0)", Some(595)),
+                (append("y", "", 0).at(595), "0 (0, 0)", Some(594)),
+            ],
+        ),
+        (
+            "L",
+            vec![
+                (rename("a/f", "g"), "0 (0, 0)", Some(599)),
+                (append("g", "x", 0).at(604), "11 (0, 0)", Some(599)),
+                (append("g", "x", 0).at(605), "0 (0, 1)", Some(602)),
+            ],
+        ),
+        (
+            "L",
+            vec![
+                (append("", "", 0), "8 (0, 0)", None),
+                (append("a", "", 0), "8 (0, 1)", None),
+                (append("l", "", 0), "4 (0, 1)", None),
+                (append("l/x", "", 0), "4 (0, 3)", None),
+                (append("z/n", "", 0), "5 (0, 3)", None),
+                (append("q/n", "", 0), "5 (0, 3)", None),
+                (append("n", "", 0), "0 (0, 0)", Some(297)),
+                (unlink("n"), "0 (0, 0)", Some(297)),
+                (append("n", "hi", 0), "0 (0, 2)", Some(299)),
+            ],
+        ),
+        (
+            "L",
+            vec![
+                (unlink("z"), "0 (0, 0)", Some(297)),
+                (write_at("z", "x", u64::MAX), "5 (0, 1)", None),
+                (write_at("", "x", 0), "5 (0, 0)", None),
+                (write_at("a", "x", 0), "5 (0, 1)", None),
+                (write_at("a/f", "x", 0), "5 (0, 3)", None),
+                (write_at("l/x", "x", 0), "5 (0, 3)", None),
+                (write("n", ""), "0 (0, 0)", Some(594)),
+                (write_at("n", "x", u64::MAX).at(0), "18 (0, 0)", Some(594)),
+                (write_at("n", "x", u64::MAX - 1).at(u64::MAX - 1), "11 (0, 0)", Some(594)),
+                (write_at("n", "", 3).at(596), "11 (0, 0)", Some(594)),
+                (write_at("n", "", 3).at(597), "0 (0, 0)", Some(597)),
+            ],
+        ),
+    ]
+}
+
 /// A listing, a table put there, a call, and the answers of document 01 and of the original.
 type Parting = (&'static str, Entries, Call, &'static str, &'static str);
 
@@ -213,7 +285,9 @@ fn partings() -> Vec<Parting> {
         ("a/ a/f", one("a", directory.clone()), rmdir("a"), "9 (0, 1)", "0 (0, 0)"),
         ("a/ d/", one("a/b/c", own), rename("d", "a"), "0 (0, 0)", "9 (1, 1)"),
         ("a/ a/f", one("a", directory.clone()), show("a"), "0 (0, 3)", "0 (0, 0)"),
-        ("l@", one("l", directory), mkdir("l/x", ""), "0 (0, 0)", "4 (0, 3)"),
+        ("l@", one("l", directory.clone()), mkdir("l/x", ""), "0 (0, 0)", "4 (0, 3)"),
+        ("l@", one("l", directory), append("l/x", "", 0), "0 (0, 0)", "4 (0, 3)"),
+        ("", Entries::new(), append("n", "", 1), "17 (0, 0)", "0 (0, 0)"),
         ("l@", one("l/x", Entry::deleted()), mkdir("l/x", "p"), "4 (0, 3)", "4 (0, 1)"),
     ]
 }
@@ -245,7 +319,7 @@ fn run_partings() -> u64 {
 
 pub fn run() -> u64 {
     let (mut calls, mut faults) = (0, run_partings());
-    let cases: Vec<Case> = all().into_iter().chain(shown()).collect();
+    let cases: Vec<Case> = all().into_iter().chain(shown()).chain(partial()).collect();
     for (text, steps) in &cases {
         let listing = if *text == "L" { listing_l() } else { tree(text) };
         let mut world = World::new(&Setup::new(listing, 4096));
@@ -266,7 +340,7 @@ pub fn run() -> u64 {
         }
     }
     println!(
-        "{} cases of document 01, its readings, #102 and docs/DIFFERENCES.md: {calls} calls, {faults} differences",
+        "{} cases of document 01, its readings, #102, #103, docs/DIFFERENCES.md: {calls} calls, {faults} differences",
         cases.len()
     );
     faults

@@ -64,6 +64,59 @@ pub fn random_call(random: &mut Random, paths: &[String]) -> Call {
     Call::new(op, &path)
 }
 
+/// The calls of change request #103 over the paths: with and without data and with other numbers of lent bytes, and
+/// from inside a content, past its end, and with sums at and above 2^64 - 1.
+pub fn every_partial_call(paths: &[&str]) -> Vec<Call> {
+    let mut calls = Vec::new();
+    for path in paths {
+        for (data, more) in [("", 0), ("xy", 0), ("", 1), ("x", -1)] {
+            calls.push(Call::new(Op::Append { data: data.into(), more }, path));
+        }
+        for (data, offset) in [("", 0), ("k", 1), ("", 4), ("k", u64::MAX), ("", u64::MAX)] {
+            calls.push(Call::new(Op::WriteAt { data: data.into(), offset }, path));
+        }
+    }
+    calls
+}
+
+/// An offset near the start, far behind it, or at the edges of what 64 bits hold.
+fn random_offset(random: &mut Random) -> u64 {
+    match random.below(12) {
+        0 => random.below(5000) as u64,
+        1 => u64::MAX - random.below(8) as u64,
+        2 => 1 << random.below(64),
+        _ => random.below(12) as u64,
+    }
+}
+
+/// A call of change request #103 twice in three, at the own files and at all that are visible more often than
+/// elsewhere; else any of the base's changing calls.
+pub fn random_partial_call(random: &mut Random, paths: &[String], own: &[String], files: &[String]) -> Call {
+    if random.one_in(3) {
+        return random_call(random, paths);
+    }
+    let pick = |random: &mut Random, from: &[String]| {
+        let from = if from.is_empty() || random.one_in(3) { paths } else { from };
+        random.pick(from).clone()
+    };
+    let length = random.below(6);
+    let data = random.bytes(length);
+    if random.one_in(2) {
+        let more = [0, 0, 0, 0, 0, 0, 1, -1][random.below(8)];
+        Call::new(Op::Append { data, more }, &pick(random, files))
+    } else {
+        Call::new(Op::WriteAt { data, offset: random_offset(random) }, &pick(random, own))
+    }
+}
+
+/// The tree with files of at most 40 bytes, but for those that are too long to be lent.
+pub fn with_short_files(mut tree: Tree) -> Tree {
+    for node in tree.values_mut().filter(|node| node.size == 4096) {
+        node.size = 40;
+    }
+    tree
+}
+
 /// Names that meet the edges of byte order, of UTF-8 and of the path form.
 const NAMES: [&str; 14] =
     ["a", "b", "c", "a-b", "a0", "a.", "...", ".x", "A", "\u{1}", "é", "\u{ffff}", "\u{10ffff}", "~ \u{7f}"];

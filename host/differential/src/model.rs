@@ -1,6 +1,6 @@
-//! A plain model written from document 01 and change request #102 alone: a map of entries over a map of listed paths,
-//! every check in its order. A third opinion beside the original and the port, and the only one beside the port on 3, 12
-//! and 13.
+//! A plain model written from document 01 and change requests #102 and #103 alone: a map of entries over a map of
+//! listed paths, every check in its order. A third opinion beside the original and the port, and the only one beside
+//! the port on 3, 12, 13 and 17.
 
 use std::{
     collections::{BTreeMap, BTreeSet},
@@ -9,7 +9,7 @@ use std::{
 
 use crate::{
     listing::{Kind, Tree},
-    side::{Answer, Call, Entries, Entry, Op, Side, charge, used},
+    side::{Answer, Call, Entries, Entry, Op, Side, charge, lent, used},
 };
 
 #[derive(Clone)]
@@ -124,6 +124,33 @@ impl Model {
         Ok(())
     }
 
+    /// The files that have an own content, and all that are visible.
+    pub fn files(&self) -> (Vec<String>, Vec<String>) {
+        let own = self.entries.iter().filter(|(_, entry)| entry.kind == 1).map(|(key, _)| key.clone());
+        let all: BTreeSet<&String> = self.entries.keys().chain(self.listing.keys()).collect();
+        let files = all.into_iter().filter(|path| self.shown(path) == Some(Kind::File));
+        (own.collect(), files.cloned().collect())
+    }
+
+    /// The listed file whose bytes an append needs, by its path and its recorded size.
+    fn listed_file<'a>(&'a self, path: &'a str) -> Option<(&'a str, i64)> {
+        match self.entries.get(path) {
+            Some(entry) if entry.kind == 2 => Some((str::from_utf8(&entry.body).expect("a listed path"), entry.size)),
+            Some(_) => None,
+            None => self.listing.get(path).filter(|node| node.kind == Kind::File).map(|node| (path, node.size)),
+        }
+    }
+
+    /// The checks of a write up to 11.
+    fn write_checks(&self, path: &str) -> Checked {
+        self.parents(path, 0)?;
+        match self.shown(path) {
+            Some(Kind::Directory) => Err(Answer::named(8, 0, path)),
+            Some(Kind::Link) => Err(Answer::named(4, 0, path)),
+            _ => Ok(()),
+        }
+    }
+
     /// Puts entries in place, or refuses by 11, 12 or 13.
     fn put(&mut self, changes: Vec<(String, Entry)>, limit: u64) -> Checked {
         let mut after = self.entries.clone();
@@ -141,13 +168,43 @@ impl Model {
     }
 
     fn write(&mut self, path: &str, data: &[u8], mtime: u64, limit: u64) -> Checked {
-        self.parents(path, 0)?;
-        match self.shown(path) {
-            Some(Kind::Directory) => return Err(Answer::named(8, 0, path)),
-            Some(Kind::Link) => return Err(Answer::named(4, 0, path)),
-            _ => {}
-        }
+        self.write_checks(path)?;
         self.put(vec![(path.to_owned(), Entry::own(mtime, data.to_vec()))], limit)
+    }
+
+    /// Adds to a file, with these bytes lent.
+    pub fn append(&mut self, path: &str, data: &[u8], bytes: &[u8], mtime: u64, limit: u64) -> Checked {
+        self.write_checks(path)?;
+        // "Lent bytes whose count isn't the recorded size (0 where no listed file's bytes are needed) are 17 before 11"
+        if bytes.len() as i64 != self.listed_file(path).map_or(0, |(_, size)| size) {
+            return Err(Answer::refused(17));
+        }
+        let own = self.entries.get(path).filter(|entry| entry.kind == 1);
+        let content = [own.map_or(bytes, |entry| &entry.body), data].concat();
+        // "The memory checks are those two functions' own": `append_bytes` wants its whole new content beside the
+        // charge as it is, unless it extends an own file.
+        if own.is_none() && self.charge() + content.len() as u64 > limit {
+            return Err(Answer::refused(11));
+        }
+        self.put(vec![(path.to_owned(), Entry::own(mtime, content))], limit)
+    }
+
+    /// Writes inside a file.
+    pub fn write_at(&mut self, path: &str, data: &[u8], offset: u64, mtime: u64, limit: u64) -> Checked {
+        let own = self.entries.get(path).filter(|entry| entry.kind == 1).ok_or(Answer::named(5, 0, path))?;
+        // "an offset whose sum with the data length passes 2^64 − 1 is 18 after 5 and before 11"
+        let end = offset.checked_add(data.len() as u64).ok_or(Answer::refused(18))?;
+        let growth = u128::from(end.saturating_sub(own.body.len() as u64));
+        if u128::from(self.charge()) + growth > limit.into() {
+            return Err(Answer::refused(11));
+        } else if used(&self.entries) as u128 + growth > self.room as u128 {
+            return Err(Answer::refused(13));
+        }
+        let (offset, end, mut content) = (offset as usize, end as usize, own.body.clone());
+        // "A gap before the offset fills with zeros"
+        content.resize(content.len().max(end), 0);
+        content[offset..end].copy_from_slice(data);
+        self.put(vec![(path.to_owned(), Entry::own(mtime, content))], limit)
     }
 
     fn mkdir(&mut self, path: &str, parents: bool, exist_ok: bool, mtime: u64, limit: u64) -> Checked {
@@ -305,6 +362,11 @@ impl Side for Model {
             Op::IsFile => return Answer::accepted(u64::from(self.shown(path) == Some(Kind::File))),
             Op::IsDir => return Answer::accepted(u64::from(self.shown(path) == Some(Kind::Directory))),
             Op::Write { data } => self.write(path, data, mtime, limit),
+            Op::Append { data, more } => {
+                let bytes = lent(self.listed_file(path), *more);
+                self.append(path, data, &bytes, mtime, limit)
+            }
+            Op::WriteAt { data, offset } => self.write_at(path, data, *offset, mtime, limit),
             Op::Mkdir { parents, exist_ok } => self.mkdir(path, *parents, *exist_ok, mtime, limit),
             Op::Unlink => self.unlink(path, limit),
             Op::Rmdir => self.rmdir(path, limit),
@@ -314,7 +376,9 @@ impl Side for Model {
         };
         match (done, &call.op) {
             (Err(refusal), _) => refusal,
-            (Ok(()), Op::Write { data }) => Answer::accepted(data.len() as u64),
+            (Ok(()), Op::Write { data } | Op::Append { data, .. } | Op::WriteAt { data, .. }) => {
+                Answer::accepted(data.len() as u64)
+            }
             (Ok(()), _) => Answer::accepted(0),
         }
     }

@@ -7,7 +7,7 @@ use std::rc::Rc;
 
 use overlay::{EntryKind, OverlayRef, Record, raw};
 
-use crate::side::{Answer, Call, Entries, Entry, Op, Side, charge, encoded, used};
+use crate::side::{Answer, Call, Entries, Entry, Op, Side, charge, encoded, lent, used};
 
 /// Given instead of the answer where a refused call or a query changed the table or the record.
 const CHANGED: u8 = 251;
@@ -43,8 +43,22 @@ impl Port {
         Self { listing: Rc::clone(listing), table, record, work: vec![0; room] }
     }
 
+    /// The bytes that a call is lent: for an append those of the listed file that is visible at the path.
+    fn bytes(&self, call: &Call) -> Vec<u8> {
+        let Op::Append { more, .. } = call.op else { return Vec::new() };
+        let file = OverlayRef::new(&self.table, Record::from(self.record)).listed_file(&self.listing, &call.path);
+        let named = |bytes| str::from_utf8(bytes).expect("a listed path in UTF-8");
+        lent(file.map(|file| (named(file.path), file.size as i64)), more)
+    }
+
     /// The call alone, without a look at what it left.
     pub fn call_only(&mut self, call: &Call, mtime: u64) -> Answer {
+        let bytes = self.bytes(call);
+        self.call_with(call, mtime, &bytes)
+    }
+
+    /// The same with these bytes lent.
+    pub fn call_with(&mut self, call: &Call, mtime: u64, bytes: &[u8]) -> Answer {
         let Self { listing, table, record, work } = self;
         let (path, limit) = (call.path.as_bytes(), call.limit);
         let mut lent = raw::Lent { table, record, work };
@@ -53,6 +67,8 @@ impl Port {
             Op::IsFile => raw::is_file(listing, lent.table, lent.record, path),
             Op::IsDir => raw::is_dir(listing, lent.table, lent.record, path),
             Op::Write { data } => raw::write_bytes(listing, &mut lent, path, data, mtime, limit),
+            Op::Append { data, .. } => raw::append_bytes(listing, &mut lent, path, data, bytes, mtime, limit),
+            Op::WriteAt { data, offset } => raw::write_file_at(listing, &mut lent, path, data, *offset, mtime, limit),
             Op::Mkdir { parents, exist_ok } => raw::mkdir(listing, &mut lent, path, *parents, *exist_ok, mtime, limit),
             Op::Unlink => raw::unlink(listing, &mut lent, path, limit),
             Op::Rmdir => raw::rmdir(listing, &mut lent, path, limit),

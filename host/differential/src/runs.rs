@@ -8,12 +8,15 @@ use std::{
 
 use differential::{
     listing::{Tree, bytes, listing_l, tree},
-    lists::{every_call, long_pool, long_tree, malformed, pool, queries, random_call, random_tree},
+    lists::{
+        every_call, every_partial_call, long_pool, long_tree, malformed, pool, queries, random_call,
+        random_partial_call, random_tree, with_short_files,
+    },
     model::Model,
     port::Port,
     random::Random,
     side::{Answer, Call, Op, Side},
-    world::{Difference, Setup, World, reduce, run as run_list},
+    world::{Difference, Setup, World, asks_original, reduce, run as run_list},
 };
 
 /// What one group of runs compared.
@@ -24,6 +27,8 @@ pub struct Count {
     pub queries: u64,
     pub thresholds: u64,
     pub numbers: BTreeMap<u8, u64>,
+    /// The calls of change request #103 among them, by name, the answer's number, and whether the original was asked.
+    pub partial: BTreeMap<(&'static str, u8, bool), u64>,
     /// The paths that were shown on all sides, by the number of the answer.
     pub shows: BTreeMap<u8, u64>,
     /// The links that the original listed there, which are left aside.
@@ -34,9 +39,13 @@ pub struct Count {
 }
 
 impl Count {
-    fn add(&mut self, answer: Answer) {
+    fn add(&mut self, call: &Call, answer: Answer, original: bool) {
         self.calls += 1;
         *self.numbers.entry(answer.number).or_default() += 1;
+        if call.op.is_partial() {
+            let asked = original && asks_original(call, answer);
+            *self.partial.entry((call.op.name(), answer.number, asked)).or_default() += 1;
+        }
     }
 
     fn merge(&mut self, other: &Count) {
@@ -52,12 +61,15 @@ impl Count {
                 *counts.entry(*number).or_default() += count;
             }
         }
+        for (class, count) in &other.partial {
+            *self.partial.entry(*class).or_default() += count;
+        }
     }
 
     fn row(&self, name: &str, seconds: f64) {
         let shows = self.shows.values().sum::<u64>() + self.shows_without;
         print!("| {name} | {} | {} | {} | {shows} | {} |", self.lists, self.calls, self.queries, self.thresholds);
-        for number in [0, 3, 4, 5, 6, 7, 8, 9, 10, 11, 12, 13] {
+        for number in [0, 3, 4, 5, 6, 7, 8, 9, 10, 11, 12, 13, 17, 18] {
             print!(" {} |", self.numbers.get(&number).unwrap_or(&0));
         }
         println!(" {} | {seconds:.1} |", self.differences);
@@ -82,7 +94,7 @@ impl Place {
     fn call(&mut self, call: &Call, count: &mut Count) -> Result<Answer, Difference> {
         match self.world.call(call) {
             Ok(answer) => {
-                count.add(answer);
+                count.add(call, answer, true);
                 if answer.number == 0 {
                     self.calls.push(call.clone());
                 }
@@ -148,8 +160,13 @@ fn shape(world: &World) -> String {
 
 /// Every call from every table that such calls reach (tables equal but for mtimes taken once), at most `most` tables,
 /// those that fewer calls reach first. Says whether those were all.
-fn exhaustive(setup: &Setup, paths: &[&str], most: usize, count: &mut Count) -> Result<bool, Difference> {
-    let calls = every_call(paths);
+fn exhaustive(
+    setup: &Setup,
+    paths: &[&str],
+    calls: &[Call],
+    most: usize,
+    count: &mut Count,
+) -> Result<bool, Difference> {
     let mut seen = HashSet::from([String::new()]);
     let mut places = VecDeque::from([Place::new(setup)]);
     let mut all = true;
@@ -159,8 +176,9 @@ fn exhaustive(setup: &Setup, paths: &[&str], most: usize, count: &mut Count) -> 
             place.ask(path, count)?;
         }
         place.show("", count)?;
-        for call in &calls {
-            place.probe(call, &[], count)?;
+        for call in calls {
+            let more = place.world.deciding(call);
+            place.probe(call, &more, count)?;
             let mut after = place.copy();
             if after.call(call, count)?.number == 0 {
                 let shape = shape(&after.world);
@@ -174,11 +192,23 @@ fn exhaustive(setup: &Setup, paths: &[&str], most: usize, count: &mut Count) -> 
     Ok(all)
 }
 
+/// How a random call over the paths is made on a table.
+type Make = fn(&mut Random, &[String], &Model) -> Call;
+
+fn base_call(random: &mut Random, paths: &[String], _: &Model) -> Call {
+    random_call(random, paths)
+}
+
+fn partial_call(random: &mut Random, paths: &[String], model: &Model) -> Call {
+    let (own, files) = model.files();
+    random_partial_call(random, paths, &own, &files)
+}
+
 /// One random list, each call probed and then done at a limit that lets it through or at any.
 fn random_list(
     setup: &Setup,
     paths: &[String],
-    length: usize,
+    (length, make): (usize, Make),
     random: &mut Random,
     count: &mut Count,
 ) -> Result<(), Difference> {
@@ -187,10 +217,11 @@ fn random_list(
     // Which directories are shown: numbers of their own, so that the calls are the same with and without them.
     let mut which = Random::new(count.lists);
     for _ in 0..length {
-        let call = random_call(random, paths);
+        let call = make(random, paths, &place.world.model);
         let before = place.world.model.charge();
         let any = random.below(3000) as u64;
-        let more = [before.saturating_sub(1), before, before + 1, any];
+        let mut more = vec![before.saturating_sub(1), before, before + 1, any];
+        more.extend(place.world.deciding(&call));
         let limit = match place.probe(&call, &more, count)? {
             Some(threshold) => [threshold, threshold + 1, u64::MAX][random.below(3)],
             None => u64::MAX,
@@ -206,7 +237,7 @@ fn random_list(
 }
 
 /// The port beside the model alone: entry sizes that the original cannot have, and paths out of form.
-fn other_entry_sizes(lists: u64, seed: u64, count: &mut Count) -> Result<(), Difference> {
+fn other_entry_sizes(lists: u64, seed: u64, make: Make, count: &mut Count) -> Result<(), Difference> {
     let (mut random, mut which) = (Random::new(seed), Random::new(seed));
     for n in 0..lists {
         let size = [0, 1, 4096][n as usize % 3];
@@ -219,7 +250,7 @@ fn other_entry_sizes(lists: u64, seed: u64, count: &mut Count) -> Result<(), Dif
         let mut calls = Vec::new();
         for _ in 0..12 {
             let limit = if random.below(2) == 0 { u64::MAX } else { random.below(20_000) as u64 };
-            let call = random_call(&mut random, &paths).at(limit);
+            let call = make(&mut random, &paths, &model).at(limit);
             let mtime = random.number();
             calls.push(call.clone());
             let (expected, answer) = (model.call(&call, mtime), port.call(&call, mtime));
@@ -227,7 +258,7 @@ fn other_entry_sizes(lists: u64, seed: u64, count: &mut Count) -> Result<(), Dif
                 let what = format!("{call}, E {size}: the model gives {expected}, the port {answer}");
                 return Err(Difference { what, listing: differential::listing::text(&tree), calls });
             }
-            count.add(answer);
+            count.add(&call, answer, false);
             let path = which.pick(&paths);
             let (expected, given) = (model.show(path), port.show(path));
             if expected != given {
@@ -272,31 +303,43 @@ const SMALL: [(&str, &[&str]); 9] = [
     ("a/ a/f b/ b/f c/ c/a/ c/a/f", &["a", "a/f", "b", "b/f", "c", "c/a"]),
 ];
 
-/// Every call over the small listings.
+/// Every call over the small listings; then, over some of them, also those of change request #103, which go on without
+/// end.
 fn exhaustive_groups(all: &mut Count, most: usize) {
     let l_paths: &[&str] = &["", "a", "a/f", "b", "b/f", "l", "z", "z/n"];
     let small = SMALL.iter().map(|(text, paths)| (format!("`{text}`"), tree(text), *paths));
     for (name, tree, paths) in [("L".to_owned(), listing_l(), l_paths)].into_iter().chain(small) {
         let setup = Setup::new(tree, 2048);
-        group(all, &format!("every call, {name}"), |count| match exhaustive(&setup, paths, most, count) {
+        let calls = every_call(paths);
+        group(all, &format!("every call, {name}"), |count| match exhaustive(&setup, paths, &calls, most, count) {
             Ok(all) => Ok(if all { ", all tables" } else { "" }),
             Err(found) => Err((setup, found)),
         });
     }
+    let partial: [(&str, &[&str]); 3] =
+        [("z", &["", "z", "z/x", "b"]), ("a/ a/f", &["a", "a/f", "b", "b/f"]), ("l@ z", &["l", "l/x", "z", "b"])];
+    for (text, paths) in partial {
+        let setup = Setup::new(tree(text), 2048);
+        let calls = [every_call(paths), every_partial_call(paths)].concat();
+        group(all, &format!("every call, also append and writing inside, `{text}`"), |count| {
+            exhaustive(&setup, paths, &calls, most / 4, count).map(|_| "").map_err(|found| (setup, found))
+        });
+    }
 }
 
-/// Random lists of `length` calls, each over its own setup.
+/// Random lists of `length` calls made so, each over its own setup.
 fn random_group(
     all: &mut Count,
     name: &str,
     (lists, length, seed): (u64, usize, u64),
+    call: Make,
     make: impl Fn(&mut Random) -> (Setup, Vec<String>),
 ) {
     group(all, name, |count| {
         let mut random = Random::new(seed);
         for _ in 0..lists {
             let (setup, paths) = make(&mut random);
-            random_list(&setup, &paths, length, &mut random, count).map_err(|found| (setup, found))?;
+            random_list(&setup, &paths, (length, call), &mut random, count).map_err(|found| (setup, found))?;
         }
         Ok("")
     });
@@ -309,30 +352,61 @@ fn random_groups(all: &mut Count, share: u64, seed: u64) {
     };
     for (n, mount) in ["/mnt", "/a", "/m/a-b"].into_iter().enumerate() {
         let name = format!("random listings, mount `{mount}`");
-        random_group(all, &name, (400 * share, 12, seed + n as u64), |random| over(random_tree(random), mount, 4096));
+        let lists = (400 * share, 12, seed + n as u64);
+        random_group(all, &name, lists, base_call, |random| over(random_tree(random), mount, 4096));
     }
-    random_group(all, "random lists, L", (100 * share, 40, seed + 10), |_| over(listing_l(), "/mnt", 8192));
-    random_group(all, "random lists, long paths", (60 * share, 12, seed + 11), |_| {
+    random_group(all, "random lists, L", (100 * share, 40, seed + 10), base_call, |_| over(listing_l(), "/mnt", 8192));
+    random_group(all, "random lists, long paths", (60 * share, 12, seed + 11), base_call, |_| {
         (Setup::new(long_tree(), 1 << 15), long_pool())
     });
-    random_group(all, "random listings, short buffers", (200 * share, 12, seed + 12), |random| {
+    random_group(all, "random listings, short buffers", (200 * share, 12, seed + 12), base_call, |random| {
         over(random_tree(random), "/mnt", 20 + random.below(300))
     });
+    let named = |rest: &str| format!("also append and writing inside, {rest}");
+    random_group(all, &named("random listings"), (300 * share, 14, seed + 14), partial_call, |random| {
+        over(with_short_files(random_tree(random)), "/mnt", 4096)
+    });
+    random_group(all, &named("L"), (60 * share, 40, seed + 15), partial_call, |_| over(listing_l(), "/m/a-b", 8192));
+    random_group(all, &named("long paths"), (30 * share, 12, seed + 16), partial_call, |_| {
+        (Setup::new(long_tree(), 1 << 15), long_pool())
+    });
+    random_group(all, &named("short buffers"), (100 * share, 12, seed + 17), partial_call, |random| {
+        over(with_short_files(random_tree(random)), "/mnt", 20 + random.below(300))
+    });
+}
+
+/// How many calls of change request #103 were compared, with the original and without it.
+fn print_partial(all: &Count) {
+    for name in ["append", "write_at"] {
+        for asked in [true, false] {
+            let of = |((op, number, with), count): (&(&str, u8, bool), &u64)| {
+                (*op == name && *with == asked).then_some((*number, *count))
+            };
+            let each: Vec<(u8, u64)> = all.partial.iter().filter_map(of).collect();
+            let sum: u64 = each.iter().map(|(_, count)| count).sum();
+            let each: Vec<String> = each.iter().map(|(number, count)| format!("{count} with {number}")).collect();
+            let beside = if asked { "beside the original" } else { "by the port and the model alone" };
+            println!("{name} {beside}: {sum} calls, {}.", each.join(", "));
+        }
+    }
 }
 
 pub fn run(long: bool, seed: u64) -> u64 {
     let (most, share) = if long { (8000, 40) } else { (250, 1) };
-    let numbers = "0 | 3 | 4 | 5 | 6 | 7 | 8 | 9 | 10 | 11 | 12 | 13";
+    let numbers = "0 | 3 | 4 | 5 | 6 | 7 | 8 | 9 | 10 | 11 | 12 | 13 | 17 | 18";
     println!();
     println!("| runs | lists or tables | calls | queries | shows | limits found | {numbers} | differences | s |");
-    println!("|{}", "---|".repeat(20));
+    println!("|{}", "---|".repeat(22));
     let (start, mut all) = (Instant::now(), Count::default());
     exhaustive_groups(&mut all, most);
     random_groups(&mut all, share, seed * 1000);
-    group(&mut all, "port and model: E 0, 1 and 4096, paths out of form", |count| {
-        let done = other_entry_sizes(1000 * share, seed * 1000 + 13, count);
-        done.map(|()| "").map_err(|found| (Setup::new(Tree::new(), 0), found))
-    });
+    let alone: [(&str, u64, Make); 2] = [("", 13, base_call), (", also append and writing inside", 18, partial_call)];
+    for (rest, number, make) in alone {
+        group(&mut all, &format!("port and model: E 0, 1 and 4096, paths out of form{rest}"), |count| {
+            let done = other_entry_sizes(1000 * share, seed * 1000 + number, make, count);
+            done.map(|()| "").map_err(|found| (Setup::new(Tree::new(), 0), found))
+        });
+    }
     all.row("all", start.elapsed().as_secs_f64());
     println!();
     let each: Vec<String> = all.shows.iter().map(|(number, count)| format!("{count} with {number}")).collect();
@@ -340,6 +414,7 @@ pub fn run(long: bool, seed: u64) -> u64 {
     println!("Shown beside `iterdir` of the original: {shows} paths, {}.", each.join(", "));
     println!("The names are the same as a set; {} links that the original lists are left aside.", all.links);
     println!("Shown by the port and the model alone: {} paths.", all.shows_without);
+    print_partial(&all);
     println!();
     all.differences
 }

@@ -33,7 +33,7 @@ impl Step {
     /// The destination or the data.
     fn second(&self) -> &[u8] {
         match &self.call.op {
-            Op::Write { data } => data,
+            Op::Write { data } | Op::Append { data, .. } | Op::WriteAt { data, .. } => data,
             Op::Rename { to } => to.as_bytes(),
             _ => &[],
         }
@@ -202,10 +202,11 @@ fn length(bytes: &[u8]) -> [u8; 4] {
     u32::try_from(bytes.len()).expect("a short string of bytes").to_le_bytes()
 }
 
-/// A changing call as a step of a script (docs/FORMATS.md, "The script"); a query has none.
+/// A changing call as a step of a script of the mark TSC1 (docs/FORMATS.md, "The script"). A query has none, and append
+/// and writing inside are not in the sample.
 fn script_step(step: &Step) -> Option<Vec<u8>> {
     let kind = match step.call.op {
-        Op::Exists | Op::IsFile | Op::IsDir | Op::Show => return None,
+        Op::Exists | Op::IsFile | Op::IsDir | Op::Show | Op::Append { .. } | Op::WriteAt { .. } => return None,
         Op::Write { .. } => 1,
         Op::Mkdir { .. } => 2,
         Op::Unlink => 3,

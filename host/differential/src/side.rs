@@ -2,16 +2,34 @@
 
 use std::{collections::BTreeMap, fmt};
 
+use cap_std::fs::content;
+
 #[derive(Debug, Clone, PartialEq, Eq)]
 pub enum Op {
     Exists,
     IsFile,
     IsDir,
-    Write { data: Vec<u8> },
-    Mkdir { parents: bool, exist_ok: bool },
+    Write {
+        data: Vec<u8>,
+    },
+    /// It is lent the bytes of the listed file that it needs, and so many more, or fewer.
+    Append {
+        data: Vec<u8>,
+        more: i8,
+    },
+    WriteAt {
+        data: Vec<u8>,
+        offset: u64,
+    },
+    Mkdir {
+        parents: bool,
+        exist_ok: bool,
+    },
     Unlink,
     Rmdir,
-    Rename { to: String },
+    Rename {
+        to: String,
+    },
     Show,
 }
 
@@ -22,12 +40,19 @@ impl Op {
             Op::IsFile => "is_file",
             Op::IsDir => "is_dir",
             Op::Write { .. } => "write",
+            Op::Append { .. } => "append",
+            Op::WriteAt { .. } => "write_at",
             Op::Mkdir { .. } => "mkdir",
             Op::Unlink => "unlink",
             Op::Rmdir => "rmdir",
             Op::Rename { .. } => "rename",
             Op::Show => "show",
         }
+    }
+
+    /// Whether it is one of change request #103's: it changes a part of a content.
+    pub fn is_partial(&self) -> bool {
+        matches!(self, Op::Append { .. } | Op::WriteAt { .. })
     }
 
     /// Whether it leaves table and record as they were, whatever it answers.
@@ -54,7 +79,7 @@ impl Call {
 
     /// Whether its mtime is an argument of the port.
     pub fn takes_mtime(&self) -> bool {
-        matches!(self.op, Op::Write { .. } | Op::Mkdir { .. })
+        matches!(self.op, Op::Write { .. } | Op::Mkdir { .. }) || self.op.is_partial()
     }
 }
 
@@ -63,6 +88,9 @@ impl fmt::Display for Call {
         write!(out, "{} `{}`", self.op.name(), self.path.escape_debug())?;
         match &self.op {
             Op::Write { data } => write!(out, " {} bytes", data.len())?,
+            Op::Append { data, more: 0 } => write!(out, " {} bytes", data.len())?,
+            Op::Append { data, more } => write!(out, " {} bytes, {more:+} lent", data.len())?,
+            Op::WriteAt { data, offset } => write!(out, " {} bytes at {offset}", data.len())?,
             Op::Mkdir { parents, exist_ok } => {
                 write!(out, "{}{}", if *parents { " parents" } else { "" }, if *exist_ok { " exist_ok" } else { "" })?;
             }
@@ -161,6 +189,15 @@ pub fn encoded(entries: &Entries) -> Vec<u8> {
         table.extend(&entry.body);
     }
     table
+}
+
+/// The bytes that an append is lent: those of the file of the host that is listed at this path with this size, and so
+/// many more, or fewer. A file that is too long for its content to be made lends none of its own.
+pub fn lent(file: Option<(&str, i64)>, more: i8) -> Vec<u8> {
+    let mut bytes = file.and_then(|(path, size)| content(path, size)).unwrap_or_default();
+    let length = bytes.len().saturating_add_signed(more.into());
+    bytes.resize(length, 0x55);
+    bytes
 }
 
 /// One of the programs compared, with the table that its calls have built so far.

@@ -58,15 +58,14 @@ impl World {
     }
 
     /// Puts one call to all sides; what parts is told in words. Where the cause of 12 or 13 holds, the original is
-    /// left out.
+    /// left out, and where it cannot be asked (`asks_original`).
     pub fn call(&mut self, call: &Call) -> Result<Answer, String> {
         if call.op == Op::Show {
             return self.show(&call.path).map(|(answer, _)| answer);
         }
         // The cause of 12 and 13 does not hang on the mtime, so the model is asked apart first.
-        let mut tried = self.model.copy();
-        let foretold = tried.call(call, UNUSED_MTIME);
-        if matches!(foretold.number, 3 | 12 | 13) {
+        let foretold = self.model.copy().call(call, UNUSED_MTIME);
+        if !asks_original(call, foretold) {
             return self.others(call, UNUSED_MTIME, foretold);
         }
         let answer = self.original.call(call, UNUSED_MTIME);
@@ -142,32 +141,68 @@ impl World {
     }
 
     /// The smallest limit at which the original does not refuse the call by 11, if some limit is refused.
-    /// Found on copies by the original alone: first at the charge after the call, then by halving above it.
+    /// Found on copies by the original alone: first at the charge after the call, then by halving above it. Where the
+    /// original cannot be asked without a limit, the model is in its place.
     pub fn threshold(&self, call: &Call) -> Option<u64> {
-        let at = |limit: u64| {
-            let mut side = self.original.copy();
-            let number = side.call(&call.at(limit), UNUSED_MTIME).number;
-            (number, side.charge())
-        };
-        let (free, after) = at(u64::MAX);
-        if call.op.only_asks() || at(0).0 != 11 {
-            return None;
+        let free = self.model.copy().call(&call.at(u64::MAX), UNUSED_MTIME);
+        if call.op.is_partial() && !asks_original(call, free) {
+            return threshold_of(&self.model, call, u64::MAX);
         }
-        if free == 0 && at(after).0 != 11 && at(after - 1).0 == 11 {
-            return Some(after);
-        }
-        let (mut refused, mut passed) = (0, 1 << 40);
-        assert!(at(passed).0 != 11, "a limit of 2^40 is refused");
-        while passed - refused > 1 {
-            let middle = refused + (passed - refused) / 2;
-            if at(middle).0 == 11 {
-                refused = middle;
-            } else {
-                passed = middle;
-            }
-        }
-        Some(passed)
+        threshold_of(&self.original, call, 1 << 40)
     }
+
+    /// Limits around those that could decide a call of change request #103: the charge after it, and the charge before
+    /// it with the whole content. None for other calls, and where no limit lets it pass.
+    pub fn deciding(&self, call: &Call) -> Vec<u64> {
+        let mut tried = self.model.copy();
+        if !call.op.is_partial() || tried.call(&call.at(u64::MAX), UNUSED_MTIME).number != 0 {
+            return Vec::new();
+        }
+        let content = tried.entries()[&call.path].body.len() as u64;
+        [tried.charge(), self.model.charge() + content]
+            .into_iter()
+            .flat_map(|limit: u64| [limit.saturating_sub(1), limit])
+            .collect()
+    }
+}
+
+/// Whether the original can be asked a call that the model answers so: not where a path is out of form, nor beyond
+/// bounds that it has not (12 and 13), nor with other bytes than those of its host (17), nor where it would hold 2^64
+/// bytes or more, which its sums count as 2^64 - 1.
+pub fn asks_original(call: &Call, foretold: Answer) -> bool {
+    let beyond = foretold.number == 11 && call.limit == u64::MAX;
+    !matches!(foretold.number, 3 | 12 | 13 | 17) && !beyond
+}
+
+/// The smallest limit at which a side does not refuse the call by 11, if some limit is refused; at most the last one.
+fn threshold_of(side: &impl Side, call: &Call, last: u64) -> Option<u64> {
+    let at = |limit: u64| {
+        let mut side = side.copy();
+        let number = side.call(&call.at(limit), UNUSED_MTIME).number;
+        (number, side.charge())
+    };
+    let (free, after) = at(u64::MAX);
+    if call.op.only_asks() || at(0).0 != 11 {
+        return None;
+    }
+    if free == 0 && at(after).0 != 11 && at(after - 1).0 == 11 {
+        return Some(after);
+    }
+    let (mut refused, mut passed) = (0, last);
+    if last == u64::MAX && free == 11 {
+        // No limit lets it pass.
+        return None;
+    }
+    assert!(at(passed).0 != 11, "a limit of {last} is refused");
+    while passed - refused > 1 {
+        let middle = refused + (passed - refused) / 2;
+        if at(middle).0 == 11 {
+            refused = middle;
+        } else {
+            passed = middle;
+        }
+    }
+    Some(passed)
 }
 
 /// Runs a list from an empty table; the answers, or where it parts.

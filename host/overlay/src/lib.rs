@@ -5,6 +5,7 @@
 //! ends, and a refused call changes nothing. This crate keeps the buffers and gives the answers Rust's form.
 //!
 //! [`Overlay`] owns its buffers, [`OverlayMut`] borrows them, and [`raw`] has the calls on plain slices.
+//! [`Overlay::append_bytes`] adds to a file, a listed one too, and [`Overlay::write_file_at`] writes inside an own one.
 //! [`Overlay::show`] shows a directory, and [`Overlay::walk`] goes through the whole visible tree. A [`Script`] is a
 //! list of calls, to be run as one. [`Overlay::save`] and [`Overlay::load`] keep a table and its listing in a file.
 //!
@@ -27,6 +28,7 @@
 //! # Ok::<(), Refusal>(())
 //! ```
 
+mod content;
 mod entries;
 mod kept;
 pub mod raw;
@@ -34,6 +36,7 @@ mod refusal;
 mod script;
 mod show;
 
+pub use content::ListedFile;
 pub use entries::{Entries, Entry, EntryKind};
 pub use kept::{FileError, KEPT_ENTRY_SIZE, KEPT_OVERHEAD, KeptListing};
 pub use refusal::{Refusal, unpack};

@@ -66,6 +66,8 @@ mod exported {
     }
     changes! {
         overlay_write_bytes(d: *const u8, dn: usize, mtime: u64, limit: u64)
+        overlay_append_bytes(d: *const u8, dn: usize, b: *const u8, bn: usize, mtime: u64, limit: u64)
+        overlay_write_file_at(d: *const u8, dn: usize, offset: u64, mtime: u64, limit: u64)
         overlay_mkdir(parents: bool, exist_ok: bool, mtime: u64, limit: u64)
         overlay_unlink(limit: u64)
         overlay_rmdir(limit: u64)
@@ -159,6 +161,34 @@ macro_rules! change {
 /// The data becomes the content of the path's own file.
 pub fn write_bytes(listing: &[u8], lent: &mut Lent, path: &[u8], data: &[u8], mtime: u64, limit: u64) -> u64 {
     change!(overlay_write_bytes, listing, lent, path, data.as_ptr(), data.len(), mtime, limit)
+}
+
+/// The data is put behind the content of the file at the path. `bytes` are those of the listed file that is visible
+/// there, or none.
+pub fn append_bytes(
+    listing: &[u8],
+    lent: &mut Lent,
+    path: &[u8],
+    data: &[u8],
+    bytes: &[u8],
+    mtime: u64,
+    limit: u64,
+) -> u64 {
+    let (data, bytes) = ((data.as_ptr(), data.len()), (bytes.as_ptr(), bytes.len()));
+    change!(overlay_append_bytes, listing, lent, path, data.0, data.1, bytes.0, bytes.1, mtime, limit)
+}
+
+/// The data is written inside the path's own file, from the offset on.
+pub fn write_file_at(
+    listing: &[u8],
+    lent: &mut Lent,
+    path: &[u8],
+    data: &[u8],
+    offset: u64,
+    mtime: u64,
+    limit: u64,
+) -> u64 {
+    change!(overlay_write_file_at, listing, lent, path, data.as_ptr(), data.len(), offset, mtime, limit)
 }
 
 /// A directory at the path; with `parents`, at its missing ancestors too.

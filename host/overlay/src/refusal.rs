@@ -28,7 +28,7 @@ pub enum Refusal {
     NotEmpty { path: u8, len: u64 },
     /// 10: the destination of a rename lies below its source.
     BelowSource { len: u64 },
-    /// 11: the charge, or what a rename plans, exceeds the limit.
+    /// 11: the charge, what a rename plans, or an append's whole content beside the charge exceeds the limit.
     Limit,
     /// 12: a moved key has more than 512 bytes or 32 components.
     KeyTooLong,
@@ -40,10 +40,15 @@ pub enum Refusal {
     Damaged,
     /// 16: a table of another entry size than [`KEPT_ENTRY_SIZE`](crate::KEPT_ENTRY_SIZE) is not written to a file.
     OtherEntrySize,
+    /// 17: the bytes lent to an append are not as many as the listed file's recorded size, or not 0 where none are
+    /// needed.
+    LentCount,
+    /// 18: the offset of a writing inside and the data's length together exceed 2^64 − 1.
+    RangeTooLarge,
 }
 
 impl Refusal {
-    /// The number of this refusal, from 1 to 16.
+    /// The number of this refusal, from 1 to 18.
     pub fn number(self) -> u8 {
         self.parts().0
     }
@@ -77,6 +82,8 @@ impl Refusal {
             NotKept => (14, 0, 0),
             Damaged => (15, 0, 0),
             OtherEntrySize => (16, 0, 0),
+            LentCount => (17, 0, 0),
+            RangeTooLarge => (18, 0, 0),
         }
     }
 }
@@ -112,6 +119,8 @@ pub fn unpack(answer: u64) -> Result<u64, Refusal> {
         14 => NotKept,
         15 => Damaged,
         16 => OtherEntrySize,
+        17 => LentCount,
+        18 => RangeTooLarge,
         number => panic!("{number} is no number of an answer"),
     })
 }
@@ -136,6 +145,8 @@ impl fmt::Display for Refusal {
             NotKept => "no kept file of a known version",
             Damaged => "kept file damaged",
             OtherEntrySize => "entry size not that of a kept file",
+            LentCount => "lent bytes not as many as the listed file has",
+            RangeTooLarge => "offset and data length together too large",
         };
         let (number, path, len) = self.parts();
         match number {
@@ -152,7 +163,7 @@ impl Error for Refusal {}
 fn every_answer_is_unpacked() {
     assert_eq!(unpack(0), Ok(0));
     assert_eq!(unpack(u64::MAX << 16), Ok(u64::MAX >> 16));
-    for number in 1..=16 {
+    for number in 1..=18 {
         let refusal = unpack(number | 1 << 8 | 300 << 16).unwrap_err();
         let (path, length) = match number {
             1 | 2 | 11.. => (0, 0),
@@ -167,10 +178,11 @@ fn every_answer_is_unpacked() {
     assert_eq!(Refusal::MalformedPath { path: 0 }.to_string(), "path malformed (3, path 0)");
     assert_eq!(Refusal::NoRoom.to_string(), "no room in the table or the output (13)");
     assert_eq!(Refusal::Damaged.to_string(), "kept file damaged (15)");
+    assert_eq!(Refusal::LentCount.to_string(), "lent bytes not as many as the listed file has (17)");
 }
 
 #[test]
-#[should_panic(expected = "17 is no number of an answer")]
+#[should_panic(expected = "19 is no number of an answer")]
 fn no_other_number() {
-    let _ = unpack(17);
+    let _ = unpack(19);
 }

@@ -6,9 +6,16 @@ use std::{error::Error, fmt};
 pub const ROW_LENGTH: usize = 32;
 
 const HEAD_LENGTH: usize = 8;
-const STEP_HEAD_LENGTH: usize = 24;
 
-/// A list of changing calls, each with its limit, as [`Overlay::run`](crate::Overlay::run) takes it.
+/// The bytes of a step before its parts, by the script's mark.
+const STEP_HEAD_LENGTH: usize = 24;
+const WIDE_STEP_HEAD_LENGTH: usize = 36;
+
+/// The mark of a script in which a step has an offset and a third part too.
+const WIDE_MARK: &[u8] = b"TSC2";
+
+/// A list of changing calls, each with its limit, as [`Overlay::run`](crate::Overlay::run) takes it. Its bytes have the
+/// mark `TSC1`, and `TSC2` from the first append or writing inside on.
 ///
 /// ```
 /// use overlay::{EMPTY_LISTING, Mkdir, Overlay, Refusal, Script};
@@ -41,8 +48,8 @@ impl AsRef<[u8]> for Script {
 /// Each call is put behind those that are there.
 ///
 /// # Panics
-/// Where a path or a rename's source has more than 65,535 bytes (no call accepts one of more than 512), data or a
-/// rename's destination more than 4,294,967,295, or where there are as many calls.
+/// Where a path or a rename's source has more than 65,535 bytes (no call accepts one of more than 512), data, a
+/// rename's destination or what is lent more than 4,294,967,295, or where there are as many calls.
 impl Script {
     /// The script without calls.
     pub fn new() -> Script {
@@ -70,18 +77,76 @@ impl Script {
         self.step(5, 0, source.as_ref(), destination.as_ref(), Mtime::default(), limit);
     }
 
+    /// `lent` are the bytes of the listed file that is visible at the path when the call is made, or none.
+    pub fn append_bytes(
+        &mut self,
+        path: impl AsRef<[u8]>,
+        data: &[u8],
+        lent: &[u8],
+        mtime: impl Into<Mtime>,
+        limit: u64,
+    ) {
+        self.widen();
+        self.put(6, 0, [path.as_ref(), data, lent], [mtime.into().to_bits(), limit, 0]);
+    }
+
+    pub fn write_file_at(
+        &mut self,
+        path: impl AsRef<[u8]>,
+        data: &[u8],
+        offset: u64,
+        mtime: impl Into<Mtime>,
+        limit: u64,
+    ) {
+        self.widen();
+        self.put(7, 0, [path.as_ref(), data, b""], [mtime.into().to_bits(), limit, offset]);
+    }
+
+    fn is_wide(&self) -> bool {
+        self.0.starts_with(WIDE_MARK)
+    }
+
+    /// Gives the script the mark `TSC2`, and each of its steps an offset and the length of a third part, both 0.
+    fn widen(&mut self) {
+        if self.is_wide() {
+            return;
+        }
+        let mut wide = [WIDE_MARK, &self.0[WIDE_MARK.len()..HEAD_LENGTH]].concat();
+        let mut rest = &self.0[HEAD_LENGTH..];
+        while let Some((head, behind)) = rest.split_at_checked(STEP_HEAD_LENGTH) {
+            let first_length = u16::from_le_bytes([head[2], head[3]]) as usize;
+            let second_length = u32::from_le_bytes([head[4], head[5], head[6], head[7]]) as usize;
+            let (parts, next) = behind.split_at(first_length + second_length);
+            wide.extend(head);
+            wide.extend([0; WIDE_STEP_HEAD_LENGTH - STEP_HEAD_LENGTH]);
+            wide.extend(parts);
+            rest = next;
+        }
+        self.0 = wide;
+    }
+
     fn step(&mut self, kind: u8, flags: u8, first: &[u8], second: &[u8], mtime: Mtime, limit: u64) {
+        self.put(kind, flags, [first, second, b""], [mtime.to_bits(), limit, 0]);
+    }
+
+    /// The numbers are mtime bits, limit and offset. In a script that is not wide there is no offset and no third part.
+    fn put(&mut self, kind: u8, flags: u8, parts: [&[u8]; 3], numbers: [u64; 3]) {
+        let ([first, second, third], [mtime, limit, offset]) = (parts, numbers);
         let first_length = u16::try_from(first.len()).expect("a path of at most 65,535 bytes");
         let second_length = u32::try_from(second.len()).expect("data of at most 4,294,967,295 bytes");
+        let third_length = u32::try_from(third.len()).expect("at most 4,294,967,295 lent bytes");
         let count = counted(&self.0).checked_add(1).expect("at most 4,294,967,295 calls");
         self.0[4..HEAD_LENGTH].copy_from_slice(&count.to_le_bytes());
         self.0.extend([kind, flags]);
         self.0.extend(first_length.to_le_bytes());
         self.0.extend(second_length.to_le_bytes());
-        self.0.extend(mtime.to_bits().to_le_bytes());
+        self.0.extend(mtime.to_le_bytes());
         self.0.extend(limit.to_le_bytes());
-        self.0.extend(first);
-        self.0.extend(second);
+        if self.is_wide() {
+            self.0.extend(offset.to_le_bytes());
+            self.0.extend(third_length.to_le_bytes());
+        }
+        self.0.extend([first, second, third].concat());
     }
 }
 

@@ -139,7 +139,8 @@ impl Field {
             Op::Unlink => fs::remove_file(path),
             Op::Rmdir => fs::remove_dir(path),
             Op::Rename { to } => fs::rename(path, self.at(to)),
-            Op::Exists | Op::IsFile | Op::IsDir | Op::Show => Ok(()),
+            // Not among the calls that are tried here.
+            Op::Exists | Op::IsFile | Op::IsDir | Op::Show | Op::Append { .. } | Op::WriteAt { .. } => Ok(()),
         };
         done.map_err(|error| error.raw_os_error().unwrap_or(-1))
     }

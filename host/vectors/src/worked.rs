@@ -4,8 +4,9 @@
 use crate::json::Json;
 use std::collections::{BTreeMap, BTreeSet};
 
-/// What each call can give, by document 01: a query's yes and no, and the numbers of the others, 0 for accepted.
-const CAN_GIVE: [(&str, &[&str]); 9] = [
+/// What each call can give, by document 01 and change request #103: a query's yes and no, and the numbers of the
+/// others, 0 for accepted. Each by the name in its rows' ids.
+const CAN_GIVE: [(&str, &[&str]); 11] = [
     ("open", &["0", "1"]),
     ("exists", &["yes", "no", "1", "2", "3"]),
     ("is_file", &["yes", "no", "1", "2", "3"]),
@@ -15,7 +16,12 @@ const CAN_GIVE: [(&str, &[&str]); 9] = [
     ("unlink", &["0", "1", "2", "3", "4", "5", "8", "11", "13"]),
     ("rmdir", &["0", "1", "2", "3", "4", "5", "7", "9", "11", "13"]),
     ("rename", &["0", "1", "2", "3", "4", "5", "7", "8", "9", "10", "11", "12", "13"]),
+    ("append", &["0", "1", "2", "3", "4", "5", "8", "11", "13", "17"]),
+    (INSIDE, &["0", "1", "2", "3", "5", "11", "13", "18"]),
 ];
+
+/// The call `write_at` in ids.
+const INSIDE: &str = "inside";
 
 /// The head of every table of rows in the page.
 const HEAD: &str = "| id | listing | table before | call | where it matters | answer | charge | entries after | why |";
@@ -164,13 +170,28 @@ fn listing(vector: &Json) -> Result<String, String> {
     Ok(names.join(" "))
 }
 
+/// The offset of a writing inside.
+fn offset(value: u64) -> String {
+    let below = value.wrapping_neg();
+    if (1..10).contains(&below) { format!("2^64 − {below}") } else { number(value) }
+}
+
 /// A call with its arguments.
 fn call(call: &Json) -> String {
-    let op = call.get("op").text();
+    let op = match call.get("op").text() {
+        "write_at" => "write inside",
+        op => op,
+    };
     let paths: Vec<String> = call.get("paths").list().iter().map(|p| path(&p.bytes())).collect();
     let mut words = format!("{op} {}", paths.join(" to "));
     if let Some(data) = call.find("data").map(Json::bytes) {
         words += &if data.is_empty() { ", no data".into() } else { format!(", data {}", text(&data)) };
+    }
+    if let Some(lent) = call.find("lent").map(Json::bytes).filter(|lent| !lent.is_empty()) {
+        words += &format!(", lent {}", text(&lent));
+    }
+    if let Some(at) = call.find("offset") {
+        words += &format!(", offset {}", offset(at.number()));
     }
     for flag in ["parents", "exist_ok"] {
         if call.find(flag).is_some_and(Json::flag) {
@@ -263,7 +284,7 @@ impl Rows {
         }
         let (outcome, answer) = match (refusal, op) {
             (0, _) if query => (["no", "yes"][value as usize].into(), ["no", "yes"][value as usize].into()),
-            (0, "write") => ("0".into(), format!("0, value {}", number(value))),
+            (0, "write" | "append" | "write_at") => ("0".into(), format!("0, value {}", number(value))),
             (0, _) => ("0".into(), "0".into()),
             _ => (refusal.to_string(), format!("{refusal} ({named}, {})", number(length))),
         };
@@ -290,7 +311,7 @@ impl Rows {
             made.find("entries").map_or("as before".into(), entries),
             made.get("why").text().into(),
         ];
-        self.add(op, outcome, made.get("id"), cells)
+        self.add(if op == "write_at" { INSIDE } else { op }, outcome, made.get("id"), cells)
     }
 
     /// Every number that a call can give has a row, and no row has another one.
@@ -379,6 +400,7 @@ mod tests {
         assert_eq!(text(b"a/kkkkkkkkkkk/\xc1"), "`a/{k×11}/{c1}`");
         assert_eq!(text(b"x/x/x/x/x/x/x/x/x/x/x"), "`{x/×10}x`");
         assert_eq!([1.0f64.to_bits(), 0, 0x7ff8_0000_0000_0001].map(mtime), ["1.0", "0.0", "bits 7ff8000000000001"]);
+        assert_eq!([0, 1 << 40, u64::MAX].map(offset), ["0", "1,099,511,627,776", "2^64 − 1"]);
     }
 
     const CALLS: &str = r#"{"t":"run","listing":"52444c010000000000","e":40,"room":512,"calls":[

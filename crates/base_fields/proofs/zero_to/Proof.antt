@@ -1,7 +1,7 @@
 -- `base_fields::zero_to` meets its contract. The invariant: t is t₀ with zeros from `from` up to `at`.
 -- The measure is what is left up to `to`.
 use mathlib.Core.Path.{_≡_, ap, _∙_}
-use Prim.Native.Nat.{ℕ, _-_, _≤_}
+use Prim.Native.Nat.{_-_, _≤_}
 use native.Mathlib.Omega.{arith}
 use lib.ListN.{length, set}
 use Rattle.model.specs.Bytes.{Bytes}

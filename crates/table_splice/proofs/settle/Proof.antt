@@ -1,5 +1,4 @@
 -- `settle` meets its contract: nothing is touched, or the table is finished.
-use mathlib.Core.Path.{refl}
 use Rattle.table_splice.proofs.Begins.{is-refused, is-done, settled-not, settled-done}
 use borrow.Author.Needs.{needs}
 use Rattle.table_splice.proofs.settle.Statement.{statement}
@@ -13,11 +12,7 @@ returns c =
     let d = c .before .is-done in
     let a = c .before .before .before .before .args in
     let x = a .splice in
-    let m = x .merge in (
-      refl,
-      λ w t k b. settled-not (a .table .now) w (a .work .now) t k (x .answer) (m .left) (m .at) (m .out) (a .rec .used) b
-          (is-refused (x .answer) (d .result) (d .ensures) (c .if1 .taken)),
-    )
+    λ l k v w b. settled-not (a .table .now) (a .rec) l k v x w (a .work .now) b (is-refused (x .answer) (d .result) (d .ensures) (c .if1 .taken))
 
 finish-requires : tie.Need-finish-requires
 finish-requires c κs =
@@ -40,11 +35,8 @@ returns-2 c =
     let d = i .before .is-done in
     let a = i .before .before .before .before .args in
     let x = a .splice in
-    let m = x .merge in (
-      refl,
-      λ w t k b. settled-done (a .table .now) w (a .work .now) t k (x .answer) (m .left) (m .at) (m .out) (a .rec .used) b _ _
-          (is-done (x .answer) (d .result) (d .ensures) (i .if1 .left)) (f .ensures .0) (f .ensures .1),
-    )
+    λ l k v w b. settled-done (a .table .now) (a .rec) l k v x w (a .work .now) b _ _ (is-done (x .answer) (d .result) (d .ensures) (i .if1 .left))
+    (f .ensures .0) (f .ensures .1)
 
 pub settle-spec : {M : Type 1} → statement M
 settle-spec =

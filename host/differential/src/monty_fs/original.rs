@@ -1,5 +1,6 @@
-//! The original as one side of a comparison: `execute` of overlay.rs over a listing, its answers as document 01's
-//! numbers. Assumes paths in document 01's form, a mount's name in the same form, and no limit on bytes written.
+//! The original as one side of a comparison: `execute` of overlay.rs and `write_file_at` of overlay_state.rs over a
+//! listing, their answers as document 01's numbers. Assumes paths in document 01's form, a mount's name in the same
+//! form, and no limit on bytes written.
 
 use std::{io::ErrorKind, mem};
 
@@ -7,7 +8,7 @@ use cap_std::fs::{Dir, Links, Manner};
 use monty_types::MontyObject;
 
 use super::{
-    common::MountContext,
+    common::{MountContext, current_timestamp},
     dispatch::FsRequest,
     error::MountError,
     overlay::execute,
@@ -39,6 +40,8 @@ impl Original {
             Op::IsFile => FsRequest::IsFile { path },
             Op::IsDir => FsRequest::IsDir { path },
             Op::Write { data } => FsRequest::WriteBytes { path, data: data.clone() },
+            Op::Append { data, .. } => FsRequest::AppendBytes { path, data: data.clone() },
+            Op::WriteAt { data, offset } => return self.write_file_at(call, data, *offset, &path),
             Op::Mkdir { parents, exist_ok } => FsRequest::Mkdir { path, parents: *parents, exist_ok: *exist_ok },
             Op::Unlink => FsRequest::Unlink { path },
             Op::Rmdir => FsRequest::Rmdir { path },
@@ -56,6 +59,15 @@ impl Original {
             memory_usage_limit: call.limit,
         };
         execute(request, &mut context, &mut self.state)
+    }
+
+    /// `write_file_at` itself: `execute` has only `write_bytes_at` above it, which refuses an offset past the end.
+    fn write_file_at(&mut self, call: &Call, data: &[u8], offset: u64, path: &str) -> Result<MontyObject, MountError> {
+        let offset = usize::try_from(offset).expect("64 bits");
+        match self.state.write_file_at(&call.path, offset, data, current_timestamp(), call.limit)? {
+            true => Ok(MontyObject::Int(data.len() as i64)),
+            false => Err(MountError::not_found(path)),
+        }
     }
 
     /// The names that `iterdir` gives, in its order, over a host with links of this sort.
@@ -87,6 +99,7 @@ impl Original {
                 assert_eq!(*limit, call.limit, "the limit in the error");
                 return Answer::refused(11);
             }
+            MountError::InvalidArgument(text) if text == "write range is too large" => return Answer::refused(18),
             MountError::Io(error, path) => (io_number(error.kind()), path),
             _ => (255, &String::new()),
         };

@@ -4,7 +4,8 @@
 //! Nothing changes during a call, no lookup fails but for a path that is not there, and a directory's entries come
 //! ascending. A link has no target: following one stops the program, so a run that ends has followed none. Only where a
 //! directory's links are to be told apart (`Links`) may the metadata of what a link leads to be asked.
-//! Files are never opened: no compared call reads or writes a host file.
+//! A file may be opened and read, which adding to a listed file does; its content is made from its path and its size
+//! (`content`). None is ever written.
 
 pub mod time {
     pub struct SystemTime(pub(crate) std::time::SystemTime);
@@ -20,7 +21,7 @@ pub mod fs {
     use std::{
         collections::BTreeMap,
         ffi::OsString,
-        io::{self, ErrorKind, Read, Seek, SeekFrom, Write},
+        io::{self, Cursor, ErrorKind, Read, Seek, SeekFrom, Write},
         path::Path,
         rc::Rc,
         time::{Duration, UNIX_EPOCH},
@@ -69,6 +70,15 @@ pub mod fs {
         fn new(kind: Kind, mtime: f64, size: i64) -> Self {
             Self { kind, mtime, size, children: BTreeMap::new() }
         }
+    }
+
+    /// The bytes of the longest file whose content can be made.
+    const LONGEST: i64 = 1 << 24;
+
+    /// The content of a listed file, made so that files and their bytes differ; none where it would be too long.
+    pub fn content(path: &str, size: i64) -> Option<Vec<u8>> {
+        let start = path.bytes().fold(7_u8, |sum, byte| sum.wrapping_mul(31).wrapping_add(byte));
+        (size <= LONGEST).then(|| (0..size).map(|at| start.wrapping_add(at as u8).wrapping_mul(167)).collect())
     }
 
     /// A directory of the listed tree.
@@ -163,8 +173,12 @@ pub mod fs {
             Ok(ReadDir { node: here.node, manner: self.manner, last: None })
         }
 
-        pub fn open_with(&self, _: impl AsRef<Path>, _: &OpenOptions) -> io::Result<File> {
-            Err(ErrorKind::Unsupported.into())
+        /// Opens a file to be read.
+        pub fn open_with(&self, path: impl AsRef<Path>, _: &OpenOptions) -> io::Result<File> {
+            let node = self.follow(path.as_ref())?;
+            let path = path.as_ref().to_str().expect("a path in UTF-8");
+            let content = content(path, node.size).filter(|_| node.kind == Kind::File).ok_or(ErrorKind::Unsupported)?;
+            Ok(File { content: Cursor::new(content), metadata: Metadata::of(node) })
         }
 
         pub fn create_dir(&self, _: impl AsRef<Path>) -> io::Result<()> {
@@ -239,6 +253,7 @@ pub mod fs {
         }
     }
 
+    #[derive(Debug, Clone, Copy)]
     pub struct Metadata {
         kind: Kind,
         mtime: f64,
@@ -277,33 +292,36 @@ pub mod fs {
         }
     }
 
-    /// An open file. There is none.
-    pub enum File {}
+    /// An open file, to be read.
+    pub struct File {
+        content: Cursor<Vec<u8>>,
+        metadata: Metadata,
+    }
 
     impl File {
         pub fn metadata(&self) -> io::Result<Metadata> {
-            match *self {}
+            Ok(self.metadata)
         }
     }
 
     impl Read for File {
-        fn read(&mut self, _: &mut [u8]) -> io::Result<usize> {
-            match *self {}
+        fn read(&mut self, into: &mut [u8]) -> io::Result<usize> {
+            self.content.read(into)
         }
     }
 
     impl Write for File {
         fn write(&mut self, _: &[u8]) -> io::Result<usize> {
-            match *self {}
+            Err(ErrorKind::Unsupported.into())
         }
         fn flush(&mut self) -> io::Result<()> {
-            match *self {}
+            Err(ErrorKind::Unsupported.into())
         }
     }
 
     impl Seek for File {
         fn seek(&mut self, _: SeekFrom) -> io::Result<u64> {
-            match *self {}
+            Err(ErrorKind::Unsupported.into())
         }
     }
 

@@ -1,4 +1,4 @@
-//! Stands for the crate `rustix`: one flag of `open`. No call compared here opens a file, so its value does not matter.
+//! Stands for the crate `rustix`: one flag of `open`. Opening a file looks at no flag here, so its value does not matter.
 
 pub mod fs {
     pub struct OFlags(u32);
