@@ -19,7 +19,7 @@ same-length-2 c = search needs
 
 returns : tie.Need-returns
 returns c =
-    let a = c .before .before .before .before .before .before .before .before .before .before .before .before .before .before .args in
+    let a = c .before .before .before .before .before .before .before .before .before .before .before .before .before .before .before .args in
     by-kind (a .listing .now) (a .work .now) (a .first .now) (a .second .now) (a .third .now) (stored (a .table .now) (a .rec)) (a .order) _
     (c .before .before .before .before .before .before .before .enum-told .given .1) (c .before .before .before .before .write-bytes .ensures)
 
@@ -37,7 +37,7 @@ same-length-4 c = search needs
 
 returns-2 : tie.Need-returns-2
 returns-2 c =
-    let a = c .before .before .before .before .before .before .before .before .before .before .before .before .before .before .args in
+    let a = c .before .before .before .before .before .before .before .before .before .before .before .before .before .before .before .args in
     by-kind (a .listing .now) (a .work .now) (a .first .now) (a .second .now) (a .third .now) (stored (a .table .now) (a .rec)) (a .order) _
     (c .before .before .before .before .before .before .before .enum-told2 .given .1) (c .before .before .before .before .append-bytes .ensures)
 
@@ -55,7 +55,7 @@ same-length-6 c = search needs
 
 returns-3 : tie.Need-returns-3
 returns-3 c =
-    let a = c .before .before .before .before .before .before .before .before .before .before .before .before .before .before .args in
+    let a = c .before .before .before .before .before .before .before .before .before .before .before .before .before .before .before .args in
     by-kind (a .listing .now) (a .work .now) (a .first .now) (a .second .now) (a .third .now) (stored (a .table .now) (a .rec)) (a .order) _
     (c .before .before .before .before .before .before .before .enum-told3 .given .1) (c .before .before .before .before .write-file-at .ensures)
 
@@ -73,7 +73,7 @@ same-length-8 c = search needs
 
 returns-4 : tie.Need-returns-4
 returns-4 c =
-    let a = c .before .before .before .before .before .before .before .before .before .before .before .before .before .before .args in
+    let a = c .before .before .before .before .before .before .before .before .before .before .before .before .before .before .before .args in
     by-kind (a .listing .now) (a .work .now) (a .first .now) (a .second .now) (a .third .now) (stored (a .table .now) (a .rec)) (a .order) _
     (c .before .before .before .before .before .before .before .enum-told4 .given .1) (c .before .before .before .before .mkdir .ensures)
 
@@ -91,7 +91,7 @@ same-length-10 c = search needs
 
 returns-5 : tie.Need-returns-5
 returns-5 c =
-    let a = c .before .before .before .before .before .before .before .before .before .before .before .before .before .before .args in
+    let a = c .before .before .before .before .before .before .before .before .before .before .before .before .before .before .before .args in
     by-kind (a .listing .now) (a .work .now) (a .first .now) (a .second .now) (a .third .now) (stored (a .table .now) (a .rec)) (a .order) _
     (c .before .before .before .before .before .before .before .enum-told5 .given .1) (c .before .before .before .before .unlink .ensures)
 
@@ -109,7 +109,7 @@ same-length-12 c = search needs
 
 returns-6 : tie.Need-returns-6
 returns-6 c =
-    let a = c .before .before .before .before .before .before .before .before .before .before .before .before .before .before .args in
+    let a = c .before .before .before .before .before .before .before .before .before .before .before .before .before .before .before .args in
     by-kind (a .listing .now) (a .work .now) (a .first .now) (a .second .now) (a .third .now) (stored (a .table .now) (a .rec)) (a .order) _
     (c .before .before .before .before .before .before .before .enum-told6 .given .1) (c .before .before .before .before .rmdir .ensures)
 
@@ -127,7 +127,7 @@ same-length-14 c = search needs
 
 returns-7 : tie.Need-returns-7
 returns-7 c =
-    let a = c .before .before .before .before .before .before .before .before .before .before .before .before .before .before .args in
+    let a = c .before .before .before .before .before .before .before .before .before .before .before .before .before .before .before .args in
     by-kind (a .listing .now) (a .work .now) (a .first .now) (a .second .now) (a .third .now) (stored (a .table .now) (a .rec)) (a .order) _
     (c .before .before .before .before .before .before .before .enum-told7 .given .1) (c .before .before .before .before .rename .ensures)
 
