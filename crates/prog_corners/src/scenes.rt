@@ -1,17 +1,22 @@
 // What the cases run over.
 // Other listings stand beside the texts that need them.
 
-// Document 01's listing L, and the empty one.
-pub fn over_l(n: usize, m: usize, entry_size: u64, list: &[u8]) {
+// Document 01's listing L, and another.
+pub fn over_both(second: &[u8], n: usize, m: usize, entry_size: u64, list: &[u8]) {
     test_cases::run(
         b"RDL\x01\x00\x04\x00\x00\x00\x01\x00\x01\x00\x00\x00\x00\x00\x00\xF0?\x00\x00\x00\x00\x00\x00\x00\x00a\x03\
         \x00\x02\x00\x00\x00\x00\x00\x00\x00@\x05\x00\x00\x00\x00\x00\x00\x00a/f\x01\x00\x03\x00\x00\x00\x00\x00\x00\
         \x00\x00\x00\x00\x00\x00\x00\x00\x00\x00l\x01\x00\x02\x00\x00\x00\x00\x00\x00\x00\x00\x00\x00\x00\x00\x00\x00\
         \x00\x00z",
-        b"RDL\x01\x00\x00\x00\x00\x00",
+        second,
         n,
         m,
         entry_size,
         list,
     );
+}
+
+// L, and the empty one.
+pub fn over_l(n: usize, m: usize, entry_size: u64, list: &[u8]) {
+    over_both(b"RDL\x01\x00\x00\x00\x00\x00", n, m, entry_size, list);
 }

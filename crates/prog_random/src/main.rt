@@ -1,7 +1,12 @@
 // Random lists of calls, over random listings, beside a plain tree. Each call's number is compared with the plain
 // rules'; after it all must be kept where it was refused, and where it was accepted the table must be well-formed, the
-// work buffer 0, the charge within the limit, and what is_file and is_dir say of every path the plain tree's. One call
-// in four has a limit near the charge: it may give 11 where the plain rules accept.
+// work buffer 0, the charge within the limit, what is_file and is_dir say of every path the plain tree's, and the
+// content of every own file too. One call in four has a limit near the charge: it may give 11 where the plain rules
+// accept. How many calls are accepted and refused is not known beforehand; `stdout` has the counts of a run without
+// differences.
+ghost use mathlib.Core.Path.{_≡_};
+ghost use mathlib.Core.Bool.{true};
+ghost use Rattle.model.specs.Table.{isTable};
 use call_values::Kind;
 use call_values::Order;
 use libc::STDOUT_FILENO;
@@ -9,33 +14,29 @@ use model::Answer;
 use model::Answered;
 use model::Finding;
 use model::Record;
+use table_entries::OverlayEntry;
+use test_rows::DIRECTORY;
+use test_rows::FILE;
+use test_rows::LINK;
+use test_rows::NOTHING;
+use test_rows::PATHS;
 
 const LARGE: u64 = 1_000_000;
 
 // The bits of 1.0.
 const MTIME: u64 = 0x3FF0_0000_0000_0000;
 
-// The plain tree has what is at each of 40 paths, by number: 0 is the root, which is always a directory, and the paths
-// in a directory have the three numbers behind 3 times its own. They are all paths of up to three components `a`, `a-b`
-// and `a0`; what has a larger number is not in the tree.
-const PATHS: usize = 40;
-
-const NOTHING: u8 = 0;
-
-const DIRECTORY: u8 = 1;
-
-const FILE: u8 = 2;
-
-const LINK: u8 = 3;
-
-// A call as it is drawn: w, m, u, r for rmdir or n for rename, the number of its path, and another: a rename's
-// destination, or the path that a write has as its data. The seed is the generator's number behind it.
+// A call as it is drawn: w, a for append, i for writing inside, m, u, r for rmdir or n for rename, the number of its
+// path, and another: a rename's destination, or the path that a write, an append or a writing inside has as its data.
+// An append is lent what it needs or, with `again`, its data. The seed is the generator's number behind it.
 struct Call {
     letter: u8,
     path: usize,
     other: usize,
     parents: bool,
     exist_ok: bool,
+    offset: u64,
+    again: bool,
     limit: u64,
     seed: u64,
 }
@@ -48,6 +49,8 @@ struct State {
     refused: u64,
     limited: u64,
     moved: u64,
+    added: u64,
+    inside: u64,
     wrong: u64,
 }
 
@@ -77,22 +80,6 @@ fn bytes(names: &[u8], i: usize) -> &[u8] {
     &names[..0]
 }
 
-fn kind(kinds: &[u8], i: usize) -> u8 {
-    if i == 0 {
-        return DIRECTORY;
-    }
-    if i < kinds.len() {
-        return kinds[i];
-    }
-    NOTHING
-}
-
-fn set(kinds: &mut [u8], i: usize, kind: u8) {
-    if i < kinds.len() {
-        kinds[i] = kind;
-    }
-}
-
 // Whether k is below a, which is not the root: no path has more than two proper ancestors beside the root.
 fn is_below(a: usize, k: usize) -> bool {
     let up = parent(k);
@@ -118,28 +105,28 @@ fn through(made: bool, kind: u8, below: u64) -> u64 {
 }
 
 // From the parent up, so that the topmost that refuses is the last to be seen, and decides.
-fn parents(kinds: &[u8], i: usize, made: bool) -> u64 {
+fn parents(tree: &[u8], i: usize, made: bool) -> u64 {
     let mut number = 0;
     let mut at = parent(i);
     for _step in 0..2u64 {
-        number = through(made, kind(kinds, at), number);
+        number = through(made, test_rows::kind(tree, at), number);
         at = parent(at);
     }
     number
 }
 
-fn has_child(kinds: &[u8], i: usize) -> bool {
+fn has_child(tree: &[u8], i: usize) -> bool {
     let mut found = false;
     for k in 1..PATHS {
-        found = found | ((parent(k) == i) & (kind(kinds, k) != NOTHING));
+        found = found | ((parent(k) == i) & (test_rows::kind(tree, k) != NOTHING));
     }
     found
 }
 
-fn has_link_below(kinds: &[u8], a: usize) -> bool {
+fn has_link_below(tree: &[u8], a: usize) -> bool {
     let mut found = false;
     for k in 1..PATHS {
-        found = found | (is_below(a, k) & (kind(kinds, k) == LINK));
+        found = found | (is_below(a, k) & (test_rows::kind(tree, k) == LINK));
     }
     found
 }
@@ -157,12 +144,12 @@ fn mkdir(there: u8, exist_ok: bool, parents: u64) -> u64 {
     6
 }
 
-// write, unlink and rmdir where the parents passed.
+// write, append, unlink and rmdir where the parents passed.
 fn other(letter: u8, there: u8, child: bool) -> u64 {
     if there == LINK {
         return 4;
     }
-    if (there == NOTHING) & (letter != b'w') {
+    if (there == NOTHING) & (letter != b'w') & (letter != b'a') {
         return 5;
     }
     if letter != b'r' {
@@ -181,22 +168,22 @@ fn other(letter: u8, there: u8, child: bool) -> u64 {
 }
 
 // Rename: roots, both paths' parents, and links at them.
-fn rename_places(kinds: &[u8], a: usize, b: usize) -> u64 {
+fn rename_places(tree: &[u8], a: usize, b: usize) -> u64 {
     if (a == 0) | (b == 0) {
         return 4;
     }
-    let first = parents(kinds, b, false);
+    let first = parents(tree, b, false);
     if first != 0 {
         return first;
     }
-    if kind(kinds, b) == LINK {
+    if test_rows::kind(tree, b) == LINK {
         return 4;
     }
-    let second = parents(kinds, a, false);
+    let second = parents(tree, a, false);
     if second != 0 {
         return second;
     }
-    if kind(kinds, a) == LINK {
+    if test_rows::kind(tree, a) == LINK {
         return 4;
     }
     0
@@ -220,9 +207,9 @@ fn rename_types(source: u8, there: u8, child: bool) -> u64 {
 }
 
 // Rename, where its places passed. The walk has no budget here, and gives 4 at a link.
-fn rename_moves(kinds: &[u8], a: usize, b: usize) -> u64 {
-    let source = kind(kinds, a);
-    let number = rename_types(source, kind(kinds, b), has_child(kinds, b));
+fn rename_moves(tree: &[u8], a: usize, b: usize) -> u64 {
+    let source = test_rows::kind(tree, a);
+    let number = rename_types(source, test_rows::kind(tree, b), has_child(tree, b));
     if number != 0 {
         return number;
     }
@@ -232,54 +219,75 @@ fn rename_moves(kinds: &[u8], a: usize, b: usize) -> u64 {
     if source == NOTHING {
         return 5;
     }
-    if (source == DIRECTORY) & has_link_below(kinds, a) {
+    if (source == DIRECTORY) & has_link_below(tree, a) {
         return 4;
     }
     0
 }
 
-fn rename(kinds: &[u8], a: usize, b: usize) -> u64 {
-    let number = rename_places(kinds, a, b);
+fn rename(tree: &[u8], a: usize, b: usize) -> u64 {
+    let number = rename_places(tree, a, b);
     if number != 0 {
         return number;
     }
-    rename_moves(kinds, a, b)
+    rename_moves(tree, a, b)
 }
 
-// The number by the plain rules; 0 where they accept.
-fn judged(kinds: &[u8], call: Call) -> u64 {
+// Writing n bytes inside a file. An offset near 2^64 - 1 is above every limit here.
+fn write_inside(own: bool, offset: u64, n: u64) -> u64 {
+    if !own {
+        return 5;
+    }
+    if 0xFFFF_FFFF_FFFF_FFFF - n < offset {
+        return 18;
+    }
+    if LARGE < offset {
+        return 11;
+    }
+    0
+}
+
+// The number by the plain rules; 0 where they accept. The call has n bytes of data.
+fn judged(tree: &[u8], call: Call, n: usize) -> u64 {
     let letter = call.letter;
     let i = call.path;
-    let there = kind(kinds, i);
+    let there = test_rows::kind(tree, i);
+    if letter == b'i' {
+        return write_inside(test_rows::is_own(tree, i), call.offset, n as u64);
+    }
     if letter == b'n' {
-        return rename(kinds, i, call.other);
+        return rename(tree, i, call.other);
     }
     if letter == b'm' {
-        return mkdir(there, call.exist_ok, parents(kinds, i, call.parents));
+        return mkdir(there, call.exist_ok, parents(tree, i, call.parents));
     }
     if (letter == b'r') & (i == 0) {
         return 4;
     }
-    let number = parents(kinds, i, false);
+    let number = parents(tree, i, false);
     if number != 0 {
         return number;
     }
-    other(letter, there, has_child(kinds, i))
+    let last = other(letter, there, has_child(tree, i));
+    if (last == 0) & (letter == b'a') & call.again & (test_rows::lent(tree, i).len() != n) {
+        return 17;
+    }
+    last
 }
 
 // A path without a node gets a directory.
-fn make(kinds: &mut [u8], i: usize) {
-    if kind(kinds, i) == NOTHING {
-        set(kinds, i, DIRECTORY);
+fn make(tree: &mut [u8], i: usize) {
+    if test_rows::kind(tree, i) == NOTHING {
+        test_rows::set_kind(tree, i, DIRECTORY);
     }
 }
 
 // mkdir goes through the ancestors with or without its flag: without it, none is missing.
-fn make_all(kinds: &mut [u8], i: usize) {
+fn make_all(tree: &mut [u8], i: usize) {
     let up = parent(i);
-    make(kinds, i);
-    make(kinds, up);
-    make(kinds, parent(up));
+    make(tree, i);
+    make(tree, up);
+    make(tree, parent(up));
 }
 
 // The path in b that has the last component of k.
@@ -306,42 +314,58 @@ fn moved(a: usize, b: usize, k: usize) -> usize {
 }
 
 // Whether a move would take something out of the tree, to a fourth level.
-fn is_too_deep(kinds: &[u8], a: usize, b: usize) -> bool {
+fn is_too_deep(tree: &[u8], a: usize, b: usize) -> bool {
     let mut found = false;
     for k in 1..PATHS {
-        found = found | ((PATHS <= moved(a, b, k)) & (kind(kinds, k) != NOTHING));
+        found = found | ((PATHS <= moved(a, b, k)) & (test_rows::kind(tree, k) != NOTHING));
     }
     found
 }
 
-fn move_one(kinds: &mut [u8], k: usize, to: usize) {
-    let there = kind(kinds, k);
-    set(kinds, k, NOTHING);
-    set(kinds, to, there);
-}
-
 // a and all below it move to b, where nothing is below; what is elsewhere moves to where it is.
-fn move_all(kinds: &mut [u8], a: usize, b: usize) {
+fn move_all(tree: &mut [u8], a: usize, b: usize) {
     for k in 1..PATHS {
-        move_one(kinds, k, moved(a, b, k));
+        test_rows::move_row(tree, k, moved(a, b, k));
     }
 }
 
+fn write_whole(tree: &mut [u8], i: usize, data: &[u8]) {
+    test_rows::clear(tree, i);
+    test_rows::write_at(tree, i, 0, data);
+}
+
+// What is lent for an append is the file's content, unless it is an own one.
+fn lend(tree: &mut [u8], i: usize, lent: &[u8], again: bool) {
+    if again & !test_rows::is_own(tree, i) {
+        write_whole(tree, i, lent);
+    }
+}
+
+fn add(tree: &mut [u8], i: usize, data: &[u8], again: bool) {
+    lend(tree, i, data, again);
+    let end = test_rows::count(tree, i);
+    test_rows::write_at(tree, i, end, data);
+}
+
 // The tree after a call; a refused one does nothing, and a rename onto itself neither.
-fn effect(kinds: &mut [u8], call: Call, accepted: bool) {
+fn effect(tree: &mut [u8], call: Call, data: &[u8], accepted: bool) {
     let letter = call.letter;
     let i = call.path;
     if !accepted {
         return;
     }
     if letter == b'm' {
-        make_all(kinds, i);
+        make_all(tree, i);
     } else if letter == b'w' {
-        set(kinds, i, FILE);
+        write_whole(tree, i, data);
+    } else if letter == b'a' {
+        add(tree, i, data, call.again);
+    } else if letter == b'i' {
+        test_rows::write_at(tree, i, call.offset as usize, data);
     } else if letter != b'n' {
-        set(kinds, i, NOTHING);
+        test_rows::clear(tree, i);
     } else if i != call.other {
-        move_all(kinds, i, call.other);
+        move_all(tree, i, call.other);
     }
 }
 
@@ -366,7 +390,7 @@ fn drawn_path(seed: u64) -> usize {
     below(next(seed), 13) as usize
 }
 
-// Every other call is a rename.
+// Five in fourteen calls are renames.
 fn letter(n: u64) -> u8 {
     if n < 1 {
         return b'w';
@@ -380,7 +404,21 @@ fn letter(n: u64) -> u8 {
     if n < 5 {
         return b'r';
     }
+    if n < 7 {
+        return b'a';
+    }
+    if n < 9 {
+        return b'i';
+    }
     b'n'
+}
+
+// Seven in eight up to 19, which a row has room for with any data behind it, else one of the last eight.
+fn offset(seed: u64) -> u64 {
+    if below(seed, 8) != 0 {
+        return below(next(seed), 20);
+    }
+    0xFFFF_FFFF_FFFF_FFF8 + next(seed) % 8
 }
 
 // Three in four large, else up to 1000 above the charge.
@@ -391,36 +429,49 @@ fn limit(seed: u64, charge: u64) -> u64 {
     std::num::wrapping_add_u64(charge, below(next(seed), 1001))
 }
 
-fn drawn_letter(kinds: &[u8], n: u64, path: usize, other: usize) -> u8 {
+// A rename that would take something out of the tree, and an append to more than a row has room for with any data
+// behind it, is drawn as an unlink.
+fn drawn_letter(tree: &[u8], n: u64, path: usize, other: usize) -> u8 {
     let drawn = letter(n);
-    if (drawn == b'n') & (path != 0) & is_too_deep(kinds, path, other) {
+    if (drawn == b'n') & (path != 0) & is_too_deep(tree, path, other) {
+        return b'u';
+    }
+    if (drawn == b'a') & (19 < test_rows::count(tree, path)) {
         return b'u';
     }
     drawn
 }
 
-// A rename that would take something out of the tree is drawn as an unlink.
-fn drawn(kinds: &[u8], seed: u64, charge: u64) -> Call {
+fn drawn(tree: &[u8], seed: u64, charge: u64) -> Call {
     let one = next(seed);
     let two = next(one);
     let three = next(next(two));
     let four = next(next(three));
+    let five = next(next(next(four)));
     let path = drawn_path(two);
     let other = drawn_path(three);
     Call {
-        letter: drawn_letter(kinds, below(one, 10), path, other),
+        letter: drawn_letter(tree, below(one, 14), path, other),
         path: path,
         other: other,
         parents: below(four, 2) == 0,
         exist_ok: below(four, 4) < 2,
+        offset: offset(five),
+        again: below(next(next(five)), 8) == 0,
         limit: limit(next(four), charge),
-        seed: next(next(next(four))),
+        seed: next(next(next(five))),
     }
 }
 
 fn call_kind(letter: u8) -> Kind {
     if letter == b'w' {
         return Kind::Write;
+    }
+    if letter == b'a' {
+        return Kind::Append;
+    }
+    if letter == b'i' {
+        return Kind::WriteInside;
     }
     if letter == b'm' {
         return Kind::Mkdir;
@@ -441,6 +492,7 @@ fn order(call: Call) -> Order {
         exist_ok: call.exist_ok,
         mtime: MTIME,
         limit: call.limit,
+        offset: call.offset,
     }
 }
 
@@ -472,12 +524,79 @@ fn is_seen(listing: &[u8], table: &[u8], rec: Record, path: &[u8], kind: u8) -> 
 }
 
 // The same at every path, the root among them.
-fn is_all_seen(listing: &[u8], table: &[u8], rec: Record, kinds: &[u8], names: &[u8]) -> bool {
+fn is_all_seen(listing: &[u8], table: &[u8], rec: Record, tree: &[u8], names: &[u8]) -> bool {
     let mut right = true;
     for i in 0..PATHS {
-        right = right & is_seen(listing, table, rec, bytes(names, i), kind(kinds, i));
+        right = right
+            & is_seen(
+                listing,
+                table,
+                rec,
+                bytes(names, i),
+                test_rows::kind(tree, i),
+            );
     }
     right
+}
+
+// Whether an entry is an own file with the plain tree's content where that has one, and none where it has none.
+fn is_held(table: &[u8], entry: OverlayEntry, own: bool, content: &[u8]) -> bool {
+    match entry {
+        OverlayEntry::File { mtime, at, len } => {
+            let n = table.len() as u64;
+            if n < len {
+                return false;
+            }
+            if n - len < at {
+                return false;
+            }
+            let from = at as usize;
+            let to = (at + len) as usize;
+            return own & base_fields::is_same(&table[from..to], content);
+        }
+        OverlayEntry::RealFileRef {
+            mtime,
+            size,
+            at,
+            len,
+        } => {
+            return !own;
+        }
+        OverlayEntry::Directory { mtime } => {
+            return !own;
+        }
+        OverlayEntry::Deleted => {
+            return !own;
+        }
+        OverlayEntry::Absent => {
+            return !own;
+        }
+    }
+}
+
+// The same at every path, in a table that is well-formed.
+fn is_all_held(table: &[u8], rec: Record, tree: &[u8], names: &[u8]) -> bool
+    requires { ⌜ isTable (now table) rec ≡ true ⌝ }
+{
+    let mut right = true;
+    for i in 0..PATHS {
+        let entry = table_entries::get(table, rec, bytes(names, i));
+        right = right
+            & is_held(
+                table,
+                entry,
+                test_rows::is_own(tree, i),
+                test_rows::content(tree, i),
+            );
+    }
+    right
+}
+
+fn is_held_well(table: &[u8], rec: Record, tree: &[u8], names: &[u8]) -> bool {
+    if !table_open::check(table, rec) {
+        return false;
+    }
+    is_all_held(table, rec, tree, names)
 }
 
 fn counted(st: State, rec: Record, call: Call, number: u64, right: bool) -> State {
@@ -489,6 +608,8 @@ fn counted(st: State, rec: Record, call: Call, number: u64, right: bool) -> Stat
         refused: std::num::wrapping_add_u64(st.refused, !accepted as u64),
         limited: std::num::wrapping_add_u64(st.limited, (number == 11) as u64),
         moved: std::num::wrapping_add_u64(st.moved, (accepted & (call.letter == b'n')) as u64),
+        added: std::num::wrapping_add_u64(st.added, (accepted & (call.letter == b'a')) as u64),
+        inside: std::num::wrapping_add_u64(st.inside, (accepted & (call.letter == b'i')) as u64),
         wrong: std::num::wrapping_add_u64(st.wrong, !right as u64),
     }
 }
@@ -504,10 +625,10 @@ fn is_number(number: u64, must: u64, call: Call) -> bool {
         | (rename & (number == 5) & (must == 8))
 }
 
-// An accepted call keeps to its limit, or is a mkdir that changes nothing; a write answers its data's length, and the
-// others 0.
+// An accepted call keeps to its limit, or is a mkdir that changes nothing; a write, an append and a writing inside
+// answer their data's length, and the others 0.
 fn is_within(call: Call, charge: u64, after: u64, value: u64, n: u64) -> bool {
-    let written = call.letter == b'w';
+    let written = (call.letter == b'w') | (call.letter == b'a') | (call.letter == b'i');
     let still = (call.letter == b'm') & (after == charge);
     ((after <= call.limit) | still) & (written & (value == n) | !written & (value == 0))
 }
@@ -519,7 +640,7 @@ fn is_left_well(
     table: &[u8],
     old: &[u8],
     work: &[u8],
-    kinds: &[u8],
+    tree: &[u8],
     given: Record,
     done: Answered,
     call: Call,
@@ -531,7 +652,8 @@ fn is_left_well(
             let n = bytes(names, call.other).len() as u64;
             let within = is_within(call, given.charge, after.charge, value, n);
             let clean = test_kept::is_clean(table, work, after);
-            return within & clean & is_all_seen(listing, table, after, kinds, names);
+            let held = is_held_well(table, after, tree, names);
+            return within & clean & held & is_all_seen(listing, table, after, tree, names);
         }
         Answer::Refused(_) => {
             return test_kept::is_kept(table, old, work, after, given);
@@ -539,8 +661,8 @@ fn is_left_well(
     }
 }
 
-// The call, with the table copied and the work buffer filled before it.
-fn made(
+// The call with what is lent to it, with the table copied and the work buffer filled before it.
+fn made_with(
     listing: &[u8],
     names: &[u8],
     table: &mut [u8],
@@ -548,11 +670,30 @@ fn made(
     work: &mut [u8],
     rec: Record,
     call: Call,
+    third: &[u8],
 ) -> Answered {
     let first = bytes(names, call.path);
     let second = bytes(names, call.other);
     test_kept::prepare(table, old, work);
-    call_order::make(listing, table, rec, work, first, second, order(call))
+    call_order::make(listing, table, rec, work, first, second, third, order(call))
+}
+
+fn made(
+    listing: &[u8],
+    names: &[u8],
+    table: &mut [u8],
+    old: &mut [u8],
+    work: &mut [u8],
+    tree: &[u8],
+    rec: Record,
+    call: Call,
+) -> Answered {
+    if call.again {
+        let second = bytes(names, call.other);
+        return made_with(listing, names, table, old, work, rec, call, second);
+    }
+    let third = test_rows::lent(tree, call.path);
+    made_with(listing, names, table, old, work, rec, call, third)
 }
 
 // A random call, and all that is compared after it.
@@ -562,17 +703,18 @@ fn step(
     table: &mut [u8],
     old: &mut [u8],
     work: &mut [u8],
-    kinds: &mut [u8],
+    tree: &mut [u8],
     st: State,
 ) -> State {
     let given = st.rec;
-    let call = drawn(kinds, st.seed, given.charge);
-    let must = judged(kinds, call);
-    let done = made(listing, names, table, old, work, given, call);
+    let call = drawn(tree, st.seed, given.charge);
+    let data = bytes(names, call.other);
+    let must = judged(tree, call, data.len());
+    let done = made(listing, names, table, old, work, tree, given, call);
     let answer = done.answer;
     let number = call_values::told(answer).number;
-    effect(kinds, call, number == 0);
-    let left = is_left_well(listing, names, table, old, work, kinds, given, done, call);
+    effect(tree, call, data, number == 0);
+    let left = is_left_well(listing, names, table, old, work, tree, given, done, call);
     counted(
         st,
         done.record,
@@ -588,12 +730,12 @@ fn steps(
     table: &mut [u8],
     old: &mut [u8],
     work: &mut [u8],
-    kinds: &mut [u8],
+    tree: &mut [u8],
     st: State,
 ) -> State {
     let mut now = st;
     for _i in 0..100u64 {
-        now = step(listing, names, table, old, work, kinds, now);
+        now = step(listing, names, table, old, work, tree, now);
     }
     now
 }
@@ -611,19 +753,27 @@ fn sprout(n: u64) -> u8 {
     LINK
 }
 
+// A listed file holds the name of the path that is seven numbers on, which is not the path that a reference to it has.
+fn fill(tree: &mut [u8], names: &[u8], i: usize, kind: u8) {
+    if kind == FILE {
+        test_rows::write_at(tree, i, 0, bytes(names, (i % PATHS + 7) % PATHS));
+    }
+}
+
 // What stands at a path of a random listing: something only below a directory.
-fn sow(kinds: &mut [u8], i: usize, n: u64) {
-    if kind(kinds, parent(i)) == DIRECTORY {
-        set(kinds, i, sprout(n));
+fn sow(tree: &mut [u8], names: &[u8], i: usize, kind: u8) {
+    if test_rows::kind(tree, parent(i)) == DIRECTORY {
+        fill(tree, names, i, kind);
+        test_rows::set_kind(tree, i, kind);
     }
 }
 
 // A random tree; the generator's last number is returned.
-fn plant(kinds: &mut [u8], seed: u64) -> u64 {
+fn plant(tree: &mut [u8], names: &[u8], seed: u64) -> u64 {
     let mut now = seed;
     for i in 1..PATHS {
         now = next(now);
-        sow(kinds, i, below(now, 32));
+        sow(tree, names, i, sprout(below(now, 32)));
     }
     now
 }
@@ -678,8 +828,14 @@ fn in_order(i: usize) -> usize {
     PATHS
 }
 
-// A record, where something is there; mtime and size are 0.
-fn put(s: &mut [u8], at: usize, kind: u8, path: &[u8]) -> usize {
+fn set(s: &mut [u8], at: usize, b: u8) {
+    if at < s.len() {
+        s[at] = b;
+    }
+}
+
+// A record, where something is there; the mtime is 0.
+fn put(s: &mut [u8], at: usize, kind: u8, size: usize, path: &[u8]) -> usize {
     let n = path.len();
     if kind == NOTHING {
         return at;
@@ -695,6 +851,7 @@ fn put(s: &mut [u8], at: usize, kind: u8, path: &[u8]) -> usize {
     }
     base_fields::put16(s, at, n as u64);
     set(s, at + 2, kind);
+    base_fields::put64(s, at + 11, size as u64);
     base_fields::copy_in(s, at + 19, path);
     at + 19 + n
 }
@@ -708,13 +865,13 @@ fn head(s: &mut [u8], count: u64) {
 }
 
 // The plain tree as a listing, and its length.
-fn listed(s: &mut [u8], kinds: &[u8], names: &[u8]) -> usize {
+fn listed(s: &mut [u8], tree: &[u8], names: &[u8]) -> usize {
     let mut at: usize = 9;
     let mut count = 0;
     for i in 0..39usize {
         let k = in_order(i);
-        let there = kind(kinds, k);
-        at = put(s, at, there, bytes(names, k));
+        let there = test_rows::kind(tree, k);
+        at = put(s, at, there, test_rows::count(tree, k), bytes(names, k));
         count = std::num::wrapping_add_u64(count, (there != NOTHING) as u64);
     }
     head(s, count);
@@ -722,10 +879,10 @@ fn listed(s: &mut [u8], kinds: &[u8], names: &[u8]) -> usize {
 }
 
 // A list of calls over a tree; the buffers stand here and are lent on.
-fn over(listing: &[u8], names: &[u8], kinds: &mut [u8], seed: u64, st: State) -> State {
-    let mut table = [255u8; 2048];
-    let mut old = [0u8; 2048];
-    let mut work = [255u8; 2048];
+fn over(listing: &[u8], names: &[u8], tree: &mut [u8], seed: u64, st: State) -> State {
+    let mut table = [255u8; 2560];
+    let mut old = [0u8; 2560];
+    let mut work = [255u8; 2560];
     let opened = table_open::open(&mut table, 40);
     let rec = opened.record;
     let start = State {
@@ -735,27 +892,21 @@ fn over(listing: &[u8], names: &[u8], kinds: &mut [u8], seed: u64, st: State) ->
         refused: st.refused,
         limited: st.limited,
         moved: st.moved,
+        added: st.added,
+        inside: st.inside,
         wrong: st.wrong,
     };
-    steps(
-        listing,
-        names,
-        &mut table,
-        &mut old,
-        &mut work,
-        kinds,
-        start,
-    )
+    steps(listing, names, &mut table, &mut old, &mut work, tree, start)
 }
 
 // A list of calls over a random tree.
 fn list(names: &[u8], st: State) -> State {
-    let mut kinds = [0u8; 40];
+    let mut tree = [0u8; 1280];
     let mut listing = [0u8; 1200];
-    let seed = plant(&mut kinds, st.seed);
-    let n = listed(&mut listing, &kinds, names);
+    let seed = plant(&mut tree, names, st.seed);
+    let n = listed(&mut listing, &tree, names);
     if n <= 1200 {
-        return over(&listing[0..n], names, &mut kinds, seed, st);
+        return over(&listing[0..n], names, &mut tree, seed, st);
     }
     st
 }
@@ -788,6 +939,8 @@ fn run() -> State {
         refused: 0,
         limited: 0,
         moved: 0,
+        added: 0,
+        inside: 0,
         wrong: 0,
     };
     lists(
@@ -807,6 +960,8 @@ fn main() {
     let st = run();
     say(b"random calls: accepted ", st.accepted);
     say(b", of these renames ", st.moved);
+    say(b", appends ", st.added);
+    say(b", writings inside ", st.inside);
     say(b"; refused ", st.refused);
     say(b", of these at the limit ", st.limited);
     say(b"; differences ", st.wrong);

@@ -1,8 +1,10 @@
 // Cases as a text, whose items each end before a bar. An item that begins with # is a title, and the table is opened
 // anew; `+` prints the entries; `!` changes the table's last byte from 0 to 1 and back. Every other item is a call, in
-// columns: its name; from 8 a write's size, or p, e or b for mkdir's flags; from 10 the listing: L the first, M the
+// columns: its name; from 8 its data's size, or p, e or b for mkdir's flags; from 10 the listing: L the first, M the
 // second, X the first without its last byte; from 12 what the record has wrong: u its used, e its E; from 14 the limit,
-// or dashes; from 20 the path, and for a rename, behind a space, its destination.
+// or dashes; from 20 the path. Behind the path and a space stand a rename's destination, the bytes that an append is
+// lent, or the offset of `inside`, which writes inside a file: a digit, or a dash and a digit, which is taken from
+// 2^64 - 1.
 ghost use Prim.Native.Nat.{_≤_};
 ghost use lib.ListN.{length};
 use crate::tell;
@@ -12,8 +14,11 @@ use model::Answer;
 use model::Finding;
 use model::Record;
 
-// The mtime of every write and mkdir: the bits of 1.0.
+// The mtime of every write and mkdir: the bits of 1.0. Append and writing inside have another, so that it shows that
+// they set it: the bits of 2.0.
 const MTIME: u64 = 0x3FF0_0000_0000_0000;
+
+const MTIME_ADDED: u64 = 0x4000_0000_0000_0000;
 
 fn byte_at(s: &[u8], i: usize) -> u8 {
     if i < s.len() {
@@ -67,29 +72,60 @@ fn kind(s: &[u8]) -> Kind {
     if letter == b'u' {
         return Kind::Unlink;
     }
+    if letter == b'a' {
+        return Kind::Append;
+    }
+    if letter == b'i' {
+        return Kind::WriteInside;
+    }
     if byte_at(s, 1) == b'm' {
         return Kind::Rmdir;
     }
     Kind::Rename
 }
 
-fn order(s: &[u8]) -> Order {
+fn mtime(letter: u8) -> u64 {
+    if (letter == b'a') | (letter == b'i') {
+        return MTIME_ADDED;
+    }
+    MTIME
+}
+
+// An offset, by what stands behind the path.
+fn offset(s: &[u8]) -> u64 {
+    if byte_at(s, 0) == b'-' {
+        return 0xFFFF_FFFF_FFFF_FFFF - digit(s, 1);
+    }
+    digit(s, 0)
+}
+
+// A call's order; `behind` is what stands behind its path.
+fn order(s: &[u8], behind: &[u8]) -> Order {
     let flag = byte_at(s, 8);
     Order {
         kind: kind(s),
         parents: (flag == b'p') | (flag == b'b'),
         exist_ok: (flag == b'e') | (flag == b'b'),
-        mtime: MTIME,
+        mtime: mtime(byte_at(s, 0)),
         limit: limit(s),
+        offset: offset(behind),
     }
 }
 
-// A write's data: as many sevens as it has bytes.
-fn data(sevens: &[u8], n: usize) -> &[u8] {
-    if n <= sevens.len() {
-        return &sevens[0..n];
+// The first bytes, as many as a call's data have.
+fn data(bytes: &[u8], n: usize) -> &[u8] {
+    if n <= bytes.len() {
+        return &bytes[0..n];
     }
-    &sevens[..0]
+    &bytes[..0]
+}
+
+// What stands behind a place and the byte there.
+fn behind(s: &[u8], at: usize) -> &[u8] {
+    if at < s.len() {
+        return &s[at + 1..];
+    }
+    &s[..0]
 }
 
 // The record that a call is given.
@@ -132,7 +168,8 @@ fn reported(
     }
 }
 
-// A changing call; `second` is a write's data or a rename's destination.
+// A changing call; `second` is its data or a rename's destination, and `third` what stands behind its path: only an
+// append is lent it.
 fn change(
     listing: &[u8],
     table: &mut [u8],
@@ -142,10 +179,12 @@ fn change(
     s: &[u8],
     path: &[u8],
     second: &[u8],
+    third: &[u8],
 ) -> Record {
     let rec_given = given(rec, byte_at(s, 12));
+    let order = order(s, third);
     test_kept::prepare(table, old, work);
-    let done = call_order::make(listing, table, rec_given, work, path, second, order(s));
+    let done = call_order::make(listing, table, rec_given, work, path, second, third, order);
     let after = done.record;
     let answer = done.answer;
     reported(table, old, work, answer, after, rec_given, rec)
@@ -170,6 +209,31 @@ fn query(listing: &[u8], table: &[u8], rec: Record, s: &[u8], path: &[u8]) {
     tell::text(b"\n");
 }
 
+// A changing call by its columns. A write's data are sevens; what is added or written inside counts up from 1, so that
+// its order shows.
+fn change_by(
+    listing: &[u8],
+    table: &mut [u8],
+    old: &mut [u8],
+    work: &mut [u8],
+    rec: Record,
+    s: &[u8],
+    path: &[u8],
+    third: &[u8],
+) -> Record {
+    let letter = byte_at(s, 0);
+    let n = digit(s, 8) as usize;
+    if letter == b'r' {
+        return change(listing, table, old, work, rec, s, path, third, third);
+    }
+    if letter == b'w' {
+        let sevens = data(b"\x07\x07\x07\x07\x07\x07\x07\x07\x07", n);
+        return change(listing, table, old, work, rec, s, path, sevens, third);
+    }
+    let counting = data(b"\x01\x02\x03\x04\x05\x06\x07\x08\x09", n);
+    change(listing, table, old, work, rec, s, path, counting, third)
+}
+
 fn called(
     listing: &[u8],
     table: &mut [u8],
@@ -182,21 +246,14 @@ fn called(
         return rec;
     }
     tell::text(s);
-    let letter = byte_at(s, 0);
     let end = find(s, 20, b' ');
     let path = &s[20..end];
-    if (letter == b'e') | (letter == b'i') {
+    if (byte_at(s, 0) == b'e') | (byte_at(s, 1) == b's') {
         query(listing, table, rec, s, path);
         return rec;
     }
-    if end < s.len() {
-        return change(listing, table, old, work, rec, s, path, &s[end + 1..]);
-    }
-    let sevens = data(
-        b"\x07\x07\x07\x07\x07\x07\x07\x07\x07",
-        digit(s, 8) as usize,
-    );
-    change(listing, table, old, work, rec, s, path, sevens)
+    let third = behind(s, end);
+    change_by(listing, table, old, work, rec, s, path, third)
 }
 
 fn flip(table: &mut [u8]) {

@@ -5,10 +5,10 @@ use Rattle.prog_random.proofs.is_all_seen.Statement.{statement}
 use Rattle.prog_random.proofs.is_all_seen.Tie as tie
 
 abbrev Inv-loop : tie.InvT-loop
-Inv-loop listing table rec kinds names right₀ i₀ right i = Unit {0}
+Inv-loop listing table rec tree names right₀ i₀ right i = Unit {0}
 
 abbrev μ-loop : tie.MeasureT-loop
-μ-loop listing table rec kinds names right₀ i₀ right i = 40 - i
+μ-loop listing table rec tree names right₀ i₀ right i = 40 - i
 
 loop-holds : tie.Need-loop-holds Inv-loop μ-loop
 loop-holds c = search needs

@@ -7,10 +7,10 @@ use Rattle.prog_random.proofs.listed.Statement.{statement}
 use Rattle.prog_random.proofs.listed.Tie as tie
 
 abbrev Inv-loop : tie.InvT-loop
-Inv-loop s₀ kinds names at₀ count₀ i₀ s at count i = length s ≡ length s₀
+Inv-loop s₀ tree names at₀ count₀ i₀ s at count i = length s ≡ length s₀
 
 abbrev μ-loop : tie.MeasureT-loop
-μ-loop s₀ kinds names at₀ count₀ i₀ s at count i = 39 - i
+μ-loop s₀ tree names at₀ count₀ i₀ s at count i = 39 - i
 
 loop-holds : tie.Need-loop-holds Inv-loop μ-loop
 loop-holds c = refl
@@ -20,6 +20,9 @@ in-order-requires c κs = search needs
 
 kind-requires : tie.Need-kind-requires Inv-loop μ-loop
 kind-requires c κs = search needs
+
+count-requires : tie.Need-count-requires Inv-loop μ-loop
+count-requires c κs = search needs
 
 bytes-requires : tie.Need-bytes-requires Inv-loop μ-loop
 bytes-requires c κs = search needs
@@ -60,6 +63,7 @@ listed-spec =
     loop-holds
     in-order-requires
     kind-requires
+    count-requires
     bytes-requires
     put-requires
     cast-wrapping-add-u64

@@ -7,10 +7,10 @@ use Rattle.prog_random.proofs.move_all.Statement.{statement}
 use Rattle.prog_random.proofs.move_all.Tie as tie
 
 abbrev Inv-loop : tie.InvT-loop
-Inv-loop kinds₀ a b k₀ kinds k = length kinds ≡ length kinds₀
+Inv-loop tree₀ a b k₀ tree k = length tree ≡ length tree₀
 
 abbrev μ-loop : tie.MeasureT-loop
-μ-loop kinds₀ a b k₀ kinds k = 40 - k
+μ-loop tree₀ a b k₀ tree k = 40 - k
 
 loop-holds : tie.Need-loop-holds Inv-loop μ-loop
 loop-holds c = refl
@@ -18,8 +18,8 @@ loop-holds c = refl
 moved-requires : tie.Need-moved-requires Inv-loop μ-loop
 moved-requires c κs = search needs
 
-move-one-requires : tie.Need-move-one-requires Inv-loop μ-loop
-move-one-requires c κs = search needs
+move-row-requires : tie.Need-move-row-requires Inv-loop μ-loop
+move-row-requires c κs = search needs
 
 add-k : tie.Need-add-k Inv-loop μ-loop
 add-k c = search needs
@@ -44,7 +44,7 @@ move-all-spec =
     μ-loop
     loop-holds
     moved-requires
-    move-one-requires
+    move-row-requires
     add-k
     loop-less
     loop-again

@@ -5,10 +5,10 @@ use Rattle.prog_random.proofs.parents.Statement.{statement}
 use Rattle.prog_random.proofs.parents.Tie as tie
 
 abbrev Inv-loop : tie.InvT-loop
-Inv-loop kinds i made number₀ at₀ -step₀ number at -step = Unit {0}
+Inv-loop tree i made number₀ at₀ -step₀ number at -step = Unit {0}
 
 abbrev μ-loop : tie.MeasureT-loop
-μ-loop kinds i made number₀ at₀ -step₀ number at -step = 2 - -step
+μ-loop tree i made number₀ at₀ -step₀ number at -step = 2 - -step
 
 parent-requires : tie.Need-parent-requires Inv-loop μ-loop
 parent-requires c κs = search needs

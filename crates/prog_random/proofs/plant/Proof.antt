@@ -7,10 +7,10 @@ use Rattle.prog_random.proofs.plant.Statement.{statement}
 use Rattle.prog_random.proofs.plant.Tie as tie
 
 abbrev Inv-loop : tie.InvT-loop
-Inv-loop kinds₀ seed now₀ i₀ kinds now i = length kinds ≡ length kinds₀
+Inv-loop tree₀ names seed now₀ i₀ tree now i = length tree ≡ length tree₀
 
 abbrev μ-loop : tie.MeasureT-loop
-μ-loop kinds₀ seed now₀ i₀ kinds now i = 40 - i
+μ-loop tree₀ names seed now₀ i₀ tree now i = 40 - i
 
 loop-holds : tie.Need-loop-holds Inv-loop μ-loop
 loop-holds c = refl
@@ -20,6 +20,9 @@ next-requires c κs = search needs
 
 below-requires : tie.Need-below-requires Inv-loop μ-loop
 below-requires c κs = search needs
+
+sprout-requires : tie.Need-sprout-requires Inv-loop μ-loop
+sprout-requires c κs = search needs
 
 sow-requires : tie.Need-sow-requires Inv-loop μ-loop
 sow-requires c κs = search needs
@@ -48,6 +51,7 @@ plant-spec =
     loop-holds
     next-requires
     below-requires
+    sprout-requires
     sow-requires
     add-i
     loop-less

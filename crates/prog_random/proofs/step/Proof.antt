@@ -6,6 +6,9 @@ use Rattle.prog_random.proofs.step.Tie as tie
 drawn-requires : tie.Need-drawn-requires
 drawn-requires c κs = search needs
 
+bytes-requires : tie.Need-bytes-requires
+bytes-requires c κs = search needs
+
 judged-requires : tie.Need-judged-requires
 judged-requires c κs = search needs
 
@@ -47,6 +50,7 @@ step-spec =
     tie.close
     (tie.spec
     drawn-requires
+    bytes-requires
     judged-requires
     made-requires
     told-requires

@@ -7,11 +7,11 @@ use Rattle.prog_random.proofs.steps.Statement.{statement}
 use Rattle.prog_random.proofs.steps.Tie as tie
 
 abbrev Inv-loop : tie.InvT-loop
-Inv-loop listing names table₀ old₀ work₀ kinds₀ now₀ -i₀ table old work kinds now -i =
-    (length table ≡ length table₀) × (length old ≡ length old₀) × (length work ≡ length work₀) × (length kinds ≡ length kinds₀)
+Inv-loop listing names table₀ old₀ work₀ tree₀ now₀ -i₀ table old work tree now -i =
+    (length table ≡ length table₀) × (length old ≡ length old₀) × (length work ≡ length work₀) × (length tree ≡ length tree₀)
 
 abbrev μ-loop : tie.MeasureT-loop
-μ-loop listing names table₀ old₀ work₀ kinds₀ now₀ -i₀ table old work kinds now -i = 100 - -i
+μ-loop listing names table₀ old₀ work₀ tree₀ now₀ -i₀ table old work tree now -i = 100 - -i
 
 loop-holds : tie.Need-loop-holds Inv-loop μ-loop
 loop-holds c = (refl, refl, refl, refl)

@@ -6,10 +6,10 @@ use Rattle.prog_variant.proofs.show.calls.Statement.{statement}
 use Rattle.prog_variant.proofs.show.calls.Tie as tie
 
 abbrev Inv-loop : tie.InvT-loop
-Inv-loop script report row₀ at₀ row at = Unit {0}
+Inv-loop script report two row₀ at₀ row at = Unit {0}
 
 abbrev μ-loop : tie.MeasureT-loop
-μ-loop script report row₀ at₀ row at = length report - row
+μ-loop script report two row₀ at₀ row at = length report - row
 
 slice-aggregate-text : tie.Need-slice-aggregate-text Inv-loop μ-loop
 slice-aggregate-text c = search needs
@@ -17,11 +17,17 @@ slice-aggregate-text c = search needs
 text-requires : tie.Need-text-requires Inv-loop μ-loop
 text-requires c κs = search needs
 
+is-two-requires : tie.Need-is-two-requires Inv-loop μ-loop
+is-two-requires c κs = search needs
+
 loop-holds : tie.Need-loop-holds Inv-loop μ-loop
 loop-holds c = tt
 
 returns : tie.Need-returns Inv-loop μ-loop
 returns c = search needs
+
+returns-2 : tie.Need-returns-2 Inv-loop μ-loop
+returns-2 c = search needs
 
 line-requires : tie.Need-line-requires Inv-loop μ-loop
 line-requires c κs = search needs
@@ -35,8 +41,8 @@ loop-less c = search needs
 loop-again : tie.Need-loop-again Inv-loop μ-loop
 loop-again c = tt
 
-returns-2 : tie.Need-returns-2 Inv-loop μ-loop
-returns-2 c = search needs
+returns-3 : tie.Need-returns-3 Inv-loop μ-loop
+returns-3 c = search needs
 
 pub calls-spec : {M : Type 1} → statement M
 calls-spec =
@@ -46,10 +52,12 @@ calls-spec =
     μ-loop
     slice-aggregate-text
     text-requires
-    loop-holds
     returns
+    is-two-requires
+    loop-holds
+    returns-2
     line-requires
     add-row
     loop-less
     loop-again
-    returns-2)
+    returns-3)

@@ -1,0 +1,80 @@
+-- `move_row` is safe and ends: the length stays, and the measure is how many bytes are to come.
+use mathlib.Core.Path.{_≡_, refl}
+use lib.ListN.{length}
+use Prim.Native.Nat.{_-_}
+use borrow.Author.Needs.{needs}
+use Rattle.test_rows.proofs.move_row.Statement.{statement}
+use Rattle.test_rows.proofs.move_row.Tie as tie
+
+abbrev Inv-loop : tie.InvT-loop
+Inv-loop tree₀ i to j₀ tree j = length tree ≡ length tree₀
+
+abbrev μ-loop : tie.MeasureT-loop
+μ-loop tree₀ i to j₀ tree j = 32 - j
+
+loop-holds : tie.Need-loop-holds Inv-loop μ-loop
+loop-holds c = refl
+
+row-requires : tie.Need-row-requires Inv-loop μ-loop
+row-requires c κs = search needs
+
+add-byte-at : tie.Need-add-byte-at Inv-loop μ-loop
+add-byte-at c = search needs
+
+byte-at-requires : tie.Need-byte-at-requires Inv-loop μ-loop
+byte-at-requires c κs = search needs
+
+row-requires-2 : tie.Need-row-requires-2 Inv-loop μ-loop
+row-requires-2 c κs = search needs
+
+add-set : tie.Need-add-set Inv-loop μ-loop
+add-set c = search needs
+
+set-requires : tie.Need-set-requires Inv-loop μ-loop
+set-requires c κs = search needs
+
+row-requires-3 : tie.Need-row-requires-3 Inv-loop μ-loop
+row-requires-3 c κs = search needs
+
+add-set-2 : tie.Need-add-set-2 Inv-loop μ-loop
+add-set-2 c = search needs
+
+set-requires-2 : tie.Need-set-requires-2 Inv-loop μ-loop
+set-requires-2 c κs = search needs
+
+add-j : tie.Need-add-j Inv-loop μ-loop
+add-j c = search needs
+
+loop-less : tie.Need-loop-less Inv-loop μ-loop
+loop-less c = search needs
+
+loop-again : tie.Need-loop-again Inv-loop μ-loop
+loop-again c = search needs
+
+same-length : tie.Need-same-length Inv-loop μ-loop
+same-length c = c .before .loop .inv
+
+returns : tie.Need-returns Inv-loop μ-loop
+returns c = search needs
+
+pub move-row-spec : {M : Type 1} → statement M
+move-row-spec =
+    tie.close
+    (tie.spec
+    Inv-loop
+    μ-loop
+    loop-holds
+    row-requires
+    add-byte-at
+    byte-at-requires
+    row-requires-2
+    add-set
+    set-requires
+    row-requires-3
+    add-set-2
+    set-requires-2
+    add-j
+    loop-less
+    loop-again
+    same-length
+    returns)
