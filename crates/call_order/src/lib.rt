@@ -17,7 +17,7 @@ use model::Answered;
 use model::Record;
 
 // Makes the call. `first` is its path, a rename's source; `second` is the data of the three calls that write, and a
-// rename's destination; `third` is what an append is lent. No other call looks at these two.
+// rename's destination; `lent` are the bytes that an append is lent. No other call looks at these two.
 pub fn make(
     listing: &[u8],
     table: &mut [u8],
@@ -25,11 +25,11 @@ pub fn make(
     work: &mut [u8],
     first: &[u8],
     second: &[u8],
-    third: &[u8],
+    lent: &[u8],
     order: Order,
 ) -> Answered
     ensures { λ r. ⌜ Meets (outcome (now (listing .entry)) (requested (callOf order (now (first .entry))
-        (now (second .entry)) (now (third .entry))) (order .limit) (now (work .entry))) (stored (now (table .entry))
+        (now (second .entry)) (now (lent .entry))) (order .limit) (now (work .entry))) (stored (now (table .entry))
         rec)) r (now (table .exit)) (now (work .exit)) ⌝ }
 {
     let kind = order.kind;
@@ -40,16 +40,16 @@ pub fn make(
             return write_bytes(listing, table, rec, work, first, mtime, second, limit);
         }
         Kind::Append => {
-            return append_bytes(listing, table, rec, work, first, mtime, second, third, limit);
+            return append_bytes(listing, table, rec, work, first, mtime, second, lent, limit);
         }
         Kind::WriteInside => {
-            let offset = order.offset;
-            return write_file_at(listing, table, rec, work, first, mtime, offset, second, limit);
+            let at = order.offset;
+            return write_file_at(listing, table, rec, work, first, mtime, at, second, limit);
         }
         Kind::Mkdir => {
-            let parents = order.parents;
-            let exist_ok = order.exist_ok;
-            return mkdir(listing, table, rec, work, first, parents, exist_ok, mtime, limit);
+            let up = order.parents;
+            let ok = order.exist_ok;
+            return mkdir(listing, table, rec, work, first, up, ok, mtime, limit);
         }
         Kind::Unlink => {
             return unlink(listing, table, rec, work, first, limit);

@@ -1,13 +1,13 @@
 -- Laws of the rows: where one begins, and what is read of it from there.
 use mathlib.Core.Bool.{true, false}
-use mathlib.Core.List.{List}
+use mathlib.Core.List.{List, []}
 use mathlib.Core.Path.{_≡_, sym, ap, _∙_}
-use Prim.Native.Nat.{ℕ, _+_, _*_, _≤_, _<_}
+use Prim.Native.Nat.{ℕ, _+_, _-_, _*_, _≤_, _<_}
 use native.Mathlib.Omega.{arith}
 use lib.Dec.{eqb}
-use lib.ListN.{length, getD, List·getD-eq-default}
+use lib.ListN.{length, getD, take, drop, List·getD-eq-default}
 use borrow.Author.Tests.{lt-ltb, le-ltb, le-leb, lt-leb, eq-eqb, ne-eqb}
-use Rattle.test_rows.specs.Rows.{rowAt, shownKind, kindIn, ownIn, countOf, countIn}
+use Rattle.test_rows.specs.Rows.{rowAt, shownKind, kindIn, ownIn, countOf, countIn, contentFrom, contentIn, lentIn}
 
 pub row-in : (i : ℕ) → i < 40 → (32 * i ≡ rowAt i) × (32 * i ≤ 1280)
 row-in i h = (rw (lt-ltb i 40 h), omega (arith, h))
@@ -45,3 +45,26 @@ count-kept n h = rw (le-leb n 30 h)
 
 pub count-none : (n : ℕ) → 30 < n → 0 ≡ countOf n
 count-none n h = rw (lt-leb n 30 h)
+
+-- from the row's content on, n bytes of it
+module _ (s : List ℕ) (i from to n : ℕ) (f : from ≡ rowAt i + 2) (t : to ≡ from + n) (e : n ≡ countIn s i) where
+  found : contentFrom s from n ≡ contentIn s i
+  found = ap (contentFrom s from) e ∙ ap (λ a. contentFrom s a (countIn s i)) f
+
+  pub content-is : to ≤ length s → take (to - from) (drop from s) ≡ contentIn s i
+  content-is h =
+      let len : to - from ≡ n = omega (arith, t) in
+      let inside : take n (drop from s) ≡ contentFrom s from n
+      = rw (le-leb (from + n) (length s) (omega (arith, t, h))) in
+      ap (λ k. take k (drop from s)) len ∙ inside ∙ found
+
+  pub content-none : length s < to → [] ≡ contentIn s i
+  content-none h =
+      let outside : [] ≡ contentFrom s from n = rw (lt-leb (from + n) (length s) (omega (arith, t, h))) in
+      outside ∙ found
+
+pub lent-none : (s : List ℕ) (i : ℕ) → ownIn s i ≡ true → [] ≡ lentIn s i
+lent-none s i h = rw (h)
+
+pub lent-content : (s : List ℕ) (i : ℕ) → ownIn s i ≡ false → contentIn s i ≡ lentIn s i
+lent-content s i h = rw (h)

@@ -1,9 +1,9 @@
 -- Where the rows of the plain tree stand, and what is read of one.
 use mathlib.Core.Bool.{Bool, cond}
-use mathlib.Core.List.{List}
+use mathlib.Core.List.{List, []}
 use Prim.Native.Nat.{ℕ, _+_, _*_}
 use lib.Dec.{ltb, leb, eqb}
-use lib.ListN.{getD}
+use lib.ListN.{length, getD, take, drop}
 
 -- what is not in the tree has no row, and the rows' end stands for it
 abbrev pub rowAt : ℕ → ℕ
@@ -25,3 +25,13 @@ countOf n = cond (leb n 30) n 0
 
 abbrev pub countIn : List ℕ → ℕ → ℕ
 countIn s i = countOf (getD s (rowAt i + 1) 0)
+
+-- rows that end too early hold nothing
+abbrev pub contentFrom : List ℕ → ℕ → ℕ → List ℕ
+contentFrom s from n = cond (leb (from + n) (length s)) (take n (drop from s)) []
+
+abbrev pub contentIn : List ℕ → ℕ → List ℕ
+contentIn s i = contentFrom s (rowAt i + 2) (countIn s i)
+
+abbrev pub lentIn : List ℕ → ℕ → List ℕ
+lentIn s i = cond (ownIn s i) [] (contentIn s i)

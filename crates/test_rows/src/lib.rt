@@ -4,8 +4,8 @@
 // has a larger number is not in the tree.
 ghost use mathlib.Core.Path.{_≡_};
 ghost use Prim.Native.Nat.{_≤_};
-ghost use lib.ListN.{length, getD};
-ghost use Rattle.test_rows.specs.Rows.{rowAt, kindIn, ownIn, countIn};
+ghost use lib.ListN.{getD};
+ghost use Rattle.test_rows.specs.Rows.{rowAt, kindIn, ownIn, countIn, contentIn, lentIn};
 
 pub const PATHS: usize = 40;
 
@@ -85,7 +85,7 @@ pub fn count(tree: &[u8], i: usize) -> usize
 
 // These bytes.
 pub fn content(tree: &[u8], i: usize) -> &[u8]
-    ensures { λ r. ⌜ length (now r) ≤ 30 ⌝ }
+    ensures { λ r. ⌜ now r ≡ contentIn (now (tree .entry)) i ⌝ }
 {
     let from = row(i) + 2;
     let to = from + count(tree, i);
@@ -97,7 +97,7 @@ pub fn content(tree: &[u8], i: usize) -> &[u8]
 
 // The bytes that an append to the path has to be lent: all that the file holds, unless it is an own one.
 pub fn lent(tree: &[u8], i: usize) -> &[u8]
-    ensures { λ r. ⌜ length (now r) ≤ 30 ⌝ }
+    ensures { λ r. ⌜ now r ≡ lentIn (now (tree .entry)) i ⌝ }
 {
     if is_own(tree, i) {
         return &tree[..0];

@@ -20,7 +20,7 @@ same-length-2 c = search needs
 returns : tie.Need-returns
 returns c =
     let a = c .before .before .before .before .before .before .before .before .before .before .before .before .before .before .before .args in
-    by-kind (a .listing .now) (a .work .now) (a .first .now) (a .second .now) (a .third .now) (stored (a .table .now) (a .rec)) (a .order) _
+    by-kind (a .listing .now) (a .work .now) (a .first .now) (a .second .now) (a .lent .now) (stored (a .table .now) (a .rec)) (a .order) _
     (c .before .before .before .before .before .before .before .enum-told .given .1) (c .before .before .before .before .write-bytes .ensures)
 
 enum-told-2 : tie.Need-enum-told-2
@@ -38,7 +38,7 @@ same-length-4 c = search needs
 returns-2 : tie.Need-returns-2
 returns-2 c =
     let a = c .before .before .before .before .before .before .before .before .before .before .before .before .before .before .before .args in
-    by-kind (a .listing .now) (a .work .now) (a .first .now) (a .second .now) (a .third .now) (stored (a .table .now) (a .rec)) (a .order) _
+    by-kind (a .listing .now) (a .work .now) (a .first .now) (a .second .now) (a .lent .now) (stored (a .table .now) (a .rec)) (a .order) _
     (c .before .before .before .before .before .before .before .enum-told2 .given .1) (c .before .before .before .before .append-bytes .ensures)
 
 enum-told-3 : tie.Need-enum-told-3
@@ -56,7 +56,7 @@ same-length-6 c = search needs
 returns-3 : tie.Need-returns-3
 returns-3 c =
     let a = c .before .before .before .before .before .before .before .before .before .before .before .before .before .before .before .args in
-    by-kind (a .listing .now) (a .work .now) (a .first .now) (a .second .now) (a .third .now) (stored (a .table .now) (a .rec)) (a .order) _
+    by-kind (a .listing .now) (a .work .now) (a .first .now) (a .second .now) (a .lent .now) (stored (a .table .now) (a .rec)) (a .order) _
     (c .before .before .before .before .before .before .before .enum-told3 .given .1) (c .before .before .before .before .write-file-at .ensures)
 
 enum-told-4 : tie.Need-enum-told-4
@@ -74,7 +74,7 @@ same-length-8 c = search needs
 returns-4 : tie.Need-returns-4
 returns-4 c =
     let a = c .before .before .before .before .before .before .before .before .before .before .before .before .before .before .before .args in
-    by-kind (a .listing .now) (a .work .now) (a .first .now) (a .second .now) (a .third .now) (stored (a .table .now) (a .rec)) (a .order) _
+    by-kind (a .listing .now) (a .work .now) (a .first .now) (a .second .now) (a .lent .now) (stored (a .table .now) (a .rec)) (a .order) _
     (c .before .before .before .before .before .before .before .enum-told4 .given .1) (c .before .before .before .before .mkdir .ensures)
 
 enum-told-5 : tie.Need-enum-told-5
@@ -92,7 +92,7 @@ same-length-10 c = search needs
 returns-5 : tie.Need-returns-5
 returns-5 c =
     let a = c .before .before .before .before .before .before .before .before .before .before .before .before .before .before .before .args in
-    by-kind (a .listing .now) (a .work .now) (a .first .now) (a .second .now) (a .third .now) (stored (a .table .now) (a .rec)) (a .order) _
+    by-kind (a .listing .now) (a .work .now) (a .first .now) (a .second .now) (a .lent .now) (stored (a .table .now) (a .rec)) (a .order) _
     (c .before .before .before .before .before .before .before .enum-told5 .given .1) (c .before .before .before .before .unlink .ensures)
 
 enum-told-6 : tie.Need-enum-told-6
@@ -110,7 +110,7 @@ same-length-12 c = search needs
 returns-6 : tie.Need-returns-6
 returns-6 c =
     let a = c .before .before .before .before .before .before .before .before .before .before .before .before .before .before .before .args in
-    by-kind (a .listing .now) (a .work .now) (a .first .now) (a .second .now) (a .third .now) (stored (a .table .now) (a .rec)) (a .order) _
+    by-kind (a .listing .now) (a .work .now) (a .first .now) (a .second .now) (a .lent .now) (stored (a .table .now) (a .rec)) (a .order) _
     (c .before .before .before .before .before .before .before .enum-told6 .given .1) (c .before .before .before .before .rmdir .ensures)
 
 enum-told-7 : tie.Need-enum-told-7
@@ -128,7 +128,7 @@ same-length-14 c = search needs
 returns-7 : tie.Need-returns-7
 returns-7 c =
     let a = c .before .before .before .before .before .before .before .before .before .before .before .before .before .before .before .args in
-    by-kind (a .listing .now) (a .work .now) (a .first .now) (a .second .now) (a .third .now) (stored (a .table .now) (a .rec)) (a .order) _
+    by-kind (a .listing .now) (a .work .now) (a .first .now) (a .second .now) (a .lent .now) (stored (a .table .now) (a .rec)) (a .order) _
     (c .before .before .before .before .before .before .before .enum-told7 .given .1) (c .before .before .before .before .rename .ensures)
 
 pub make-spec : {M : Type 1} → statement M
