@@ -63,7 +63,8 @@ fn append_memory(table: &[u8], rec: Record, path: &[u8], len: u64, limit: u64) -
     Judged::Refused(Refusal::Limit)
 }
 
-// append: 3 to 8, 17, and 11 by its own budget. A path that passes is neither the root nor too long for a key.
+// append: 3 to 8, 17, and 11 by its own budget. Checks and budget are both worked out; the checks count first. A path
+// that passes is neither the root nor too long for a key.
 fn append_judge(
     listing: &[u8],
     table: &[u8],

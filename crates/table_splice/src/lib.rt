@@ -30,7 +30,7 @@ struct Splice {
 }
 
 // How long a content of `len` bytes is with `added` bytes written at the offset.
-pub fn spliced_len(len: u64, offset: u64, added: u64) -> u64
+fn spliced_len(len: u64, offset: u64, added: u64) -> u64
     requires { ⌜ offset + added < 0x1_0000_0000_0000_0000 ⌝ }
     ensures { λ r. ⌜ ((c d : Bytes) → length c ≡ len → length d ≡ added → r ≡ length (spliced offset d c)) ⌝ }
 {
@@ -53,7 +53,7 @@ fn sum_within(x: u64, y: u64, bound: u64) -> bool
 
 // What inserting an entry with a body of `len` bytes will answer, for any `len`: the limit first, then the room. The
 // record is measured without the body, so that no sum with its length is made before it is known to be within a bound.
-pub fn judge_length(
+fn judge_length(
     table: &[u8],
     rec: model::Record,
     key: &[u8],
@@ -121,7 +121,7 @@ fn put_content(work: &mut [u8], at: usize, content: &[u8], offset: usize, data: 
 }
 
 // The entry's bytes from `at` on, and where they end.
-pub fn put_spliced(
+fn put_spliced(
     work: &mut [u8],
     at: usize,
     key: &[u8],
@@ -144,7 +144,7 @@ pub fn put_spliced(
 }
 
 // What stays up to this key, then the entry; the old entry with this key, if any, is passed over.
-pub fn put_next_spliced(
+fn put_next_spliced(
     work: &mut [u8],
     table: &[u8],
     merge: table_write::Merge,
