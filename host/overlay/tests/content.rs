@@ -220,3 +220,28 @@ fn scripts_under_another_mark() {
     narrow[8] = 4;
     assert_eq!(plan.run(&listing, &narrow).map(|rows| rows.len()), Ok(1));
 }
+
+/// The script of the mark TSC2 in docs/FORMATS.md, byte by byte, and what that page says of its run.
+#[test]
+fn the_example_of_the_formats() {
+    let mut script = Script::new();
+    script.append_bytes("a/f", b"!", b"hello", 0.0, 1000);
+    script.write_file_at("a/f", b"hi", 8, 1.0, 1000);
+    script.write_file_at("z", b"hi", 0, 0.0, 1000);
+    let (none, limit) = ([0; 8], [0xe8, 3, 0, 0, 0, 0, 0, 0]);
+    let bytes = [
+        &b"TSC2\x03\0\0\0"[..],
+        &[&b"\x06\0\x03\0\x01\0\0\0"[..], &none, &limit, &none, b"\x05\0\0\0a/f!hello"].concat(),
+        &[&b"\x07\0\x03\0\x02\0\0\0"[..], b"\0\0\0\0\0\0\xf0\x3f", &limit, b"\x08\0\0\0\0\0\0\0"].concat(),
+        b"\0\0\0\0a/fhi",
+        &[&b"\x07\0\x01\0\x02\0\0\0"[..], &none, &limit, &none, b"\0\0\0\0zhi"].concat(),
+    ];
+    assert_eq!(script.as_ref(), bytes.concat());
+    assert_eq!(script.as_ref().len(), 133);
+
+    let (plan, rows) = Overlay::run_new(512, 0, &listing(), &script).unwrap();
+    assert_eq!(plan.record(), Record { used: 37, count: 1, charge: 269, entry_size: 0 });
+    assert_eq!(own(&plan, "a/f"), Some((b"hello!\0\0hi".to_vec(), 1.0.into())));
+    let answers: Vec<_> = rows.iter().map(|row| (row.answer, row.charge)).collect();
+    assert_eq!(answers, [(Ok(1), 265), (Ok(2), 269), (Err(Refusal::NotFound { path: 0, len: 1 }), 269)]);
+}
