@@ -24,6 +24,8 @@ use differential::{
 pub struct Count {
     pub lists: u64,
     pub calls: u64,
+    /// The calls that were asked of the original too.
+    pub asked: u64,
     pub queries: u64,
     pub thresholds: u64,
     pub numbers: BTreeMap<u8, u64>,
@@ -40,10 +42,11 @@ pub struct Count {
 
 impl Count {
     fn add(&mut self, call: &Call, answer: Answer, original: bool) {
+        let asked = original && asks_original(call, answer);
         self.calls += 1;
+        self.asked += u64::from(asked);
         *self.numbers.entry(answer.number).or_default() += 1;
         if call.op.is_partial() {
-            let asked = original && asks_original(call, answer);
             *self.partial.entry((call.op.name(), answer.number, asked)).or_default() += 1;
         }
     }
@@ -51,6 +54,7 @@ impl Count {
     fn merge(&mut self, other: &Count) {
         self.lists += other.lists;
         self.calls += other.calls;
+        self.asked += other.asked;
         self.queries += other.queries;
         self.thresholds += other.thresholds;
         self.differences += other.differences;
@@ -409,6 +413,7 @@ pub fn run(long: bool, seed: u64) -> u64 {
     }
     all.row("all", start.elapsed().as_secs_f64());
     println!();
+    println!("Calls asked of the original: {}.", all.asked);
     let each: Vec<String> = all.shows.iter().map(|(number, count)| format!("{count} with {number}")).collect();
     let shows: u64 = all.shows.values().sum();
     println!("Shown beside `iterdir` of the original: {shows} paths, {}.", each.join(", "));
