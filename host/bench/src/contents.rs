@@ -54,10 +54,10 @@ fn calls(length: usize) -> Vec<(&'static str, State, Call, usize)> {
     ]
 }
 
-/// The median time of a call, each on a side that was just made.
-fn each<S: Side>(rounds: usize, make: impl Fn() -> S, mut call: impl FnMut(&mut S) -> u8) -> f64 {
+/// The median time of a call, each on a copy of the side, whose buffers have so been written before.
+fn each<S: Side>(rounds: usize, side: &S, mut call: impl FnMut(&mut S) -> u8) -> f64 {
     let time = |_| {
-        let mut side = make();
+        let mut side = side.copy();
         let start = now();
         let number = black_box(call(black_box(&mut side)));
         let took = now() - start;
@@ -83,18 +83,12 @@ fn by_length() {
             let (listed, room) = (Rc::new(bytes(&tree)), 2 * length + (4 << 10));
             let rounds = ((16 << 20) / length).clamp(5, 100);
             let content = vec![b'L'; lent];
-            let port = || {
-                let mut port = Port::new(&listed, entry_size(), room);
-                port.load(&entries);
-                port
-            };
-            let ours = each(rounds, port, |port| port.call_with(&call, 0, &content).number);
-            let original = || {
-                let mut original = Original::new(&listed, "/mnt", Manner::default());
-                original.load(&entries);
-                original
-            };
-            let theirs = each(rounds, original, |original| original.call(&call, 0).number);
+            let mut port = Port::new(&listed, entry_size(), room);
+            port.load(&entries);
+            let ours = each(rounds, &port, |port| port.call_with(&call, 0, &content).number);
+            let mut original = Original::new(&listed, "/mnt", Manner::default());
+            original.load(&entries);
+            let theirs = each(rounds, &original, |original| original.call(&call, 0).number);
             let buffer = vec![1; room];
             let floor = pass(&[&listed, &buffer, &buffer, &content], rounds.max(20));
             println!(
