@@ -21,7 +21,7 @@ use Rattle.model.specs.declared.Refusal.{Refusal}
 use Rattle.model.specs.declared.Answered.{Answered}
 use Rattle.model.specs.declared.Answer.the-variants.{Refused}
 use Rattle.model.proofs.Invariant.{then-pass}
-use Rattle.model.proofs.Contents.{InsidePassed, inside-passed}
+use Rattle.model.proofs.Contents.{count-passed, InsidePassed, inside-passed}
 use Rattle.table_insert.specs.declared.Inserted.{Inserted}
 use Rattle.check_judged.specs.declared.Judged.{Judged}
 use Rattle.check_judged.specs.declared.Judged.the-variants as judge
@@ -32,7 +32,6 @@ use Rattle.call_answer.specs.Meets.{requested, stored, Meets, answeredOf}
 use Rattle.call_answer.proofs.OnePath.{call-refused, call-inserted}
 use Rattle.call_content.specs.Judged.{appendBehind, appendJudged, insideJudged}
 use Rattle.call_content.specs.Leaves.{Leaves}
-use Rattle.call_content.proofs.Judges.{count-passed}
 
 -- the call at p, with the mtime m and the work buffer w; its checks gave j
 module _ (l s : Bytes) (r : Record) (w : Bytes) (p : Path) (m limit : ℕ) (g : Given l s r) (h : length s ≤ length w) (j : Judged) where

@@ -4,22 +4,21 @@ use mathlib.Core.Bool.{Bool, true, false, _||_}
 use mathlib.Core.Option.{Option}
 use Prim.Native.Nat.{ℕ, _+_}
 use native.Mathlib.Omega.{arith}
-use lib.Dec.{leb, eqb}
+use lib.Dec.{leb}
 use lib.ListN.{length, length-append}
-use borrow.Author.Tests.{leb-true, leb-false, le-leb, lt-leb}
+use borrow.Author.Tests.{lt-leb}
 use Rattle.model.specs.Bytes.{Bytes}
 use Rattle.model.specs.Path.{Path}
 use Rattle.model.specs.Tree.{Node, Table, View}
 use Rattle.model.specs.Table.{charge}
-use Rattle.model.specs.Checks.{Check, pass, refuse, unless, writeChecks, limited}
-use Rattle.model.specs.Content.{isOwn, contentOf, needed, appended, appendChecks, appendMemory}
-use Rattle.model.proofs.Orders.{test, yea, nay}
-use Rattle.model.proofs.Invariant.{then-pass, unless-pass}
-use Rattle.model.proofs.Contents.{lent-content}
+use Rattle.model.specs.Checks.{Check, pass, refuse, unless, limited}
+use Rattle.model.specs.Content.{isOwn, contentOf, appended, appendChecks, appendMemory}
+use Rattle.model.proofs.Contents.{count-passed, lent-content}
 use Rattle.base_budget.specs.Budget.{shrunk}
 use Rattle.base_budget.specs.declared.MemoryBudget.{MemoryBudget}
 use Rattle.base_budget.specs.declared.Shrunk.the-variants.{Left, MemoryUsageLimitExceeded}
 use Rattle.base_budget.proofs.Budgets.{left-is, exceeded-is}
+use Rattle.table_splice.proofs.Lengths.{sum-left}
 use Rattle.check_judged.specs.Judged.{refuses}
 use Rattle.check_judged.proofs.Checked.{not-refused-passes}
 
@@ -34,12 +33,8 @@ module _ (c n limit : ℕ) where
   pub some-left : (b : MemoryBudget) → shrunk whole c ≡ Left b → leb n (b .available) ≡ leb (c + n) limit
   some-left b h =
       let l = left-is whole c b h in
-      let y = l .0 in
-      let z = l .1 in
-      elim (test (leb n (b .available))) [
-        | yea x ↦ let u = leb-true n (b .available) x in x ∙ sym (le-leb (c + n) limit (omega arith))
-        | nay x ↦ let u = leb-false n (b .available) x in x ∙ sym (lt-leb (c + n) limit (omega arith))
-      ]
+      let o : n + c ≡ c + n = omega arith in
+      ap (leb n) (l .1) ∙ sum-left n c limit (l .0) ∙ ap (λ (i : ℕ). leb i limit) o
 
 -- whether o is an own file was found to be b
 module _ (E limit : ℕ) (t : Table) (o : Option Node) (n : ℕ) (b : Bool) (e : b ≡ isOwn o) where
@@ -60,13 +55,7 @@ module _ (E limit : ℕ) (t : Table) (o : Option Node) (n : ℕ) (b : Bool) (e :
     pub over-budget : f ≡ false → refuse 11 0 0 ≡ appendMemory (limited E limit) t o n
     over-budget x = ap (unless 11) (sym x) ∙ asked
 
--- where append's checks pass, the count of lent bytes is right
-pub count-passed : (f : View) (p : Path) (b : Bytes) → appendChecks f p b ≡ pass → eqb (length b) (needed (f p)) ≡ true
-count-passed f p b h =
-    let n = eqb (length b) (needed (f p)) in
-    unless-pass 17 n (then-pass (writeChecks f p) (unless 17 n) h .1)
-
--- and so the new content of what is no own file has as many bytes as are lent and added; the checks gave j, and z is whether that refuses
+-- where append's checks pass, the new content of what is no own file has as many bytes as are lent and added; the checks gave j, and z is whether that refuses
 pub appended-length : (f : View) (p : Path) (d b : Bytes) (j : Check) → j ≡ appendChecks f p b → (z : Bool) → z ≡ refuses j → z ≡ false
     → isOwn (f p) ≡ false → length (appended (f p) d b) ≡ length b + length d
 appended-length f p d b j e z i h k =

@@ -15,6 +15,12 @@ use Rattle.model.specs.Calls.{append, writeInside, changed, rules}
 use Rattle.model.proofs.Orders.{bot, eqb-eq}
 use Rattle.model.proofs.Invariant.{Inv, kind-at, then-pass, unless-pass, parents-pass}
 
+-- where append's checks pass, the count of lent bytes is right
+pub count-passed : (f : View) (p : Path) (b : Bytes) → appendChecks f p b ≡ pass → eqb (length b) (needed (f p)) ≡ true
+count-passed f p b h =
+    let n = eqb (length b) (needed (f p)) in
+    unless-pass 17 n (then-pass (writeChecks f p) (unless 17 n) h .1)
+
 -- an accepted append, check by check
 pub record AppendPassed (memory : Memory) (t : Table) (l : Tree) (p : Path) (m : ℕ) (d b : Bytes) : Type 0 where
   pub checks : appendChecks (shown t l) p b ≡ pass
@@ -35,7 +41,7 @@ append-passed memory t l p m d b h =
     record {
       checks = x .0;
       writes = w .0;
-      count = unless-pass 17 (eqb (length b) (needed (shown t l p))) (w .1);
+      count = count-passed (shown t l) p b (x .0);
       budget = u .0;
       charge-fits = u .1;
     }
