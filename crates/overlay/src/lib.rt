@@ -17,6 +17,9 @@ ghost use Rattle.overlay_packed.specs.Packed.{packed, ifAccepted, numbers, reco
 ghost use Rattle.overlay.specs.Exported.{isFour, left, called, asked, opening};
 ghost use Rattle.overlay.specs.Exported.{runLeft, scriptRun, newScriptRun};
 ghost use Rattle.overlay.specs.Exported.{writeLeft, keptWritten, childrenShown, readLeft, keptRead};
+use call_content::append_bytes;
+use call_content::write_file_at;
+use call_one_path::write_bytes;
 use model::Record;
 
 // The numbers of a record: used, count, charge and entry size.
@@ -116,16 +119,7 @@ pub extern "C" fn overlay_write_bytes(
         return overlay_packed::MALFORMED_TABLE;
     }
     let before = overlay_packed::record_in(&*rec);
-    let answered = call_one_path::write_bytes(
-        listing,
-        table,
-        before,
-        work,
-        path,
-        mtime,
-        data,
-        limit,
-    );
+    let answered = write_bytes(listing, table, before, work, path, mtime, data, limit);
     overlay_packed::store_and_pack(rec, answered)
 }
 
@@ -150,17 +144,7 @@ pub extern "C" fn overlay_append_bytes(
         return overlay_packed::MALFORMED_TABLE;
     }
     let before = overlay_packed::record_in(&*rec);
-    let answered = call_content::append_bytes(
-        listing,
-        table,
-        before,
-        work,
-        path,
-        mtime,
-        data,
-        lent,
-        limit,
-    );
+    let answered = append_bytes(listing, table, before, work, path, mtime, data, lent, limit);
     overlay_packed::store_and_pack(rec, answered)
 }
 
@@ -185,7 +169,7 @@ pub extern "C" fn overlay_write_file_at(
         return overlay_packed::MALFORMED_TABLE;
     }
     let before = overlay_packed::record_in(&*rec);
-    let answered = call_content::write_file_at(
+    let answered = write_file_at(
         listing,
         table,
         before,
