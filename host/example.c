@@ -195,6 +195,8 @@ int main(void) {
            OVERLAY_NOT_FOUND, 3);
     expect("rename a b/c/a", overlay_rename(LISTING, LENT(&plan), PATH("a"), PATH("b/c/a"), no_limit),
            OVERLAY_ACCEPTED, 0);
+    expect("rename b/c/a b/c/a at limit 0",
+           overlay_rename(LISTING, LENT(&plan), PATH("b/c/a"), PATH("b/c/a"), 0), OVERLAY_ACCEPTED, 0);
     expect("is_file b/c/a/f", overlay_is_file(LISTING, TABLE(&plan), PATH("b/c/a/f")), OVERLAY_ACCEPTED, 1);
     expect("exists a", overlay_exists(LISTING, TABLE(&plan), PATH("a")), OVERLAY_ACCEPTED, 0);
     expect("rmdir b/c", overlay_rmdir(LISTING, LENT(&plan), PATH("b/c"), no_limit), OVERLAY_NOT_EMPTY, 3);

@@ -174,7 +174,9 @@ uint64_t overlay_rmdir(const uint8_t *listing, size_t listing_length, uint8_t *t
                        uint64_t *record, size_t record_length, uint8_t *work, size_t work_length,
                        const uint8_t *path, size_t path_length, uint64_t limit);
 
-/* What is visible at the source, and below it, moves to the destination, whose file or empty directory goes. */
+/* What is visible at the source, and below it, moves to the destination, whose file or empty directory goes. Where both
+ * paths are equal, and something other than a link is visible there, it is accepted whatever the limit, and table and
+ * record stay as they are; the work buffer is all 0 as after every accepted call. */
 uint64_t overlay_rename(const uint8_t *listing, size_t listing_length, uint8_t *table, size_t table_length,
                         uint64_t *record, size_t record_length, uint8_t *work, size_t work_length,
                         const uint8_t *source, size_t source_length, const uint8_t *destination,

@@ -1,20 +1,22 @@
--- From checks and an insertion to the outcome of a call: the checks before 11 decide, or the insertion does.
+-- From checks and an insertion to the outcome of a call: the checks before 11 decide, or the insertion does, or the call changes nothing.
 use mathlib.Core.Path.{_≡_, refl, ap, sym, _∙_}
+use mathlib.Core.Bool.{true}
 use Prim.Native.Nat.{ℕ}
 use lib.Dec.{leb}
 use lib.ListN.{length, replicate}
 use Rattle.model.specs.Bytes.{Bytes}
 use Rattle.model.specs.Tree.{Table}
-use Rattle.model.specs.Table.{encode, padded, charge, recordOf}
-use Rattle.model.specs.Checks.{Check, pass, refuse, _then_}
+use Rattle.model.specs.Table.{encode, padded, charge, recordOf, isTable, tableIn}
+use Rattle.model.specs.Checks.{Check, pass, refuse, _then_, unless}
 use Rattle.model.specs.Calls.{valueOf}
 use Rattle.model.specs.Answer.{refused, told, toldRefusal}
-use Rattle.model.specs.Outcome.{Store, Request, Outcome, tableAfter, verdict, settle, outcome}
+use Rattle.model.specs.Outcome.{Store, Request, Outcome, tableAfter, room, verdict, settle, outcome}
 use Rattle.model.specs.declared.Answered.{Answered}
 use Rattle.model.specs.declared.Refusal.{Refusal}
 use Rattle.model.specs.declared.Refusal.the-variants as refusal
-use Rattle.model.specs.declared.Answer.the-variants.{Refused}
+use Rattle.model.specs.declared.Answer.the-variants.{Accepted, Refused}
 use Rattle.model.proofs.Orders.{test, yea, nay}
+use Rattle.model.proofs.Unchanged.{nothingDone, unchanged-fits, unchanged-settled}
 use Rattle.table_insert.specs.declared.Inserted.{Inserted}
 use Rattle.table_insert.specs.declared.Inserted.the-variants as inserted
 use Rattle.table_insert.specs.Insert.{insertion, ifDone}
@@ -64,6 +66,20 @@ module _ (listing : Bytes) (q : Request) (s : Store) where
         rec = sym (ap (λ (x : Outcome). x .store .rec) o);
         bytes = sym (ap (λ (x : Outcome). x .store .table) o);
         buffer = sym (ap (λ (x : Outcome). x .work) o);
+      }
+
+  -- accepted, with the entries as they were: table and record are those before, and the work buffer w is all 0
+  pub unchanged-meets : isTable (s .table) (s .rec) ≡ true → tableAfter listing q s ≡ tableIn (s .table) (s .rec)
+      → verdict listing q s ≡ unless 13 (room listing q s) → (w : Bytes) → w ≡ replicate (length (q .work)) 0
+      → Meets (outcome listing q s) (record { answer = Accepted (valueOf (q .call)); «record» = s .rec }) (s .table) w
+  unchanged-meets h e v w z =
+      let o : outcome listing q s ≡ nothingDone q s =
+      passes-so (v ∙ ap (unless 13) (unchanged-fits listing q s h e)) ∙ unchanged-settled listing q s h e in
+      record {
+        answer = sym (ap (λ (x : Outcome). x .reply) o);
+        rec = sym (ap (λ (x : Outcome). x .store .rec) o);
+        bytes = sym (ap (λ (x : Outcome). x .store .table) o);
+        buffer = z ∙ sym (ap (λ (x : Outcome). x .work) o);
       }
 
 module _ (listing : Bytes) (q : Request) (s : Store) where

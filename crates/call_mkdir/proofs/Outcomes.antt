@@ -1,25 +1,22 @@
 -- From the step that mkdir takes to its outcome: refused, accepted as it stands, or as the insertion answers.
 use mathlib.Core.Path.{_≡_, refl, sym, ap, _∙_}
-use mathlib.Core.Bool.{Bool, true}
+use mathlib.Core.Bool.{Bool}
 use mathlib.Core.List.{List, [], _++_}
 use Prim.Native.Nat.{ℕ, _≤_, _-_}
-use lib.Dec.{leb}
 use lib.ListN.{length, take, replicate}
-use borrow.Author.Tests.{le-leb}
 use Rattle.model.specs.Bytes.{Bytes}
 use Rattle.model.specs.Path.{Path}
 use Rattle.model.specs.Map.{puts, each}
 use Rattle.model.specs.Tree.{directory, Table, View}
-use Rattle.model.specs.Table.{encode, padded, recordOf, tableIn}
+use Rattle.model.specs.Table.{encode, padded, tableIn}
 use Rattle.model.specs.Checks.{Check, pass, _then_, unless, form, limited, charged, makes}
 use Rattle.model.specs.Calls.{mkdir}
 use Rattle.model.specs.Answer.{toldRefusal}
-use Rattle.model.specs.Outcome.{Given, shownIn, Request, Outcome, room, verdict, settle, outcome}
+use Rattle.model.specs.Outcome.{Given, shownIn, Request, room, verdict, outcome}
 use Rattle.model.specs.declared.Record.{Record}
 use Rattle.model.specs.declared.Refusal.{Refusal}
 use Rattle.model.specs.declared.Answered.{Answered}
 use Rattle.model.specs.declared.Answer.the-variants.{Accepted, Refused}
-use Rattle.model.proofs.Codec.{decoded}
 use Rattle.base_fields.proofs.Zeros.{zeroed-all}
 use Rattle.table_insert.specs.declared.Inserted.{Inserted}
 use Rattle.table_insert.specs.Insert.{insertion, ifDone}
@@ -27,7 +24,7 @@ use Rattle.check_judged.specs.Judged.{asCheck}
 use Rattle.check_judged.proofs.Checked.{refusal-refuses, refused-stops}
 use Rattle.check_judged.proofs.Thens.{then-assoc}
 use Rattle.call_answer.specs.Meets.{requested, stored, last, Meets, answeredOf}
-use Rattle.call_answer.proofs.Settles.{refused-meets, inserted-meets}
+use Rattle.call_answer.proofs.Settles.{refused-meets, unchanged-meets, inserted-meets}
 use Rattle.call_answer.proofs.Admits.{given-verdict}
 use Rattle.call_mkdir.specs.Step.{mkdirChecks, afterStep}
 use Rattle.call_mkdir.specs.declared.Step.{Step}
@@ -71,19 +68,7 @@ module _ (l s : Bytes) (r : Record) (w : Bytes) (p : Path) (up ok : Bool) (mtime
     -- nothing is made: the table is the one that was read, and the work buffer v is zeroed
     pub step-there : x ≡ step.There → makes f p ≡ [] → (v : Bytes) → v ≡ take 0 w ++ replicate (length w - 0) 0
         → Meets (outcome l q (stored s r)) (record { answer = Accepted 0; «record» = r }) s v
-    step-there u n v z =
-        let d = decoded s r (g .is-table) in
-        let a : made (makes f p) ≡ t = ap made n in
-        let b : room l q (stored s r) ≡ true =
-        ap (λ (y : Table). leb (length (encode y)) (length s)) a ∙ le-leb (length (encode t)) (length s) (d .fits) in
-        let o : outcome l q (stored s r) ≡ settle pass l q (stored s r) =
-        ap (λ (c : Check). settle c l q (stored s r)) (decides step.There u ∙ ap (unless 13) b) in
-        record {
-          answer = sym (ap (λ (y : Outcome). y .reply) o);
-          rec = d .rec ∙ ap (recordOf (r .«entry_size»)) (sym a) ∙ sym (ap (λ (y : Outcome). y .store .rec) o);
-          bytes = d .bytes ∙ ap (λ (y : Table). padded (length s) (encode y)) (sym a) ∙ sym (ap (λ (y : Outcome). y .store .table) o);
-          buffer = z ∙ zeroed-all w ∙ sym (ap (λ (y : Outcome). y .work) o);
-        }
+    step-there u n v z = unchanged-meets l q (stored s r) (g .is-table) (ap made n) (decides step.There u) v (z ∙ zeroed-all w)
 
     -- the directories ks were given to the insertion, which answered i and left u and v
     pub step-made : x ≡ step.Make → (ks : List Path) → made ks ≡ made (makes f p) → (i : Inserted) → i ≡ insertion (r .«entry_size») limit (length s) (made ks)

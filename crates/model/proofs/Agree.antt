@@ -17,22 +17,23 @@ use Rattle.model.specs.Tree.{held, Node, dir, file, link, Entry, own, re
 use Rattle.model.specs.Tree.{Kind, nothing, aDirectory, aFile, aLink, kindOf, kind, isNothing, isDirectory}
 use Rattle.model.specs.Table.{charge}
 use Rattle.model.specs.Checks.{Check, pass, refuse, _then_, unless, parentChecks, writeChecks, mkdirAt, mkdirParents, missing, makes, unlinkAt, unlinkChecks}
-use Rattle.model.specs.Checks.{notRoot, noVisibleChild, rmdirChecks, Memory, limited, unlimited, charged}
+use Rattle.model.specs.Checks.{noVisibleChild, rmdirChecks, Memory, limited, unlimited, charged}
 use Rattle.model.specs.Rename.{notLink, notDeleted, noClash, present, ifDirectory, planned, plan, budget, atLink, stops, Walk, sum, overBudget, stopped, walkFrom, walked}
-use Rattle.model.specs.Rename.{carried, moved, keysFit, renamePaths, renameTypes, planAndWalk, directoryMemory, renameChecks}
+use Rattle.model.specs.Rename.{carried, moved, keysFit, renamePaths, renameTypes, planAndWalk, directoryMemory, renameMemory, ontoItself, renameChecks}
 use Rattle.model.specs.Content.{isOwn, contentOf, appended, appendChecks, appendMemory, insideChecks, spliced}
 use Rattle.model.specs.Calls.{Call, write, append, writeInside, mkdir, unlink, rmdir, rename, changed, rules}
 use Rattle.model.specs.Plain.{plainWrite, plainEffect}
 use Rattle.model.specs.Cause.{MovesDirectory, Exceeds, charge-above, plan-above, walk-above, content-above, key-above}
-use Rattle.model.proofs.Orders.{bot, yea, nay, test, is-none, is-some, opt, mem}
+use Rattle.model.proofs.Orders.{same-refl, bot, yea, nay, test, is-none, is-some, opt, mem}
 use Rattle.model.proofs.Orders.{rest-self, rest-below, rest-nil, below-rest}
 use Rattle.model.proofs.Maps.{upd, orElse, lookup-put, lookup-del, lookup-puts, lookup-each, Ascending, ascending-put, ascending-del, ascending-puts, ascending-outside}
 use Rattle.model.proofs.Invariant.{kind-is, is-nothing, is-directory, is-file, is-link′, entry-at, at-none, at-own, at-reference, at-directory, at-deleted}
 use Rattle.model.proofs.Invariant.{Closed, Inv, shown-put, shown-over, kind-at, kind-entry, then-pass, then-both, parents-dirs, parents-pass, inv-empty}
-use Rattle.model.proofs.Small.{write-inv, unlink-inv, unlink-regular, rmdir-inv, RmdirOk, rmdir-ok, ok-rmdir, met-nothing, met-directory, mkdir-met, makes-missing, makes-none, mkdir-inv, mkdir-up, mkdir-lookup, madeAt, childless-empty, empty-childless}
+use Rattle.model.proofs.Small.{write-inv, unlink-inv, unlink-regular, rmdir-inv, RmdirOk, rmdir-ok, ok-rmdir, met-nothing, met-directory, mkdir-met, makes-missing, makes-none, mkdir-inv, mkdir-up, mkdir-lookup, madeAt, childless-empty, empty-childless, root-refused, root-passes}
 use Rattle.model.proofs.Contents.{append-passed, inside-passed, inside-write}
-use Rattle.model.proofs.Moves.{Held, RenameOk, moveView, move-inv, move-tree, plain-move, entry-free, listed-stop, kind-link, kind-absent, proper-pass}
-use Rattle.model.proofs.Passed.{PathsPassed, TypesPassed, passed-paths, passed-types, rename-passed}
+use Rattle.model.proofs.Moves.{Held, RenameOk, moveView, move-inv, move-tree, plain-move, entry-free, listed-stop, kind-link, kind-absent}
+use Rattle.model.proofs.Passed.{PathsPassed, TypesPassed, MovePassed, RenamePassed, two-elsewhere, passed-paths, passed-types, rename-passed}
+use Rattle.model.proofs.Itself.{ItselfOk, itself-ok, visible-above, itself-onto, itself-checks}
 use Rattle.model.proofs.Walks.{Met, walk-stops, walk-met, walk-budget, walk-over}
 
 -- the table t over the listing l and the plain tree s: the invariant, and the same tree
@@ -50,6 +51,11 @@ pub data Caused (E limit : ℕ) (t : Table) (l : Tree) (c : Call) : Check → Ty
 abbrev pub Allowed : Memory → Table → Tree → Call → Check → Type 0
 Allowed (limited E limit) t l c x = Caused E limit t l c x
 Allowed unlimited t l c x = x ≡ pass
+
+-- an accepted rename, by what is shown
+pub data RenameIs (f : View) (a b : Path) : Type 0 where
+  itself : ItselfOk f a b → RenameIs f a b
+  elsewhere : RenameOk f a b → RenameIs f a b
 
 -- what mkdir accepts
 pass-nothing : (n : ℕ) (ok : Bool) (k : Kind) (y : Check) → k ≡ nothing → y ≡ pass → mkdirAt n ok k y ≡ pass
@@ -149,13 +155,13 @@ module _ (t : Table) (l : Tree) (cl : Closed (lookup l)) (i : Inv t l) (a b : Pa
   no-stop-at n h r (file m z c) g e = bot (cc)
   no-stop-at n h r link g e = bot (cc (kind-at (shown t l) a (some link) g r))
 
-  pub rename-ok : (m : Memory) → renameChecks m t l a b ≡ pass → RenameOk (shown t l) a b
-  rename-ok m h =
-      let p = rename-passed m t l a b h in
-      let from = sa (p .paths .source-not-root) in
-      let to = sb (p .paths .destination-not-root) in
+  moved-ok : (m : Memory) → MovePassed m t l a b → RenameOk (shown t l) a b
+  moved-ok m p =
+      let from = root-refused 0 a (p .paths .source-not-root) in
+      let to = root-refused 1 b (p .paths .destination-not-root) in
       let ty = p .types .types-agree in
       record {
+        two = p .two;
         source = from;
         target = to;
         up = λ q z. parents-dirs 1 (length b) (kind (shown t l)) b q (p .paths .destination-parents) z;
@@ -168,12 +174,6 @@ module _ (t : Table) (l : Tree) (cl : Closed (lookup l)) (i : Inv t l) (a b : Pa
         over-file = file′ ty (p .types .source-present) (p .paths .source-no-link);
       }
     where
-      sa : notRoot 0 a ≡ pass → a ≡ [] → ⊥
-      sa h e = bot (cc)
-
-      sb : notRoot 1 b ≡ pass → b ≡ [] → ⊥
-      sb h e = bot (cc)
-
       found′ : present (length a) (kind (shown t l) a) ≡ pass → (a ≡ [] → ⊥) → shown t l a ≡ none → ⊥
       found′ h r e = bot (cc (kind-at (shown t l) a none e r))
 
@@ -202,12 +202,22 @@ module _ (t : Table) (l : Tree) (cl : Closed (lookup l)) (i : Inv t l) (a b : Pa
           → notLink 0 (length a) (kind (shown t l) a) ≡ pass → kind (shown t l) b ≡ aFile → kind (shown t l) a ≡ aFile
       file′ h g r e = elim (kind-is (kind (shown t l) a)) [ is-directory k ↦ cc | is-nothing k ↦ cc | is-file k ↦ k | is-link′ k ↦ cc ]
 
-  ok-rename : Ascending l → RenameOk (shown t l) a b → (m : Memory) → Allowed m t l (rename a b) (renameChecks m t l a b)
-  ok-rename asc o m =
-      next (renamePaths t l a b) _ (fine (renamePaths t l a b) (passed-paths t l a b paths′)) (
+  pub rename-ok : (m : Memory) → renameChecks m t l a b ≡ pass → RenameIs (shown t l) a b
+  rename-ok m h = elim (rename-passed m t l a b h) [
+    | RenamePassed.itself e p ↦ RenameIs.itself (itself-ok t l a b e p)
+    | RenamePassed.elsewhere p ↦ RenameIs.elsewhere (moved-ok m p)
+  ]
+
+  ok-move : Ascending l → RenameOk (shown t l) a b → (m : Memory) → Allowed m t l (rename a b) (renameChecks m t l a b)
+  ok-move asc o m =
+      let e = two-elsewhere (shown t l) a b (o .two) in
+      let later = renameTypes t l a b then renameMemory m t l a b in
+      next (renamePaths t l a b) _ (fine (renamePaths t l a b) (passed-paths t l a b paths′))
+      (subst⁻¹ (λ (x : Bool). Allowed m t l (rename a b) (cond x pass later)) e (
       next (renameTypes t l a b) _ (fine (renameTypes t l a b) (passed-types t l a b types′)) (
-      next (directoryMemory m t l a b) _ directory′ (
-      next (charged m (moved t l a b)) _ (allowed-charged t l (rename a b) m) (allowed-keys t l (rename a b) m a b refl))))
+      next (directoryMemory m t l a b) _ (directory′ e) (
+      next (charged m (moved t l a b)) _ (subst (λ (x : Bool). Allowed m t l (rename a b) (charged m (cond x t (moved t l a b)))) e (allowed-charged t l (rename a b) m))
+      (allowed-keys t l (rename a b) m a b refl)))))
     where
       ka : Kind
       ka = kind (shown t l) a
@@ -261,8 +271,8 @@ module _ (t : Table) (l : Tree) (cl : Closed (lookup l)) (i : Inv t l) (a b : Pa
 
       paths′ : PathsPassed t l a b
       paths′ = record {
-        source-not-root = proper-pass t l i a b 0 a (o .source);
-        destination-not-root = proper-pass t l i a b 1 b (o .target);
+        source-not-root = root-passes 0 a (o .source);
+        destination-not-root = root-passes 1 b (o .target);
         destination-parents = parents-pass 1 (length b) (kind (shown t l)) b (o .up);
         destination-no-link = link-b;
         source-parents = parents-pass 0 (length a) (kind (shown t l)) a up-a;
@@ -282,11 +292,18 @@ module _ (t : Table) (l : Tree) (cl : Closed (lookup l)) (i : Inv t l) (a b : Pa
       met : Met t l a → ⊥
       met x = let r = below-rest a (x .path) (x .under) in o .unstopped (x .path) (47 ∷ r .0) (x .node) (r .1) (cc (x .is-there, x .free)) (x .ends)
 
-      directory′ : Allowed m t l (rename a b) (directoryMemory m t l a b)
-      directory′ = if-dir ka (planAndWalk m t l a b) (λ k.
-          next (plan m t a b) _ (allowed-plan t l (rename a b) m a b (record { renames = refl; moves = k })) (
+      directory′ : ontoItself (shown t l) a b ≡ false → Allowed m t l (rename a b) (directoryMemory m t l a b)
+      directory′ e = if-dir ka (planAndWalk m t l a b) (λ k.
+          let moves : MovesDirectory t l (rename a b) a b = record { renames = refl; moves = k; elsewhere = e } in
+          next (plan m t a b) _ (allowed-plan t l (rename a b) m a b moves) (
           if-dir (kind (lookup l) a) (walked (length a) (walkFrom t l (budget m t a b) a)) (λ d.
-          allowed-walk t l (rename a b) asc m a b (record { renames = refl; moves = k }) d met)))
+          allowed-walk t l (rename a b) asc m a b moves d met)))
+
+  ok-rename : Ascending l → RenameIs (shown t l) a b → (m : Memory) → Allowed m t l (rename a b) (renameChecks m t l a b)
+  ok-rename asc (RenameIs.itself o) m = subst (λ (p : Path). Allowed m t l (rename a p) (renameChecks m t l a p)) (o .one)
+      (allowed-pass t l (rename a a) m (renameChecks m t l a a)
+      (itself-checks t l a (o .visible) (o .proper) (visible-above (shown t l) (i .closed) a (o .proper) (o .visible)) m))
+  ok-rename asc (RenameIs.elsewhere o) m = ok-move asc o m
 
 -- the plain tree with directories at a path and at its missing ancestors
 abbrev plainMade : Tree → Path → ℕ → Tree
@@ -370,7 +387,7 @@ module _ (t : Table) (l s : Tree) (g : Sound t l s) where
   accepts cl m (rmdir p) h = let e = then-pass (rmdirChecks t l p) (charged m (changed t l (rmdir p))) h in
       then-both (rmdirChecks [] s p) pass (agree-rmdir p .0 (e .0)) refl
   accepts cl m (rename a b) h =
-      ok-rename [] s plain-closed plain-inv a b (g .sorted) (subst (λ (f : View). RenameOk f a b) (g .tree) (rename-ok t l cl (g .inv) a b m h)) unlimited
+      ok-rename [] s plain-closed plain-inv a b (g .sorted) (subst (λ (f : View). RenameIs f a b) (g .tree) (rename-ok t l cl (g .inv) a b m h)) unlimited
 
   -- and none that they allow is refused but by 11 or 12, with its cause
   pub allows : Closed (lookup l) → Ascending l → (m : Memory) (c : Call) → rules unlimited [] s c ≡ pass → Allowed m t l c (rules m t l c)
@@ -398,7 +415,7 @@ module _ (t : Table) (l s : Tree) (g : Sound t l s) where
       (allowed-pass t l (rmdir p) m (rmdirChecks t l p) (agree-rmdir p .1 (then-pass (rmdirChecks [] s p) pass h .0)))
       (allowed-charged t l (rmdir p) m)
   allows cl al m (rename a b) h =
-      ok-rename t l cl (g .inv) a b al (subst⁻¹ (λ (f : View). RenameOk f a b) (g .tree) (rename-ok [] s plain-closed plain-inv a b unlimited h)) m
+      ok-rename t l cl (g .inv) a b al (subst⁻¹ (λ (f : View). RenameIs f a b) (g .tree) (rename-ok [] s plain-closed plain-inv a b unlimited h)) m
 
   sort : (c : Call) → Ascending (plainEffect s c)
   sort (write p m c) = ascending-put p _ s (g .sorted)
@@ -466,6 +483,15 @@ module _ (t : Table) (l s : Tree) (g : Sound t l s) where
   written-from F p d h = subst (λ (f : View). Sound (put p (own d (F (shown t l p))) t) l (plainWrite p d (F (f p)) s)) (g .tree)
       (written p d (F (shown t l p)) h)
 
+  rename-kept : Held l → Closed (lookup l) → (a b : Path) → RenameIs (shown t l) a b → Sound (changed t l (rename a b)) l (plainEffect s (rename a b))
+  rename-kept hl cl a b (RenameIs.itself o) = subst (λ (p : Path). Sound (changed t l (rename a p)) l (plainEffect s (rename a p))) (o .one)
+      (rw (itself-onto t l a (o .visible)) (rw (same-refl a) g))
+  rename-kept hl cl a b (RenameIs.elsewhere o) = rw (two-elsewhere (shown t l) a b (o .two)) (record {
+    inv = move-inv t l hl cl (g .inv) a b o;
+    tree = move-tree t l hl cl (g .inv) a b o ∙ ap (moveView a b) (g .tree) ∙ sym (plain-move s a b (subst (λ (f : View). RenameOk f a b) (g .tree) o));
+    sorted = sort (rename a b);
+  })
+
   -- an accepted call keeps the invariant and the tree
   pub keeps : Held l → Closed (lookup l) → (m : Memory) (c : Call) → rules m t l c ≡ pass → Sound (changed t l c) l (plainEffect s c)
   keeps hl cl m (write p d x) h = written p d x (then-pass (writeChecks (shown t l) p) (charged m (changed t l (write p d x))) h .0)
@@ -483,11 +509,7 @@ module _ (t : Table) (l s : Tree) (g : Sound t l s) where
     tree = shown-put t l p deleted ∙ ap (λ (f : View). upd f p none) (g .tree) ∙ sym (fun-ext (lookup-del p s));
     sorted = sort (rmdir p);
   }
-  keeps hl cl m (rename a b) h = let o = rename-ok t l cl (g .inv) a b m h in record {
-    inv = move-inv t l hl cl (g .inv) a b o;
-    tree = move-tree t l hl cl (g .inv) a b o ∙ ap (moveView a b) (g .tree) ∙ sym (plain-move s a b (subst (λ (f : View). RenameOk f a b) (g .tree) o));
-    sorted = sort (rename a b);
-  }
+  keeps hl cl m (rename a b) h = rename-kept hl cl a b (rename-ok t l cl (g .inv) a b m h)
 
 -- the empty table over a listing, with the listing as the plain tree
 pub sound-empty : (l : Tree) → Closed (lookup l) → Ascending l → Sound [] l l

@@ -1,4 +1,5 @@
--- The cases of document 01, "Corners in overlay.rs and overlay_state.rs", that are marked (P): one table, one theorem, computed.
+-- The cases of document 01, "Corners in overlay.rs and overlay_state.rs", that are marked (P): one table, one theorem, computed. Two have the
+-- answer that #104 gives them.
 -- Each compares the whole answer (number, path, length), the charge and all entries after the call.
 use mathlib.Core.List.{List, [], _∷_, map}
 use mathlib.Core.Path.{_≡_, refl}
@@ -38,8 +39,9 @@ cases =
     ∷ from L (renaming 1194 "a" "b") [] (refused 11 0 0) 0 []
     ∷ from L (renaming 1195 "a" "b") (renaming 1460 "b" "a" ∷ []) (accepted 0) 1195 back
     ∷ from L (renaming 1195 "a" "b") (renaming 1459 "b" "a" ∷ []) (refused 11 0 0) 1195 there
-    ∷ from L (renaming 298 "z" "z") [] (accepted 0) 298 ((path "z", reference 0 0 (path "z")) ∷ [])
-    ∷ from L (renaming ample "a" "a") [] (refused 9 1 1) 0 []
+    -- #104: "Cases `a` to `a` and `z` to `z` of 01 change"
+    ∷ from L (renaming 0 "z" "z") [] (accepted 0) 0 []
+    ∷ from L (renaming 0 "a" "a") [] (accepted 0) 0 []
     ∷ from L (renaming ample "a" "a/b") [] (refused 10 0 1) 0 []
     ∷ from L (renaming ample "a" "a/f") [] (refused 7 1 3) 0 []
     ∷ from L (renaming ample "q" "a") [] (refused 8 1 1) 0 []

@@ -221,8 +221,6 @@ orders =
     (refused 9 0 1) 297 ((path "a", directory 9) ∷ [])
     -- names the destination where both paths are empty
     ∷ from L (renaming ample "" "") [] (refused 4 0 0) 0 []
-    -- moves a directory onto itself only where it is not empty
-    ∷ from L (making ample "d") (renaming ample "d" "d" ∷ []) (accepted 0) 297 ((path "d", directory 7) ∷ [])
     -- moves a file onto a directory
     ∷ from L (renaming ample "z" "a") [] (refused 8 1 1) 0 []
     -- keeps the destination's mtime
@@ -307,9 +305,48 @@ limits =
     ∷ poor (removing 0 "") (refused 4 0 0)
     ∷ poor (removing 0 "z") (refused 7 0 1)
     ∷ poor (removing 0 "a") (refused 9 0 1)
-    ∷ poor (renaming 0 "a" "a") (refused 9 1 1)
     ∷ poor (renaming 0 "a" "a/b") (refused 10 0 1)
     ∷ poor (renaming 0 "n" "m") (refused 5 0 1)
+    ∷ kept pair ((path "q", own 7 []) ∷ []) (renaming 0 "a" "d") (refused 9 1 1) 297
+    ∷ []
+
+-- #104
+pub itselves : List Case
+itselves =
+    -- only within the limit, or within the plan's or the walk's budget: a directory, a file, what was made or written
+    poor (renaming 0 "a" "a") (accepted 0)
+    ∷ poor (renaming 0 "z" "z") (accepted 0)
+    ∷ poor (renaming 0 "q" "q") (accepted 0)
+    ∷ poor (renaming 0 "a/f" "a/f") (accepted 0)
+    ∷ from L (making ample "d") (renaming 0 "d" "d" ∷ []) (accepted 0) 297 ((path "d", directory 7) ∷ [])
+    -- moves what was moved once more: its deleted entries, its references, its charge
+    ∷ from L (renaming ample "a" "b") (renaming 0 "b" "b" ∷ []) (accepted 0) 1195 there
+    ∷ from L (renaming ample "a" "b") (renaming 0 "b/f" "b/f" ∷ []) (accepted 0) 1195 there
+    -- 13, where the entries fill the buffer
+    ∷ begun L 40 107 there (renaming 0 "b" "b") [] (accepted 0) 1195 there
+    ∷ begun L 40 0 [] (renaming 0 "a" "a") [] (accepted 0) 0 []
+    -- 4 at a link in the walk, or 9 by what is below
+    ∷ from hooked (renaming 0 "a" "a") [] (accepted 0) 0 []
+    ∷ from deep (renaming 0 "a/b" "a/b") [] (accepted 0) 0 []
+    -- accepted before the roots, the links or the parents are looked at
+    ∷ poor (renaming 0 "" "") (refused 4 0 0)
+    ∷ poor (renaming 0 "l" "l") (refused 4 1 1)
+    ∷ poor (renaming 0 "l/x" "l/x") (refused 4 1 3)
+    ∷ poor (renaming 0 "z/n" "z/n") (refused 5 1 3)
+    ∷ kept [] (loose (own 7 [])) (renaming ample "b/x" "b/x") (refused 5 1 3) 299
+    ∷ kept [] (loose (directory 7)) (renaming ample "b/x" "b/x") (refused 5 1 3) 299
+    ∷ kept L ((path "a", deleted) ∷ []) (renaming ample "a/f" "a/f") (refused 5 1 3) 297
+    ∷ kept L ((path "l/x", own 7 []) ∷ []) (renaming ample "l/x" "l/x") (refused 4 1 3) 299
+    -- accepted though nothing is there, or what was there is deleted
+    ∷ poor (renaming 0 "n" "n") (refused 5 0 1)
+    ∷ from L (unlinking ample "z") (renaming 0 "z" "z" ∷ []) (refused 5 0 1) 297 ((path "z", deleted) ∷ [])
+    ∷ from L (renaming ample "a" "b") (renaming 0 "a" "a" ∷ []) (refused 5 0 1) 1195 there
+    ∷ kept [] ((path "b", deleted) ∷ []) (renaming ample "b" "b") (refused 5 0 1) 297
+    -- taken for a move onto itself by its beginning, its length or its parent
+    ∷ from L (renaming 1195 "a" "aa") [] (refused 11 0 0) 0 []
+    ∷ from L (renaming 595 "z" "y") [] (accepted 0) 595
+    ((path "y", reference 0 0 (path "z")) ∷ (path "z", deleted) ∷ [])
+    ∷ from L (renaming ample "a" "a/a") [] (refused 10 0 1) 0 []
     ∷ []
 
 pub smalls : List Case
@@ -414,10 +451,10 @@ sizes =
     ∷ []
 
 pub corners : List Case
-corners = belows ++ deletions ++ walks ++ links ++ orders ++ parents ++ limits ++ smalls ++ queries ++ sizes
+corners = belows ++ deletions ++ walks ++ links ++ orders ++ parents ++ limits ++ itselves ++ smalls ++ queries ++ sizes
 
 pub corners-hold : map computed corners ≡ map stated corners
-unfolding corners belows deletions walks links orders parents limits smalls queries sizes
+unfolding corners belows deletions walks links orders parents limits itselves smalls queries sizes
 corners-hold = refl {a = map stated corners}
 
 -- #112's fifth rule is needed. Over `deep`, a table whose one entry is a directory at `a/b` keeps the other four; the

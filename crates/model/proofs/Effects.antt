@@ -16,20 +16,21 @@ use Rattle.model.specs.Tree.{Kind, nothing, aDirectory, aLink, kindOf, k
 use Rattle.model.specs.Table.{charge}
 use Rattle.model.specs.Checks.{Check, pass, _then_, unless, parentChecks, writeChecks, mkdirAt, mkdirParents, missing, makes, unlinkChecks, rmdirChecks}
 use Rattle.model.specs.Checks.{Memory, limited, charged}
-use Rattle.model.specs.Rename.{asEntry, uncovered, along, carried, moved, renameChecks}
+use Rattle.model.specs.Rename.{asEntry, uncovered, along, carried, moved, ontoItself}
 use Rattle.model.specs.Content.{contentOf, appended, spliced}
-use Rattle.model.specs.Calls.{Call, write, append, writeInside, mkdir, unlink, rmdir, rename, changed, rules}
+use Rattle.model.specs.Calls.{Call, write, append, writeInside, mkdir, unlink, rmdir, rename, changed, rules, exists, says}
 use Rattle.model.specs.Posix.{Prefixed, Empty, makeDirectory, makeMissing, makeDirectories, renameFile, Posix}
 use Rattle.model.specs.Runs.{touches}
-use Rattle.model.proofs.Orders.{split, Split, bot, yea, nay, test, is-none, is-some, opt, mem, mem-ancestors}
+use Rattle.model.proofs.Orders.{split, Split, same-no, same-refl, below-irrefl, bot, yea, nay, test, is-none, is-some, opt, mem, mem-ancestors}
 use Rattle.model.proofs.Orders.{rest-below, rest-nil}
 use Rattle.model.proofs.Maps.{orElse, lookup-put, lookup-puts, lookup-each, lookup-rekey, lookup-keys, lookup-only}
 use Rattle.model.proofs.Invariant.{kind-is, is-nothing, is-directory, is-file, is-link′, Closed, Inv, shown-put, shown-over, kind-at, then-pass, parents-dirs}
 use Rattle.model.proofs.Small.{mkdir-up, mem-absent, met-nothing, met-directory, mkdir-met, makes-missing, makes-none, not-both, mkdir-lookup, madeAt, unlink-found, rmdir-ok, above-dirs}
 use Rattle.model.proofs.Contents.{append-passed, inside-passed}
-use Rattle.model.proofs.Moves.{Held, RenameOk, moveView, move-tree, move-self}
-use Rattle.model.proofs.Passed.{rename-passed}
-use Rattle.model.proofs.Agree.{rename-ok}
+use Rattle.model.proofs.Moves.{Held, RenameOk, moveView, move-tree}
+use Rattle.model.proofs.Passed.{RenamePassed, two-elsewhere, rename-passed}
+use Rattle.model.proofs.Itself.{exists-there, visible-above, itself-onto}
+use Rattle.model.proofs.Agree.{RenameIs, rename-ok}
 
 -- the entries elsewhere stay
 
@@ -82,8 +83,11 @@ module _ (t : Table) (l : Tree) (k : Path) where
       let e = or-false (same a k) (same b k || (below a k || below b k)) h in
       let g = or-false (same b k) (below a k || below b k) (e .1) in
       let d = or-false (below a k) (below b k) (g .1) in
-      stays-moved (carried t l a) t a b k (only-none (along (kind (shown t l) a) a) (puts t (mapped asEntry (only (uncovered t a) l))) k
-      (not-along (kind (shown t l) a) a k (e .0) (d .0))) (rest-none b k (g .0) (d .1))
+      elim (test (ontoItself (shown t l) a b)) [
+        | yea o ↦ rw o refl
+        | nay o ↦ rw o (stays-moved (carried t l a) t a b k (only-none (along (kind (shown t l) a) a) (puts t (mapped asEntry (only (uncovered t a) l))) k
+            (not-along (kind (shown t l) a) a k (e .0) (d .0))) (rest-none b k (g .0) (d .1)))
+      ]
 
 -- within the limit
 
@@ -107,7 +111,10 @@ module _ (E limit : ℕ) (t : Table) (l : Tree) where
   ]
   in-limit (unlink p) h = inl (within (charge E (changed t l (unlink p))) limit (then-pass (unlinkChecks t l p) (charged (limited E limit) (changed t l (unlink p))) h .1))
   in-limit (rmdir p) h = inl (within (charge E (changed t l (rmdir p))) limit (then-pass (rmdirChecks t l p) (charged (limited E limit) (changed t l (rmdir p))) h .1))
-  in-limit (rename a b) h = inl (within (charge E (moved t l a b)) limit (rename-passed (limited E limit) t l a b h .memory .charge-fits))
+  in-limit (rename a b) h = elim (rename-passed (limited E limit) t l a b h) [
+    | RenamePassed.itself e p ↦ inr (rw e refl)
+    | RenamePassed.elsewhere p ↦ inl (rw (two-elsewhere (shown t l) a b (p .two)) (within (charge E (moved t l a b)) limit (p .memory .charge-fits)))
+  ]
 
 -- POSIX
 
@@ -251,8 +258,26 @@ module _ (t : Table) (l : Tree) (i : Inv t l) where
     shown-put t l p deleted,
   )
 
-  posix-rename : Held l → Closed (lookup l) → (m : Memory) (a b : Path) → renameChecks m t l a b ≡ pass → Posix (shown t l) (shown (moved t l a b) l) (rename a b)
-  posix-rename hl cl m a b h = let o = rename-ok t l cl i a b m h in (
+  -- onto itself: no other action
+  posix-itself : (a : Path) → (a ≡ [] → ⊥) → says exists (kind (shown t l) a) ≡ true → Posix (shown t l) (shown t l) (rename a a)
+  posix-itself a proper visible =
+      let up = visible-above (shown t l) (i .closed) a proper visible in (
+        record {
+          named-old = proper;
+          named-new = proper;
+          prefixed-old = up;
+          prefixed-new = up;
+          present = exists-there (kind (shown t l) a) visible;
+          onto-directory = λ d. d;
+          onto-other = λ d n. d;
+          onto-empty = λ n d. absurd (n refl);
+          apart = below-irrefl a;
+        },
+        fun-ext (λ q. sym (ap (λ (c : Bool). cond c (shown t l q) (moveView a a (shown t l) q)) (same-refl a))),
+      )
+
+  posix-move : Held l → Closed (lookup l) → (a b : Path) → RenameOk (shown t l) a b → Posix (shown t l) (shown (moved t l a b) l) (rename a b)
+  posix-move hl cl a b o = (
     record {
       named-old = o .source;
       named-new = o .target;
@@ -294,10 +319,12 @@ module _ (t : Table) (l : Tree) (i : Inv t l) where
               go (some link) h = n h
 
       same-move : (q : Path) → moveView a b (shown t l) q ≡ renameFile a b (shown t l) q
-      same-move q = elim (split a b) [
-        | Split.ne e w ↦ sym (ap (λ (c : Bool). cond c (shown t l q) (moveView a b (shown t l) q)) w)
-        | Split.eq e w ↦ ap (λ (p : Path). moveView a p (shown t l) q) (sym e) ∙ move-self (shown t l) a q ∙ sym (ap (λ (c : Bool). cond c (shown t l q) (moveView a b (shown t l) q)) w)
-      ]
+      same-move q = sym (ap (λ (c : Bool). cond c (shown t l q) (moveView a b (shown t l) q)) (same-no a b (o .two)))
+
+  posix-rename : Held l → Closed (lookup l) → (a b : Path) → RenameIs (shown t l) a b → Posix (shown t l) (shown (changed t l (rename a b)) l) (rename a b)
+  posix-rename hl cl a b (RenameIs.itself o) = subst (λ (p : Path). Posix (shown t l) (shown (changed t l (rename a p)) l) (rename a p)) (o .one)
+      (rw (itself-onto t l a (o .visible)) (posix-itself a (o .proper) (o .visible)))
+  posix-rename hl cl a b (RenameIs.elsewhere o) = rw (two-elsewhere (shown t l) a b (o .two)) (posix-move hl cl a b o)
 
   -- an accepted call does to the visible tree what the standard says
   pub posix : Held l → Closed (lookup l) → (m : Memory) (c : Call) → rules m t l c ≡ pass → Posix (shown t l) (shown (changed t l c) l) c
@@ -307,4 +334,4 @@ module _ (t : Table) (l : Tree) (i : Inv t l) where
   posix hl cl m (mkdir p up ok d) h = posix-mkdir p up ok d (charged m (changed t l (mkdir p up ok d))) h
   posix hl cl m (unlink p) h = posix-unlink p (then-pass (unlinkChecks t l p) (charged m (changed t l (unlink p))) h .0)
   posix hl cl m (rmdir p) h = posix-rmdir p (then-pass (rmdirChecks t l p) (charged m (changed t l (rmdir p))) h .0)
-  posix hl cl m (rename a b) h = posix-rename hl cl m a b h
+  posix hl cl m (rename a b) h = posix-rename hl cl a b (rename-ok t l cl i a b m h)

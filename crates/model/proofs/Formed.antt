@@ -22,7 +22,7 @@ use Rattle.model.specs.Listing.{treeFrom, treeIn, formedRecord, isListin
 use Rattle.model.specs.Table.{formedBody, formedEntry}
 use Rattle.model.specs.Checks.{pass, form, writeChecks, missing, makes, unlinkChecks, notRoot, rmdirChecks}
 use Rattle.model.specs.Checks.{limited, charged}
-use Rattle.model.specs.Rename.{asEntry, uncovered, along, carried, moved, renameChecks}
+use Rattle.model.specs.Rename.{asEntry, uncovered, along, carried, moved}
 use Rattle.model.specs.Content.{contentOf, appended, spliced}
 use Rattle.model.specs.Calls.{Call, write, append, writeInside, mkdir, unlink, rmdir, rename, changed, forms, rules}
 use Rattle.model.proofs.Orders.{bot, yea, nay, test, and-true, is-none, is-some, opt, eqb-eq, same-refl, Split, split}
@@ -33,7 +33,7 @@ use Rattle.model.proofs.Maps.{orElse, mapO, lookup-put, lookup-puts, lo
 use Rattle.model.proofs.Invariant.{Closed, then-pass, unless-pass, form-is}
 use Rattle.model.proofs.Contents.{own-file, append-passed, inside-passed}
 use Rattle.model.proofs.Moves.{Held}
-use Rattle.model.proofs.Passed.{rename-passed}
+use Rattle.model.proofs.Passed.{RenamePassed, two-elsewhere, rename-passed}
 use Rattle.model.specs.Runs.{Word, WordedCall}
 use Rattle.model.proofs.Words.{Worded, Words, IsBytes}
 use Rattle.model.proofs.Texts.{path-ancestor, path-moved}
@@ -390,15 +390,13 @@ module _ (t : Table) (l : Tree) (f : FineTable t) (g : Listing l) (a : Path) whe
         let c = carried t l a in
         fine-puts (rekey a b c) (puts (each deleted (keys c)) t) (fine-puts (each deleted (keys c)) t f gone-fine) moved-fine
 
--- what of rename's checks is needed: no root, and short keys
-module _ (E limit : ℕ) (t : Table) (l : Tree) (a b : Path) where
-  rename-says : renameChecks (limited E limit) t l a b ≡ pass
-      → (a ≡ [] → ⊥) × (b ≡ [] → ⊥) × (every short (keys (rekey a b (carried t l a))) ≡ true)
-  rename-says h = let p = rename-passed (limited E limit) t l a b h in (
-    root-refused 0 a (p .paths .source-not-root),
-    root-refused 1 b (p .paths .destination-not-root),
-    unless-pass 12 (every short (keys (rekey a b (carried t l a)))) (p .memory .keys-fit),
-  )
+-- a move needs of rename's checks: no root, and short keys
+module _ (E limit : ℕ) (t : Table) (l : Tree) (a b : Path) (f : FineTable t) (g : Listing l) where
+  renamed-fine : isPath a ≡ true → isPath b ≡ true → RenamePassed (limited E limit) t l a b → FineTable (changed t l (rename a b))
+  renamed-fine ha hb (RenamePassed.itself e p) = rw e f
+  renamed-fine ha hb (RenamePassed.elsewhere p) = rw (two-elsewhere (shown t l) a b (p .two))
+      (rename-fine t l f g a b ha hb (root-refused 0 a (p .paths .source-not-root)) (root-refused 1 b (p .paths .destination-not-root))
+      (unless-pass 12 (every short (keys (rekey a b (carried t l a)))) (p .memory .keys-fit)))
 
 -- an accepted call keeps the form; rename's new keys are short by 12, which is asked only where memory is limited
 pub changed-fine : (t : Table) (l : Tree) (c : Call) (E limit : ℕ) → FineTable t → Listing l → WordedCall c
@@ -421,5 +419,4 @@ changed-fine t l (rmdir p) E limit f g w h r =
     delete-fine t p f (form-is 0 p h) (root-refused 0 p (then-pass (notRoot 0 p) _ (u .0) .0))
 changed-fine t l (rename a b) E limit f g w h r =
     let u = then-pass (form 0 a) (form 1 b) h in
-    let v = rename-says E limit t l a b r in
-    rename-fine t l f g a b (form-is 0 a (u .0)) (form-is 1 b (u .1)) (v .0) (v .1) (v .2)
+    renamed-fine E limit t l a b f g (form-is 0 a (u .0)) (form-is 1 b (u .1)) (rename-passed (limited E limit) t l a b r)

@@ -16,6 +16,7 @@ pub mod Moves
 pub mod Contents
 pub mod Splices
 pub mod Passed
+pub mod Itself
 pub mod Agree
 pub mod Effects
 pub mod Listings
@@ -25,6 +26,7 @@ pub mod Outputs
 pub mod Reached
 pub mod Resumed
 pub mod Built
+pub mod Unchanged
 pub mod Counted
 pub mod Demand3
 pub mod Chained

@@ -10,7 +10,6 @@ use Rattle.model.specs.Path.{Path, below, ancestors, rest}
 use Rattle.model.specs.Map.{isNone, byRest, lookup, del, puts, only, each, keys, rekey, outside, mapped}
 use Rattle.model.specs.Tree.{Body, listed, Node, dir, file, link, Entry, own, reference, directory, deleted, Table, Tree, View, view, over, shown}
 use Rattle.model.specs.Tree.{Kind, nothing, aDirectory, aFile, aLink, kindOf, kind, isDirectory}
-use Rattle.model.specs.Checks.{pass, notRoot}
 use Rattle.model.specs.Rename.{stops, asEntry, uncovered, along, carried, moved}
 use Rattle.model.specs.Plain.{plainMove}
 use Rattle.model.proofs.Orders.{split, Split, same-no, same-refl, bot, yea, nay, test, is-none, is-some, opt, mem, mem-ancestors}
@@ -23,8 +22,9 @@ use Rattle.model.proofs.Invariant.{entry-at, at-none, at-own, at-refere
 abbrev pub moveView : Path → Path → View → View
 moveView a b f q = byRest (rest b q) (λ s. f (a ++ s)) (byRest (rest a q) (λ s. none) (f q))
 
--- an accepted rename, by what is shown
+-- an accepted rename to another path, by what is shown
 pub record RenameOk (f : View) (a b : Path) : Type 0 where
+  pub two : a ≡ b → ⊥
   pub source : a ≡ [] → ⊥
   pub target : b ≡ [] → ⊥
   pub up : (q : Path) → below q b ≡ true → kind f q ≡ aDirectory
@@ -276,14 +276,6 @@ module _ (t : Table) (l : Tree) (held′ : Held l) (cl : Closed (lookup l)) (i :
   pub move-tree : shown (moved t l a b) l ≡ moveView a b (shown t l)
   move-tree = shown-over t (moved t l a b) l E E-is ∙ fun-ext move-shown
 
--- a path moved onto itself shows the same tree
-pub move-self : (f : View) (a q : Path) → moveView a a f q ≡ f q
-move-self f a q = go (rest a q) refl
-  where
-    go : (o : Option Path) → rest a q ≡ o → byRest o (λ s. f (a ++ s)) (byRest o (λ s. none) (f q)) ≡ f q
-    go none d = refl
-    go (some r) d = ap f (sym (rest-is a q r d .0))
-
 else-none : (x y : Option Node) → y ≡ none → orElse x y ≡ x
 else-none none y h = h
 else-none (some n) y h = refl
@@ -293,7 +285,7 @@ none-either none = refl
 none-either (some r) = refl
 
 -- the plain move: without what is at b, what is at a or below it goes to b
-module _ (f : View) (a b : Path) (o : RenameOk f a b) (e : a ≡ b → ⊥) (q : Path) where
+module _ (f : View) (a b : Path) (o : RenameOk f a b) (q : Path) where
   cleared : (k : Path) (c : Bool) → same b k ≡ c → upd f b none k ≡ cond c none (f k)
   cleared k c h = ap (λ (x : Bool). cond x none (f k)) h
 
@@ -307,7 +299,7 @@ module _ (f : View) (a b : Path) (o : RenameOk f a b) (e : a ≡ b → ⊥) (q :
 
   -- the target is not inside the source
   other : (r : Path) → rest b q ≡ some r → b ≡ a ++ r → ⊥
-  other [] d h = e (sym (h ∙ append-nil a))
+  other [] d h = o .two (sym (h ∙ append-nil a))
   other (x ∷ r) d h = o .apart (rest-below a b x r (ap (rest a) h ∙ rest-app a (x ∷ r) (rest-is b q (x ∷ r) d .1)))
 
   move-cleared : (z : Option Path) → rest b q ≡ z
@@ -323,10 +315,8 @@ module _ (s : Tree) (a b : Path) (o : RenameOk (lookup s) a b) where
       ∙ ap (λ (f : View). orElse (byRest (rest b q) (λ r. f (a ++ r)) none) (byRest (rest a q) (λ r. none) (f q))) (fun-ext (lookup-del b s))
 
   pub plain-move : lookup (cond (same a b) s (plainMove a b (del b s))) ≡ moveView a b (lookup s)
-  plain-move = elim (split a b) [
-    | Split.eq e y ↦ ap (λ (c : Bool). lookup (cond c s (plainMove a b (del b s)))) y ∙ sym (fun-ext (λ q. ap (λ (p : Path). moveView a p (lookup s) q) (sym e) ∙ move-self (lookup s) a q))
-    | Split.ne e y ↦ ap (λ (c : Bool). lookup (cond c s (plainMove a b (del b s)))) y ∙ fun-ext (λ q. plain-at q ∙ move-cleared (lookup s) a b o e q (rest b q) refl)
-  ]
+  plain-move = ap (λ (c : Bool). lookup (cond c s (plainMove a b (del b s)))) (same-no a b (o .two))
+      ∙ fun-ext (λ q. plain-at q ∙ move-cleared (lookup s) a b o q (rest b q) refl)
 
 module _ (t : Table) (l : Tree) (i : Inv t l) (a b : Path) where
   -- no entry shows a node that stops the walk: it is listed, and has no entry
@@ -355,7 +345,3 @@ module _ (t : Table) (l : Tree) (i : Inv t l) (a b : Path) where
     | a-file m s d e ↦ cc (kind-at (shown t l) p (some (file m s d)) e r)
     | a-link e ↦ cc (kind-at (shown t l) p (some link) e r)
   ]
-
-  pub proper-pass : (w : ℕ) (p : Path) → (p ≡ [] → ⊥) → notRoot w p ≡ pass
-  proper-pass w [] r = absurd (r refl)
-  proper-pass w (c ∷ cs) r = refl

@@ -1,13 +1,17 @@
--- What it means that rename's checks pass: a record for each of their three parts, with a field for each check.
-use mathlib.Core.Path.{_≡_, refl}
-use mathlib.Core.Bool.{cond}
+-- What it means that rename's checks pass: a record for each of their three parts, with a field for each check, and
+-- which of the parts were asked.
+use mathlib.Core.Path.{_≡_, refl, ap, ap₂, sym, _∙_}
+use mathlib.Core.Bool.{Bool, true, false, cond, not, _&&_}
+use Prim.Native.Nat.{ℕ}
 use lib.ListN.{length}
+use Rattle.model.specs.Bytes.{same}
 use Rattle.model.specs.Path.{Path, below}
 use Rattle.model.specs.Map.{lookup, rekey}
-use Rattle.model.specs.Tree.{Table, Tree, shown, Kind, nothing, aDirectory, aFile, aLink, kind}
+use Rattle.model.specs.Tree.{Table, Tree, View, shown, Kind, nothing, aDirectory, aFile, aLink, kind, isNothing}
 use Rattle.model.specs.Checks.{Check, pass, refuse, _then_, parentChecks, notRoot, noVisibleChild, Memory, charged}
 use Rattle.model.specs.Rename.{notLink, notDeleted, noClash, present, ifDirectory, plan, budget, walkFrom, walked, carried, moved, keysFit}
-use Rattle.model.specs.Rename.{renamePaths, renameTypes, directoryMemory, renameMemory, renameChecks}
+use Rattle.model.specs.Rename.{renamePaths, renameTypes, directoryMemory, renameMemory, ontoItself, renameChecks}
+use Rattle.model.proofs.Orders.{Split, split, same-no, same-refl, bot, yea, nay, test, and-true}
 use Rattle.model.proofs.Invariant.{then-pass, then-both}
 
 -- `renamePaths`: each path by itself
@@ -34,10 +38,43 @@ pub record MemoryPassed (m : Memory) (t : Table) (l : Tree) (a b : Path) : Type 
   pub charge-fits : charged m (moved t l a b) ≡ pass
   pub keys-fit : keysFit m (rekey a b (carried t l a)) ≡ pass
 
-pub record RenamePassed (m : Memory) (t : Table) (l : Tree) (a b : Path) : Type 0 where
+-- all three, of two paths
+pub record MovePassed (m : Memory) (t : Table) (l : Tree) (a b : Path) : Type 0 where
+  pub two : a ≡ b → ⊥
   pub paths : PathsPassed t l a b
   pub types : TypesPassed t l a b
   pub memory : MemoryPassed m t l a b
+
+pub data RenamePassed (m : Memory) (t : Table) (l : Tree) (a b : Path) : Type 0 where
+  itself : ontoItself (shown t l) a b ≡ true → PathsPassed t l a b → RenamePassed m t l a b
+  elsewhere : MovePassed m t l a b → RenamePassed m t l a b
+
+-- a source that `present` passes is visible
+present-visible : (n : ℕ) (k : Kind) → present n k ≡ pass → isNothing k ≡ false
+present-visible n nothing h = absurd (bot (cc))
+present-visible n aDirectory h = refl
+present-visible n aFile h = refl
+present-visible n aLink h = refl
+
+-- what `ontoItself` says
+not-false : (b : Bool) → not b ≡ true → b ≡ false
+not-false true h = absurd (bot (cc))
+not-false false h = refl
+
+module _ (f : View) (a b : Path) where
+  pub itself-is : ontoItself f a b ≡ true → (a ≡ b) × (isNothing (kind f a) ≡ false)
+  itself-is h =
+      let e = and-true (same a b) (not (isNothing (kind f a))) h in
+      (elim (split a b) [ Split.eq x y ↦ x | Split.ne x y ↦ absurd (bot (cc)) ], not-false (isNothing (kind f a)) (e .1))
+
+  pub two-elsewhere : (a ≡ b → ⊥) → ontoItself f a b ≡ false
+  two-elsewhere n = rw (same-no a b n)
+
+  -- a source that is there, and is not moved onto itself, is moved to another path
+  pub elsewhere-two : (n : ℕ) → ontoItself f a b ≡ false → present n (kind f a) ≡ pass → a ≡ b → ⊥
+  elsewhere-two n h p e =
+      let o : true ≡ false = sym (ap₂ (λ (x y : Bool). x && not y) (ap (same a) (sym e) ∙ same-refl a) (present-visible n (kind f a) p)) ∙ h in
+      bot (cc)
 
 -- two checks that are made of a directory, each by itself
 directory-pass : (k : Kind) (x y : Check) → ifDirectory k (x then y) ≡ pass → (ifDirectory k x ≡ pass) × (ifDirectory k y ≡ pass)
@@ -102,6 +139,18 @@ module _ (m : Memory) (t : Table) (l : Tree) (a b : Path) where
 
   pub rename-passed : renameChecks m t l a b ≡ pass → RenamePassed m t l a b
   rename-passed h =
-      let first = then-pass (renamePaths t l a b) (renameTypes t l a b then renameMemory m t l a b) h in
-      let last = then-pass (renameTypes t l a b) (renameMemory m t l a b) (first .1) in
-      record { paths = paths-passed t l a b (first .0); types = types-passed t l a b (last .0); memory = memory-passed (last .1) }
+      let later = renameTypes t l a b then renameMemory m t l a b in
+      let first = then-pass (renamePaths t l a b) (cond (ontoItself (shown t l) a b) pass later) h in
+      let paths = paths-passed t l a b (first .0) in
+      elim (test (ontoItself (shown t l) a b)) [
+        | yea e ↦ RenamePassed.itself e paths
+        | nay e ↦
+            let last = then-pass (renameTypes t l a b) (renameMemory m t l a b) (sym (ap (λ (x : Bool). cond x pass later) e) ∙ first .1) in
+            let types = types-passed t l a b (last .0) in
+            RenamePassed.elsewhere (record {
+              two = elsewhere-two (shown t l) a b (length a) e (types .source-present);
+              paths = paths;
+              types = types;
+              memory = memory-passed (last .1);
+            })
+      ]

@@ -15,7 +15,7 @@ use Rattle.model.specs.Tree.{Node, Entry, own, reference, directory, del
 use Rattle.model.specs.Table.{charge, isTable, tableIn, sized}
 use Rattle.model.specs.Listing.{isListing, treeIn}
 use Rattle.model.specs.Checks.{Check, pass, refuse, _then_, unless, form, parentAt, parentsIn, parentChecks, writeAt, ancestorAt, ancestorsIn, mkdirParents, mkdirAt, unlinkAt, unlinkEntry, notRoot, visibleChild, noVisibleChild, directoryAt, rmdirEntry, Memory, limited, unlimited, charged}
-use Rattle.model.specs.Rename.{notLink, notDeleted, noClash, present, ifDirectory, planned, plan, budget, Walk, sum, overBudget, atLink, stopped, walkFrom, walked, keysFit, carried, moved, renamePaths, renameTypes, renameMemory, renameChecks}
+use Rattle.model.specs.Rename.{notLink, notDeleted, noClash, present, ifDirectory, planned, plan, budget, Walk, sum, overBudget, atLink, stopped, walkFrom, walked, keysFit, carried, moved, renamePaths, renameTypes, renameMemory, ontoItself, renameChecks}
 use Rattle.model.specs.Content.{isOwn, needed, appended, appendMemory, ownAt}
 use Rattle.model.specs.Calls.{Call, write, append, writeInside, mkdir, unlink, rmdir, rename, changed, forms, rules, valueOf, Query, says}
 use Rattle.model.specs.Answer.{accepted, refused}
@@ -245,7 +245,7 @@ module _ (a b : Path) where
       and well-keysFit m (rekey a b (carried t l a))
 
   well-rename : (m : Memory) (t : Table) (l : Tree) → Well (rename a b) (renameChecks m t l a b)
-  well-rename m t l = well-paths t l and well-types t l and well-memory m t l
+  well-rename m t l = well-paths t l and well-cond (ontoItself (shown t l) a b) passes (well-types t l and well-memory m t l)
 
 -- 3, and 4 to 12, 17 and 18, of each call
 well-forms : (c : Call) → Well c (forms c)

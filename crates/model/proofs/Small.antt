@@ -242,6 +242,10 @@ pub root-refused : (w : ℕ) (p : Path) → notRoot w p ≡ pass → p ≡ [] �
 root-refused w [] h e = bot (cc)
 root-refused w (c ∷ p) h e = bot (cc)
 
+pub root-passes : (w : ℕ) (p : Path) → (p ≡ [] → ⊥) → notRoot w p ≡ pass
+root-passes w [] r = absurd (r refl)
+root-passes w (c ∷ p) r = refl
+
 -- what rmdir's check on the path's own entry says of the kind there: without an entry, what the checks behind it say; else the entry is a directory
 rmdir-entry : (n : ℕ) (o : Option Entry) (y : Check) (k : Kind) → rmdirEntry n o y ≡ pass → (y ≡ pass → k ≡ aDirectory) → ((m : ℕ) → o ≡ some (directory m) → k ≡ aDirectory) → k ≡ aDirectory
 rmdir-entry n none y k h a b = a h

@@ -1,6 +1,6 @@
 -- The calls of document 01 and #103 on a table and a tree: the checks in their order from 3 to 12, 17 and 18, the table
 -- after an accepted call, and the queries.
-use mathlib.Core.Bool.{Bool, true, false}
+use mathlib.Core.Bool.{Bool, true, false, cond}
 use mathlib.Core.List.{[]}
 use Prim.Native.Nat.{ℕ}
 use lib.ListN.{length}
@@ -11,7 +11,7 @@ use Rattle.model.specs.Tree.{own, directory, deleted, Table, Tree, shown
 use Rattle.model.specs.Tree.{kind}
 use Rattle.model.specs.Checks.{Check, _then_, form, writeChecks, mkdirAt, mkdirParents, makes, unlinkChecks}
 use Rattle.model.specs.Checks.{rmdirChecks, Memory, charged}
-use Rattle.model.specs.Rename.{moved, renameChecks}
+use Rattle.model.specs.Rename.{moved, ontoItself, renameChecks}
 use Rattle.model.specs.Content.{contentOf, appended, spliced, appendChecks, appendMemory, insideChecks}
 
 pub data Call : Type 0 where
@@ -23,7 +23,7 @@ pub data Call : Type 0 where
   rmdir : (p : Path) → Call
   rename : (source destination : Path) → Call
 
--- the table after the call, if it is accepted
+-- the table after the call, if it is accepted. #104: onto itself, "leave table and record as they are"
 abbrev pub changed : Table → Tree → Call → Table
 changed t l (write p m c) = put p (own m c) t
 changed t l (append p m d b) = put p (own m (appended (shown t l p) d b)) t
@@ -31,7 +31,7 @@ changed t l (writeInside p m o d) = put p (own m (spliced o d (contentOf (shown 
 changed t l (mkdir p up ok m) = puts (each (directory m) (makes (shown t l) p)) t
 changed t l (unlink p) = put p deleted t
 changed t l (rmdir p) = put p deleted t
-changed t l (rename a b) = moved t l a b
+changed t l (rename a b) = cond (ontoItself (shown t l) a b) t (moved t l a b)
 
 -- 3: "source before destination"
 abbrev pub forms : Call → Check

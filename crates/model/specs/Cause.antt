@@ -11,15 +11,16 @@ use Rattle.model.specs.Map.{lookup, keys, rekey}
 use Rattle.model.specs.Tree.{Table, Tree, shown, kind, aDirectory}
 use Rattle.model.specs.Listing.{isListing, treeIn}
 use Rattle.model.specs.Table.{encode, charge, isTable, tableIn}
-use Rattle.model.specs.Rename.{planned, sum, walkFrom, carried}
+use Rattle.model.specs.Rename.{planned, sum, walkFrom, carried, ontoItself}
 use Rattle.model.specs.Content.{appended}
 use Rattle.model.specs.Calls.{Call, append, rename, changed}
 use Rattle.model.specs.Outcome.{Store, Request, tableAfter}
 
--- a rename of a directory, whose plan and walk are charged beside the table
+-- a rename of a directory, whose plan and walk are charged beside the table; onto itself it has neither (#104)
 pub record MovesDirectory (t : Table) (l : Tree) (c : Call) (a b : Path) : Type 0 where
   pub renames : c ≡ rename a b
   pub moves : kind (shown t l) a ≡ aDirectory
+  pub elsewhere : ontoItself (shown t l) a b ≡ false
 
 -- the causes of 11 and 12 for a call c on the table t over the tree l
 pub data Exceeds (E limit : ℕ) (t : Table) (l : Tree) (c : Call) : ℕ → Type 0 where

@@ -9,8 +9,8 @@ use Rattle.model.specs.Bytes.{every, same, consIf}
 use Rattle.model.specs.Path.{Path, components, short, ancestors, below, child}
 use Rattle.model.specs.Map.{isNone, lookup, puts, only, each, keys, rekey, mapped}
 use Rattle.model.specs.Tree.{held, listed, Node, dir, file, link, Entry, own, reference, directory, deleted}
-use Rattle.model.specs.Tree.{Table, Tree, shown, Kind, nothing, aDirectory, aFile, aLink, kindOf, kind}
-use Rattle.model.specs.Tree.{isDirectory}
+use Rattle.model.specs.Tree.{Table, Tree, View, shown, Kind, nothing, aDirectory, aFile, aLink, kindOf, kind}
+use Rattle.model.specs.Tree.{isNothing, isDirectory}
 use Rattle.model.specs.Table.{charge}
 use Rattle.model.specs.Checks.{Check, pass, refuse, _then_, unless, parentChecks, notRoot, noVisibleChild, Memory}
 use Rattle.model.specs.Checks.{limited, unlimited, charged}
@@ -201,6 +201,14 @@ renameMemory memory t l a b =
     then charged memory (moved t l a b)
     then keysFit memory (rekey a b (carried t l a))
 
--- the three parts, in this order: each path by itself, both together, what moving takes of the memory
+-- #104: "both paths are equal and the source is visible"
+abbrev pub ontoItself : View → Path → Path → Bool
+ontoItself f a b = same a b && not (isNothing (kind f a))
+
+-- the three parts, in this order: each path by itself, both together, what moving takes of the memory. #104: onto
+-- itself, "accept … whatever the limit. This comes before the type clash check; parents, links and deleted sources
+-- refuse as before."
 abbrev pub renameChecks : Memory → Table → Tree → Path → Path → Check
-renameChecks memory t l a b = renamePaths t l a b then renameTypes t l a b then renameMemory memory t l a b
+renameChecks memory t l a b =
+    renamePaths t l a b
+    then cond (ontoItself (shown t l) a b) pass (renameTypes t l a b then renameMemory memory t l a b)

@@ -98,18 +98,28 @@ fn itself() {
         1024,
         40,
         b"# rename onto itself|\
-        rename  - L - 00297 z z|\
-        rename  - L - 00298 z z|\
-        +|\
-        is_file - L - ----- z|\
-        rename  - L - ----- a a|\
-        mkdir   - L - ----- d|\
-        rename  - L - 00594 d d|\
-        rename  - L - 00595 d d|\
+        rename  - L - 00000 z z|\
+        rename  - L - 00000 a a|\
         rename  - L - ----- a/f a/f|\
+        rename  - L - ----- l l|\
+        rename  - L - ----- l/x l/x|\
+        rename  - L - ----- z/n z/n|\
+        rename  - L - ----- q q|\
+        mkdir   - L - ----- d|\
+        rename  - L - 00000 d d|\
         write   2 L - ----- q|\
-        rename  - L - 01196 q q|\
-        +|",
+        rename  - L - 00000 q q|\
+        unlink  - L - ----- z|\
+        rename  - L - ----- z z|\
+        rename  - L - ----- a b|\
+        rename  - L - 00000 b b|\
+        rename  - L - 00000 b/f b/f|\
+        rename  - L - ----- a a|\
+        +|\
+        # rename onto itself refused|\
+        rename  - L u ----- z z|\
+        rename  - M - ----- z z|\
+        rename  - L - ----- ./z ./z|",
     );
 }
 
@@ -253,7 +263,8 @@ fn rooms() {
         b"# rename in a table of 107 bytes, and back|\
         rename  - L - ----- a b|\
         rename  - L - ----- b a|\
-        rename  - L - ----- z z|",
+        rename  - L - 00000 z z|\
+        rename  - L - ----- z y|",
     );
     scenes::over_l(
         106,
@@ -265,12 +276,19 @@ fn rooms() {
         rename  - L - 01195 a b|",
     );
     scenes::over_l(
-        26,
-        26,
+        51,
+        51,
         40,
-        b"# rename in a table of 26 bytes|\
-        rename  - L - ----- z z|\
+        b"# rename in a table of 51 bytes|\
         rename  - L - ----- z y|",
+    );
+    scenes::over_l(
+        50,
+        50,
+        40,
+        b"# rename in a table of 50 bytes|\
+        rename  - L - ----- z y|\
+        rename  - L - ----- z z|",
     );
     scenes::over_l(
         59,
@@ -481,9 +499,7 @@ fn walk_sums() {
         rename  - L - 00594 a b|\
         +|\
         # an empty listed directory onto itself; L is a/|\
-        rename  - L - 00296 a a|\
-        rename  - L - 00297 a a|\
-        +|",
+        rename  - L - 00000 a a|",
     );
     test_cases::run(
         b"RDL\x01\x00\x02\x00\x00\x00\x01\x00\x01\x00\x00\x00\x00\x00\x00\xF0?\x00\x00\x00\x00\x00\x00\x00\x00a\x03\

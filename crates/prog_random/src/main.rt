@@ -225,9 +225,10 @@ fn rename_moves(tree: &[u8], a: usize, b: usize) -> u64 {
     0
 }
 
+// Onto itself a rename does nothing (#104).
 fn rename(tree: &[u8], a: usize, b: usize) -> u64 {
     let number = rename_places(tree, a, b);
-    if number != 0 {
+    if (number != 0) | ((a == b) & (test_rows::kind(tree, a) != NOTHING)) {
         return number;
     }
     rename_moves(tree, a, b)
@@ -347,7 +348,7 @@ fn add(tree: &mut [u8], i: usize, data: &[u8], again: bool) {
     test_rows::write_at(tree, i, end, data);
 }
 
-// The tree after a call; a refused one does nothing, and a rename onto itself neither.
+// The tree after a call; a refused one does nothing, and a move onto itself neither.
 fn effect(tree: &mut [u8], call: Call, data: &[u8], accepted: bool) {
     let letter = call.letter;
     let i = call.path;
@@ -614,23 +615,28 @@ fn counted(st: State, rec: Record, call: Call, number: u64, right: bool) -> Stat
     }
 }
 
-// A number is right where it is the plain rules', or is 11 where they accept and there is a limit. A rename's plan
-// comes before the link that its walk meets, so that 11 is right for 4 too; and its deleted source before a clash of
-// types, so that 5 is right for 8.
+fn is_itself(call: Call) -> bool {
+    (call.letter == b'n') & (call.path == call.other)
+}
+
+// A number is right where it is the plain rules', or is 11 where they accept and there is a limit, unless it is a move
+// onto itself. A rename's plan comes before the link that its walk meets, so that 11 is right for 4 too; and its
+// deleted source before a clash of types, so that 5 is right for 8.
 fn is_number(number: u64, must: u64, call: Call) -> bool {
     let rename = call.letter == b'n';
-    let limited = (number == 11) & (call.limit < LARGE);
+    let limited = (number == 11) & (call.limit < LARGE) & !is_itself(call);
     (number == must)
         | (limited & ((must == 0) | (rename & (must == 4))))
         | (rename & (number == 5) & (must == 8))
 }
 
-// An accepted call keeps to its limit, or is a mkdir that changes nothing; a write, an append and a writing inside
-// answer their data's length, and the others 0.
-fn is_within(call: Call, charge: u64, after: u64, value: u64, n: u64) -> bool {
+// An accepted call keeps to its limit, or is a mkdir that changes nothing, or a move onto itself, which changes
+// nothing; a write, an append and a writing inside answer their data's length, and the others 0.
+fn is_within(call: Call, unchanged: bool, after: u64, value: u64, n: u64) -> bool {
     let written = (call.letter == b'w') | (call.letter == b'a') | (call.letter == b'i');
-    let still = (call.letter == b'm') & (after == charge);
-    ((after <= call.limit) | still) & (written & (value == n) | !written & (value == 0))
+    let itself = is_itself(call);
+    let still = unchanged & ((call.letter == b'm') | itself);
+    ((after <= call.limit) & !itself | still) & (written & (value == n) | !written & (value == 0))
 }
 
 // What a call must have left.
@@ -650,7 +656,8 @@ fn is_left_well(
     match answer {
         Answer::Accepted(value) => {
             let n = bytes(names, call.other).len() as u64;
-            let within = is_within(call, given.charge, after.charge, value, n);
+            let unchanged = test_kept::is_unchanged(table, old, after, given);
+            let within = is_within(call, unchanged, after.charge, value, n);
             let clean = test_kept::is_clean(table, work, after);
             let held = is_held_well(table, after, tree, names);
             return within & clean & held & is_all_seen(listing, table, after, tree, names);

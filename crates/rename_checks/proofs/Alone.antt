@@ -1,6 +1,6 @@
 -- What each of rename's checks gives, from what the code has found: the root, a deleted source, a clash, a directory onto a directory; and their groups.
 use mathlib.Core.Path.{_≡_, refl, sym, ap, _∙_}
-use mathlib.Core.Bool.{Bool, true, false}
+use mathlib.Core.Bool.{Bool, true, false, not, _&&_}
 use mathlib.Core.List.{[], _∷_}
 use mathlib.Core.Option.{Option, none, some}
 use Prim.Native.Nat.{ℕ}
@@ -11,6 +11,7 @@ use Rattle.model.specs.Path.{Path}
 use Rattle.model.specs.Tree.{Entry, own, reference, directory, deleted, Kind, aDirectory, aFile, isDirectory}
 use Rattle.model.specs.Checks.{Check, pass, refuse, _then_, notRoot}
 use Rattle.model.specs.Rename.{notDeleted, noClash, ifDirectory}
+use Rattle.model.proofs.Orders.{bot}
 use Rattle.table_entries.specs.declared.OverlayEntry.{OverlayEntry}
 use Rattle.table_entries.specs.Said as told
 use Rattle.check_judged.proofs.Thens.{then-assoc, when, otherwise}
@@ -22,6 +23,15 @@ at-root w (b ∷ p) h = absurd (omega arith)
 pub no-root : (w : ℕ) (p : Path) → (length p ≡ 0 → ⊥) → pass ≡ notRoot w p
 no-root w [] h = absurd (h refl)
 no-root w (b ∷ p) h = refl
+
+-- s is whether the paths are equal, x and y what was found of both tests
+pub at-itself : (s v x y : Bool) → x ≡ s → x ≡ true → y ≡ v → not y ≡ (s && not v)
+at-itself true v x y e h f = ap not f
+at-itself false v x y e h f = absurd (bot (cc))
+
+pub not-itself : (s v x : Bool) → x ≡ s → x ≡ false → false ≡ (s && v)
+not-itself true v x e h = absurd (bot (cc))
+not-itself false v x e h = refl
 
 -- by what is said of the source's entry, for a path of n bytes
 abbrev deletedSaid : ℕ → told.Said → Check

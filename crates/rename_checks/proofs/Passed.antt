@@ -1,5 +1,5 @@
--- What is known once rename's checks before its plan pass: neither path is the root, the source shows a directory or a file, and nothing is at or below
--- both paths, if these are not one.
+-- What is known once rename's checks before its plan passed, of a move to another path: neither path is the root, the source shows a directory or a file,
+-- and nothing is at or below both paths.
 use mathlib.Core.Path.{_≡_, ap, sym, _∙_}
 use mathlib.Core.Logic.{inl, inr}
 use mathlib.Core.List.{[], _∷_}
@@ -10,14 +10,14 @@ use lib.ListN.{length}
 use Rattle.model.specs.Path.{Path, below, rest}
 use Rattle.model.specs.Tree.{Node, Table, Tree, shown, Kind, aDirectory, aFile, kind, isNothing, isDirectory}
 use Rattle.model.specs.Checks.{pass, refuse, parentChecks, notRoot, noVisibleChild}
-use Rattle.model.specs.Rename.{notLink, noClash, present, ifDirectory, renamePaths, renameTypes}
+use Rattle.model.specs.Rename.{notLink, noClash, present, ifDirectory}
 use Rattle.model.proofs.Orders.{Lt, bot, is-none, is-some, opt, inside-both}
-use Rattle.model.proofs.Invariant.{kind-is, is-nothing, is-directory, is-file, is-link′, kind-at, then-pass, parents-dirs}
+use Rattle.model.proofs.Invariant.{kind-is, is-nothing, is-directory, is-file, is-link′, kind-at, parents-dirs}
 use Rattle.model.proofs.Rules.{child-root, way}
 use Rattle.model.proofs.Passed.{PathsPassed, TypesPassed, paths-passed, types-passed}
 use Rattle.model.proofs.Small.{childless}
 use Rattle.rename_laws.proofs.Moves.{Parted}
-use Rattle.rename_checks.specs.Early.{earlyChecks}
+use Rattle.rename_checks.specs.Early.{EarlyPassed}
 
 not-root : (w : ℕ) (p : Path) → notRoot w p ≡ pass → Lt [] p
 not-root w [] h = absurd (bot (cc))
@@ -32,12 +32,12 @@ regular n k h g = elim (kind-is k) [
   | is-link′ e ↦ absurd (bot (cc))
 ]
 
-module _ (t : Table) (l : Tree) (a b : Path) (h : earlyChecks t l a b ≡ pass) where
+module _ (t : Table) (l : Tree) (a b : Path) (h : EarlyPassed t l a b) where
   paths : PathsPassed t l a b
-  paths = paths-passed t l a b (then-pass (renamePaths t l a b) (renameTypes t l a b) h .0)
+  paths = paths-passed t l a b (h .paths)
 
   types : TypesPassed t l a b
-  types = types-passed t l a b (then-pass (renamePaths t l a b) (renameTypes t l a b) h .1)
+  types = types-passed t l a b (h .types)
 
   pub no-roots : Lt [] a × Lt [] b
   no-roots = (not-root 0 a (paths .source-not-root), not-root 1 b (paths .destination-not-root))
@@ -83,15 +83,15 @@ module _ (t : Table) (l : Tree) where
   not-over : (a b : Path) → cond (below a b) (refuse 10 0 (length a)) pass ≡ pass → below a b ≡ true → ⊥
   not-over a b h e = bot (cc)
 
-  -- the checks before the plan leave nothing at or below both paths, if these are not one
-  pub apart-paths : (a b : Path) → earlyChecks t l a b ≡ pass → (a ≡ b → ⊥) → Parted a b
-  apart-paths a b h ne q r f =
+  -- the checks before the plan leave nothing at or below both paths
+  pub apart-paths : (a b : Path) → EarlyPassed t l a b → Parted a b
+  apart-paths a b h q r f =
       let p = paths t l a b h in
       let y = types t l a b h in
       elim (opt (rest b q)) [
         | is-none n ↦ n
         | is-some s n ↦ absurd (elim (inside-both a b q r s f n) [
-          | inl e ↦ ne e
+          | inl e ↦ h .two e
           | inr (inl e) ↦ not-over a b (y .not-below) e
           | inr (inr e) ↦ not-under a b (y .types-agree) (y .destination-empty) (p .source-parents) e
         ])

@@ -1,6 +1,7 @@
-// rename's checks from the roots to the absent source, in document 01's order: all that stands before its plan.
-// Assumes a listing, a table and two paths that were checked: only this repository's crates call.
-// Each check is a constant number of passes over table and listing.
+// rename's checks from the roots to the absent source, in document 01's order: all that stands before its plan. Between
+// those of each path by itself and those of both together stands whether it is a move onto itself (#104). Assumes a
+// listing, a table and two paths that were checked: only this repository's crates call. Each check is a constant number
+// of passes over table and listing.
 ghost use mathlib.Core.Path.{_≡_};
 ghost use mathlib.Core.Bool.{true, cond};
 ghost use mathlib.Core.Option.{Option};
@@ -13,11 +14,11 @@ ghost use Rattle.model.specs.Listing.{treeIn};
 ghost use Rattle.model.specs.Table.{tableIn};
 ghost use Rattle.model.specs.Checks.{pass, refuse, _then_, parentChecks, notRoot, noVisibleChild};
 ghost use Rattle.model.specs.Rename.{notLink, notDeleted, noClash, present, ifDirectory, renamePaths, renameTypes};
+ghost use Rattle.model.specs.Rename.{ontoItself};
 ghost use Rattle.model.specs.Outcome.{Given, shownIn};
 ghost use Rattle.table_entries.specs.Said.{said, saidOf};
 ghost use Rattle.view_at.specs.Sight.{visibleKind};
 ghost use Rattle.check_judged.specs.Judged.{checkOf};
-ghost use Rattle.rename_checks.specs.Early.{earlyChecks};
 use check_judged::Judged;
 use model::Record;
 use model::Refusal;
@@ -131,7 +132,7 @@ fn check_source(listing: &[u8], table: &[u8], rec: Record, path: &[u8]) -> Judge
 }
 
 // Each path by itself: the roots, then the destination, then the source.
-fn check_paths(
+pub fn check_paths(
     listing: &[u8],
     table: &[u8],
     rec: Record,
@@ -152,6 +153,25 @@ fn check_paths(
         return to;
     }
     check_source(listing, table, rec, source)
+}
+
+// Whether both paths are equal and the source is visible.
+pub fn is_onto_itself(
+    listing: &[u8],
+    table: &[u8],
+    rec: Record,
+    source: &[u8],
+    destination: &[u8],
+) -> bool
+    requires { ⌜ Given (now listing) (now table) rec ⌝ }
+    ensures { λ r. ⌜ r ≡ ontoItself (shownIn (now (listing .entry)) (now (table .entry)) rec) (now (source .entry))
+        (now (destination .entry)) ⌝ }
+{
+    if base_fields::is_same(source, destination) {
+        let visible = view_at::visible_at(listing, table, rec, source);
+        return !view_at::is_nothing(visible);
+    }
+    false
 }
 
 // A directory only onto a directory or nothing, a file not onto a directory; `len` is the destination's length.
@@ -235,7 +255,7 @@ fn reject_absent(visible: Visible, len: u64) -> Judged
 }
 
 // Both together: type clash 8 or 7; 9 for a directory source; 10; source absent 5.
-fn check_types(
+pub fn check_types(
     listing: &[u8],
     table: &[u8],
     rec: Record,
@@ -261,24 +281,4 @@ fn check_types(
         return inside;
     }
     reject_absent(from, source.len() as u64)
-}
-
-// All of rename's checks before its plan.
-pub fn early_checks(
-    listing: &[u8],
-    table: &[u8],
-    rec: Record,
-    source: &[u8],
-    destination: &[u8],
-) -> Judged
-    requires { ⌜ Given (now listing) (now table) rec ⌝ }
-    requires { ⌜ (isPath (now source) ≡ true) × (isPath (now destination) ≡ true) ⌝ }
-    ensures { λ r. ⌜ checkOf r ≡ earlyChecks (tableIn (now (table .entry)) rec) (treeIn (now (listing .entry)))
-        (now (source .entry)) (now (destination .entry)) ⌝ }
-{
-    let paths = check_paths(listing, table, rec, source, destination);
-    if check_judged::is_refused(paths) {
-        return paths;
-    }
-    check_types(listing, table, rec, source, destination)
 }

@@ -1,6 +1,6 @@
 -- What rename moves: its keys and their order, and when nothing that moves meets what is deleted.
 -- Assumes nothing but what each law names: lists whose keys ascend, and keys at or below the source.
-use mathlib.Core.Path.{_≡_, refl, ap, ap₂, sym, _∙_}
+use mathlib.Core.Path.{_≡_, refl, ap, sym, _∙_}
 use mathlib.Core.List.{List, [], _∷_, _++_}
 use mathlib.Core.Bool.{Bool, true, false, not, _||_}
 use mathlib.Core.Option.{Option, none, some}
@@ -57,17 +57,6 @@ module _ {A : Type 0} where
       elim (opt (rest a (x .0))) [
         | is-none n ↦ absurd (bot (cc (e .0)))
         | is-some r n ↦ cc (new-key a b (x .0) r n)
-      ]
-
-  -- with a in the place of a they stay
-  pub rekey-same : (a : Path) (c : Map A) → inside a c ≡ true → rekey a a c ≡ c
-  rekey-same a [] h = refl
-  rekey-same a (x ∷ xs) h =
-      let e = and-true (not (isNone (rest a (x .0)))) (inside a xs) h in
-      let i = rekey-same a xs (e .1) in
-      elim (opt (rest a (x .0))) [
-        | is-none n ↦ absurd (bot (cc (e .0)))
-        | is-some r n ↦ rw n (ap₂ (λ (k : Path) (z : Map A). (k, x .1) ∷ z) (sym (rest-is a (x .0) r n .0)) i)
       ]
 
   -- what is before all of c is so with b in the place of a
@@ -207,23 +196,6 @@ module _ (t : Table) (l : Tree) (a : Path) where
     | is-some e f ↦ (e, cc)
     | is-none f ↦ (asEntry n, cc)
   ]
-
-  -- onto itself: the table with what is carried
-  pub moved-same : Ascending t → moved t l a a ≡ puts (carried t l a) t
-  moved-same h =
-      let c : Table = carried t l a in
-      map-ext (moved t l a a) (puts c t) (ascending-puts (rekey a a c) (puts (each deleted (keys c)) t) (ascending-puts (each deleted (keys c)) t h))
-      (ascending-puts c t h)
-      (λ q.
-      let u = lookup-puts (rekey a a c) (puts (each deleted (keys c)) t) q in
-      let v = lookup-puts (each deleted (keys c)) t q in
-      let w = lookup-keys deleted c q in
-      let x = lookup-rekey a a c q in
-      let y = lookup-puts c t q in
-      elim (opt (rest a q)) [
-        | is-none n ↦ cc (inside-none a c inside-carried q n)
-        | is-some r n ↦ let z = rest-is a q r n .0 in elim (opt (lookup c q)) [ is-none o ↦ cc | is-some e o ↦ cc ]
-      ])
 
 -- nothing is both at or below a and at or below b
 abbrev pub Parted : Path → Path → Type 0

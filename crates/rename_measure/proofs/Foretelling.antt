@@ -9,7 +9,7 @@ use native.Mathlib.Omega.{arith}
 use lib.Dec.{leb}
 use lib.ListN.{length}
 use borrow.Author.Tests.{leb-true, le-leb}
-use Rattle.model.specs.Bytes.{Bytes, every, same, before}
+use Rattle.model.specs.Bytes.{Bytes, every, before}
 use Rattle.model.specs.Path.{Path, isPath, components, short}
 use Rattle.model.specs.Map.{lookup, put, puts, only, each, keys, rekey, mapped}
 use Rattle.model.specs.Tree.{Entry, deleted, Table, Tree, shown, aDirectory, aFile, kind}
@@ -20,13 +20,13 @@ use Rattle.model.specs.declared.Record.{Record}
 use Rattle.model.proofs.Orders.{bot, and-true, yea, nay, test, Split, split}
 use Rattle.model.proofs.Maps.{Ascending, ascends-is}
 use Rattle.model.proofs.Maps.{lookup-puts, lookup-only, lookup-mapped, lookup-keys, lookup-low, ascending-puts}
-use Rattle.model.proofs.Codec.{decoded, same-is, path-short}
+use Rattle.model.proofs.Codec.{decoded, path-short}
 use Rattle.model.proofs.Listings.{checked}
 use Rattle.table_insert.proofs.Inserts.{bounds}
 use Rattle.rename_carried.specs.Streams.{carriedBelow}
 use Rattle.rename_laws.proofs.Records.{Apart, weight, total-put, apart-used, apart-count, apart-charge, charge-total}
-use Rattle.rename_laws.proofs.Moves.{rekey-same, inside-carried, ascending-carried, ascending-rekey, carried-directory}
-use Rattle.rename_laws.proofs.Moves.{carried-file, loose-top, moved-same, apart-moved, Parted}
+use Rattle.rename_laws.proofs.Moves.{inside-carried, ascending-carried, ascending-rekey, carried-directory}
+use Rattle.rename_laws.proofs.Moves.{carried-file, loose-top, apart-moved, Parted}
 use Rattle.rename_measure.specs.Tallies.{near, far, Moved, Small, Source, combined, Foretold}
 use Rattle.rename_measure.specs.declared.Moves.{Moves}
 use Rattle.rename_measure.specs.declared.Projected.{Projected}
@@ -231,17 +231,7 @@ module _ (s g : Bytes) (r : Record) (h : isTable s r ≡ true) (i : isListing g 
       let t = far-table k f in
       far-deleted T C k t (far-carried T L a k t (far-record L (records g) k (checked g i .formed) f))
 
-  -- onto itself
-  pub onto-itself : same a b ≡ true → (m : Moves) → Moved (r .«entry_size») T (rekey a b C) m
-      → Foretold (r .«entry_size») T L a b (record { rec = m .rec; charge = m .rec .charge + m .extra; long = m .long })
-  onto-itself e m w =
-      let same-moved : moved T L a b ≡ puts (rekey a b C) T =
-      subst (λ (z : Path). moved T L a z ≡ puts (rekey a z C) T) (same-is a b e)
-      (moved-same T L a table-up ∙ ap (λ (y : Table). puts y T) (sym (rekey-same a C (inside-carried T L a)))) in
-      foretold (r .«entry_size») T L a b T same-moved table-up tree-up far-table
-      (record { rec = m .rec; charge = m .rec .charge + m .extra; long = m .long }) (m .extra) (w .rec) (w .extra) refl (w .long)
-
-  -- elsewhere
+  -- deletions and moves have no key in common
   module _ (p : Parted a b) (d : Record) (m : Moves) (de : d ≡ recordOf (r .«entry_size») (puts D T))
       (w : Moved (r .«entry_size») T (rekey a b C) m) where
     abbrev E : ℕ
@@ -291,8 +281,8 @@ module _ (s g : Bytes) (r : Record) (h : isTable s r ≡ true) (i : isListing g 
         let c : d .charge + m .rec .charge - r .charge ≡ charge E (puts N (puts D T)) = omega arith in
         rw (u, n, c)
 
-    pub elsewhere : (y : Projected) → y ≡ combined r d m → Foretold E T L a b y
-    elsewhere y e =
+    pub together-foretold : (y : Projected) → y ≡ combined r d m → Foretold E T L a b y
+    together-foretold y e =
         subst (λ (z : Projected). Foretold E T L a b z) (sym e)
         (foretold E T L a b (puts D T) refl (ascending-puts D T table-up) tree-up far-gone (combined r d m) (m .extra) sums-are (w .extra) refl
         (w .long))

@@ -8,7 +8,7 @@ use native.Mathlib.Omega.{arith}
 use lib.Dec.{leb}
 use lib.ListN.{length}
 use borrow.Author.Tests.{leb-true}
-use Rattle.model.specs.Bytes.{Bytes, every, same}
+use Rattle.model.specs.Bytes.{Bytes, every}
 use Rattle.model.specs.Path.{Path, isPath}
 use Rattle.model.specs.Map.{lookup, puts, only, mapped}
 use Rattle.model.specs.Tree.{Node, Entry, Table, Tree, shown, aDirectory, aFile, kind}
@@ -16,7 +16,7 @@ use Rattle.model.specs.Listing.{ListingRecord, records, ruled, placed, formedRe
 use Rattle.model.specs.Table.{bodyOf, encode, tableIn, isTable}
 use Rattle.model.specs.Rename.{asEntry, uncovered}
 use Rattle.model.specs.declared.Record.{Record}
-use Rattle.model.proofs.Orders.{bot, and-true, Split, split, is-none, is-some, opt, same-refl}
+use Rattle.model.proofs.Orders.{bot, and-true, Split, split, is-none, is-some, opt}
 use Rattle.model.proofs.Maps.{orElse, mapO}
 use Rattle.model.proofs.Codec.{decoded, path-short}
 use Rattle.model.proofs.Invariant.{kind-at}
@@ -105,7 +105,3 @@ source-file t l a r k = elim (opt (shown t l a)) [
   | is-some n e ↦ let y = found-top t l a n e in record { entry = y .0; top = loose-top t l a ∙ y .1; is = k }
   | is-none e ↦ absurd (bot (cc (kind-at (shown t l) a none e r)))
 ]
-
--- paths that are not the same are two: with this `apart-paths` gives what is asked of them
-pub not-same : (a b : Path) → same a b ≡ false → a ≡ b → ⊥
-not-same a b n e = bot (cc (same-refl a))

@@ -7,7 +7,7 @@ ghost use mathlib.Core.List.{[], _∷_, _++_};
 ghost use mathlib.Core.Option.{none, some};
 ghost use Prim.Native.Nat.{_+_, _≤_, _<_};
 ghost use lib.ListN.{length, drop};
-ghost use Rattle.model.specs.Bytes.{same, before};
+ghost use Rattle.model.specs.Bytes.{before};
 ghost use Rattle.model.specs.Path.{Path, below, rest, short};
 ghost use Rattle.model.specs.Map.{ascends, put, puts, only, each, keys, rekey, lookup, mapped};
 ghost use Rattle.model.specs.Tree.{Entry, Table, Tree, deleted};
@@ -402,7 +402,7 @@ fn together(rec: model::Record, deletions: model::Record, moves: Moves) -> Proje
     }
 }
 
-// What rename leaves, without moving anything. Onto itself nothing is deleted that is not put again.
+// What rename leaves, without moving anything.
 pub fn projected_move<'a>(
     listing: &'a [u8],
     table: &'a [u8],
@@ -420,20 +420,11 @@ pub fn projected_move<'a>(
     requires { ⌜ ((e : Entry) → lookup (puts (tableIn (now table) rec) (mapped asEntry
         (only (uncovered (tableIn (now table) rec) (now source)) (treeIn (now listing))))) (now source) ≡ some e
         → length (bodyOf e) ≡ «first_len») ⌝ }
-    requires { ⌜ (same (now source) (now destination) ≡ false → (q r : Path) → rest (now source) q ≡ some r
-        → rest (now destination) q ≡ none) ⌝ }
+    requires { ⌜ ((q r : Path) → rest (now source) q ≡ some r → rest (now destination) q ≡ none) ⌝ }
     ensures { λ r. ⌜ Foretold (rec .«entry_size») (tableIn (now (table .entry)) rec) (treeIn (now (listing .entry)))
         (now (source .entry)) (now (destination .entry)) r ⌝ }
 {
     let moves = all_moves(listing, table, rec, source, destination, whole, first_len);
-    let after = moves.rec;
-    if base_fields::is_same(source, destination) {
-        return Projected {
-            rec: after,
-            charge: after.charge + moves.extra,
-            long: moves.long,
-        };
-    }
     let deletions = all_deletions(listing, table, rec, source, whole);
     together(rec, deletions, moves)
 }

@@ -13,13 +13,13 @@ use Rattle.model.specs.Path.{Path, short}
 use Rattle.model.specs.Map.{lookup, puts, only, keys, rekey, mapped}
 use Rattle.model.specs.Tree.{Node, Entry, Table, Tree, shown, aDirectory, aFile, kind}
 use Rattle.model.specs.Table.{bodyOf, encode, charge, recordOf}
-use Rattle.model.specs.Checks.{Check, pass, _then_, unless, limited}
+use Rattle.model.specs.Checks.{Check, _then_, unless, limited}
 use Rattle.model.specs.Rename.{asEntry, uncovered, carried, moved}
 use Rattle.model.specs.declared.Record.{Record}
 use Rattle.model.specs.declared.Refusal.the-variants.{Limit, KeyTooLong, NoRoom}
 use Rattle.model.proofs.Orders.{Lt, bot}
 use Rattle.model.proofs.Maps.{orElse, mapO}
-use Rattle.rename_checks.specs.Early.{earlyChecks}
+use Rattle.rename_checks.specs.Early.{EarlyPassed}
 use Rattle.rename_checks.proofs.Passed.{no-roots}
 use Rattle.rename_laws.proofs.Moves.{loose-top}
 use Rattle.rename_measure.specs.declared.Projected.{Projected}
@@ -109,7 +109,7 @@ full : (p : Path) → 0 < length p → p ≡ [] → ⊥
 full p h e = let z = ap length e in omega arith
 
 -- what the checks before the plan leave
-module _ (t : Table) (l : Tree) (a b : Path) (h : earlyChecks t l a b ≡ pass) where
+module _ (t : Table) (l : Tree) (a b : Path) (h : EarlyPassed t l a b) where
   pub not-roots : (0 < length a) × (0 < length b)
   not-roots = let r = no-roots t l a b h in (some-long a (r .0), some-long b (r .1))
 

@@ -10,10 +10,10 @@ ghost use Rattle.model.specs.Map.{lookup};
 ghost use Rattle.model.specs.Tree.{aDirectory, aFile, kind};
 ghost use Rattle.model.specs.Listing.{treeIn, isListing};
 ghost use Rattle.model.specs.Table.{bodyOf, recordOf, tableIn};
-ghost use Rattle.model.specs.Checks.{pass, limited};
+ghost use Rattle.model.specs.Checks.{limited};
 ghost use Rattle.model.specs.Rename.{moved};
 ghost use Rattle.model.specs.Outcome.{Given, shownIn};
-ghost use Rattle.rename_checks.specs.Early.{earlyChecks};
+ghost use Rattle.rename_checks.specs.Early.{EarlyPassed};
 ghost use Rattle.rename_write.specs.Sequence.{topOf, top};
 ghost use Rattle.rename_settle.specs.Settled.{lastChecks, settledOf, settledCheck};
 ghost use Rattle.rename_settle.specs.declared.Settled.the-variants as settled;
@@ -98,7 +98,7 @@ pub fn last_checks<'a>(
 ) -> Settled
     requires { ⌜ Given (now listing) (now table) rec ⌝ }
     requires { ⌜ (isPath (now source) ≡ true) × (isPath (now destination) ≡ true) ⌝ }
-    requires { ⌜ earlyChecks (tableIn (now table) rec) (treeIn (now listing)) (now source) (now destination) ≡ pass ⌝ }
+    requires { ⌜ EarlyPassed (tableIn (now table) rec) (treeIn (now listing)) (now source) (now destination) ⌝ }
     requires { ⌜ kind (shownIn (now listing) (now table) rec) (now source) ≡ cond whole aDirectory
         aFile ⌝ }
     ensures { λ r. ⌜ settledCheck r ≡ lastChecks (limited (rec .«entry_size») limit) (length (now (table .entry)))

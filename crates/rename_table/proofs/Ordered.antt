@@ -1,5 +1,5 @@
 -- All that rename puts, in its order: the keys ascend, and the table with it is the one that the definition names.
--- Assumes a table and a tree whose keys ascend, and paths that passed rename's checks before its plan.
+-- Assumes a table and a tree whose keys ascend, and two paths that passed rename's checks before its plan.
 use mathlib.Core.Path.{_≡_, ap, ap₂, sym, subst, _∙_}
 use mathlib.Core.List.{[]}
 use mathlib.Core.Bool.{Bool, true, cond}
@@ -11,26 +11,24 @@ use Rattle.model.specs.Path.{Path, short}
 use Rattle.model.specs.Map.{ascends, puts, each, keys, rekey}
 use Rattle.model.specs.Tree.{deleted, Table, Tree, shown, aDirectory, aFile, kind}
 use Rattle.model.specs.Table.{encode, padded}
-use Rattle.model.specs.Checks.{pass}
 use Rattle.model.specs.Rename.{carried, moved}
-use Rattle.model.proofs.Orders.{Lt, Split, split}
-use Rattle.model.proofs.Maps.{Ascending, ascends-is, is-ascends}
+use Rattle.model.proofs.Orders.{Lt}
+use Rattle.model.proofs.Maps.{Ascending, ascends-is}
 use Rattle.table_measure.specs.Into.{into}
-use Rattle.table_measure.proofs.Intos.{into-puts}
-use Rattle.rename_checks.specs.Early.{earlyChecks}
+use Rattle.rename_checks.specs.Early.{EarlyPassed}
 use Rattle.rename_checks.proofs.Passed.{no-roots, apart-paths}
 use Rattle.rename_laws.proofs.Records.{Apart}
-use Rattle.rename_laws.proofs.Moves.{rekey-same, ascending-rekey, ascending-each, topEntry, ascending-carried, inside-carried}
-use Rattle.rename_laws.proofs.Moves.{moved-same, Parted, apart-moved}
+use Rattle.rename_laws.proofs.Moves.{ascending-rekey, ascending-each, topEntry, ascending-carried, inside-carried}
+use Rattle.rename_laws.proofs.Moves.{apart-moved}
 use Rattle.rename_write.specs.Stretch.{deletion, move, movable, turned}
 use Rattle.rename_write.specs.Sequence.{lower, top, departures, arrivals, ordered}
 use Rattle.rename_table.proofs.Tops.{top-found}
 use Rattle.rename_table.proofs.Lists.{departures-are, inside-departures, arrivals-are, inside-arrivals, lower-movable}
-use Rattle.rename_table.proofs.Ascents.{arranged, arranged-ascends}
+use Rattle.rename_table.proofs.Ascents.{arranged-ascends}
 use Rattle.rename_table.proofs.Makes.{arranged-makes}
 
 module _ (t : Table) (l : Tree) (a b : Path) (whole : Bool) (tu : ascends [] t ≡ true) (lu : ascends [] l ≡ true)
-    (h : earlyChecks t l a b ≡ pass) (k : kind (shown t l) a ≡ cond whole aDirectory aFile) where
+    (h : EarlyPassed t l a b) (k : kind (shown t l) a ≡ cond whole aDirectory aFile) where
   table-up : Ascending t
   table-up = ascends-is [] t tu .1
 
@@ -55,42 +53,19 @@ module _ (t : Table) (l : Tree) (a b : Path) (whole : Bool) (tu : ascends [] t �
   up-come : Ascending (arrivals whole t l a b)
   up-come = subst Ascending (sym come) (ascending-rekey a b (carried t l a) (ascending-carried t l a tree-up))
 
-  -- where the paths differ
-  module _ (p : Parted a b) where
-    abbrev both : Table
-    both = arranged a b deleted (top t l a) (turned deletion (lower whole t l a)) (turned (move a b) (lower whole t l a))
-
-    both-ascends : ascends [] both ≡ true
-    both-ascends =
-        arranged-ascends a b deleted (top t l a) (turned deletion (lower whole t l a)) (turned (move a b) (lower whole t l a)) (roots .0) (roots .1)
-        p up-gone (inside-departures t l a tree-up found whole k) up-come (inside-arrivals t l a tree-up found whole k b)
-
-    both-make : into both t ≡ moved t l a b
-    both-make =
-        let c : Table = carried t l a in
-        let e : Apart (departures whole t l a) (arrivals whole t l a b) =
-        subst (λ (x : Table). Apart x (arrivals whole t l a b)) (sym gone)
-        (subst (Apart (each deleted (keys c))) (sym come) (apart-moved a b c p (inside-carried t l a))) in
-        arranged-makes a b deleted (top t l a) (turned deletion (lower whole t l a)) (turned (move a b) (lower whole t l a)) e t both-ascends table-up
-        ∙ ap₂ (λ (m d : Table). puts m (puts d t)) come gone
-
-  -- where they are one
-  one-makes : a ≡ b → into (arrivals whole t l a b) t ≡ moved t l a b
-  one-makes e =
-      let c : Table = carried t l a in
-      into-puts (arrivals whole t l a b) t up-come table-up
-      ∙ ap (λ (m : Table). puts m t) (come ∙ ap (λ (q : Path). rekey a q c) (sym e) ∙ rekey-same a c (inside-carried t l a))
-      ∙ sym (moved-same t l a table-up)
-      ∙ ap (moved t l a) e
-
   pub ordered-ascends : ascends [] (ordered whole t l a b) ≡ true
-  ordered-ascends = elim (split a b) [
-    | Split.eq e w ↦ rw w (is-ascends [] (arrivals whole t l a b) (roots .1) up-come)
-    | Split.ne n w ↦ rw w (both-ascends (apart-paths t l a b h n))
-  ]
+  ordered-ascends =
+      arranged-ascends a b deleted (top t l a) (turned deletion (lower whole t l a)) (turned (move a b) (lower whole t l a)) (roots .0) (roots .1)
+      (apart-paths t l a b h) up-gone (inside-departures t l a tree-up found whole k) up-come (inside-arrivals t l a tree-up found whole k b)
 
   ordered-makes : into (ordered whole t l a b) t ≡ moved t l a b
-  ordered-makes = elim (split a b) [ Split.eq e w ↦ rw w (one-makes e) | Split.ne n w ↦ rw w (both-make (apart-paths t l a b h n)) ]
+  ordered-makes =
+      let c : Table = carried t l a in
+      let e : Apart (departures whole t l a) (arrivals whole t l a b) =
+      subst (λ (x : Table). Apart x (arrivals whole t l a b)) (sym gone)
+      (subst (Apart (each deleted (keys c))) (sym come) (apart-moved a b c (apart-paths t l a b h) (inside-carried t l a))) in
+      arranged-makes a b deleted (top t l a) (turned deletion (lower whole t l a)) (turned (move a b) (lower whole t l a)) e t ordered-ascends table-up
+      ∙ ap₂ (λ (m d : Table). puts m (puts d t)) come gone
 
   -- so it fits where the table of the definition does, and what is written is that table
   pub ordered-fits : (n : ℕ) → length (encode (moved t l a b)) ≤ n → length (encode (into (ordered whole t l a b) t)) ≤ n

@@ -1,5 +1,5 @@
 // The table that rename leaves, written anew as the definition has it. Assumes a checked table and a checked listing,
-// paths that passed rename's checks before its plan, short new keys, and buffers with room: only this repository's
+// two paths that passed rename's checks before its plan, short new keys, and buffers with room: only this repository's
 // crates call, once all checks passed.
 ghost use mathlib.Core.Path.{_≡_};
 ghost use mathlib.Core.Bool.{true, cond};
@@ -11,10 +11,9 @@ ghost use Rattle.model.specs.Map.{keys, rekey};
 ghost use Rattle.model.specs.Tree.{aDirectory, aFile, kind};
 ghost use Rattle.model.specs.Listing.{treeIn};
 ghost use Rattle.model.specs.Table.{encode, padded, tableIn};
-ghost use Rattle.model.specs.Checks.{pass};
 ghost use Rattle.model.specs.Rename.{carried, moved};
 ghost use Rattle.model.specs.Outcome.{Given, shownIn};
-ghost use Rattle.rename_checks.specs.Early.{earlyChecks};
+ghost use Rattle.rename_checks.specs.Early.{EarlyPassed};
 
 // The table anew with what rename moves; `whole` tells whether the source is a directory.
 pub fn write_move(
@@ -27,7 +26,7 @@ pub fn write_move(
     whole: bool,
 )
     requires { ⌜ Given (now listing) (now table) rec ⌝ }
-    requires { ⌜ earlyChecks (tableIn (now table) rec) (treeIn (now listing)) (now source) (now destination) ≡ pass ⌝ }
+    requires { ⌜ EarlyPassed (tableIn (now table) rec) (treeIn (now listing)) (now source) (now destination) ⌝ }
     requires { ⌜ kind (shownIn (now listing) (now table) rec) (now source) ≡ cond whole aDirectory
         aFile ⌝ }
     requires { ⌜ every short (keys (rekey (now source) (now destination) (carried (tableIn (now table) rec)

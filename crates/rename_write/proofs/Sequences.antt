@@ -214,25 +214,22 @@ fits-as s w xs ys x e f = subst (λ (o : Table). Fits s w o x) e f
 pub put-as : (s w w′ : Bytes) (xs ys : Table) (x x′ : Merge) → ys ≡ xs → AllPut s w w′ xs x x′ → AllPut s w w′ ys x x′
 put-as s w w′ xs ys x x′ e f = subst (λ (o : Table). AllPut s w w′ o x x′) (sym e) f
 
--- which of five lists it is
-module _ (p q r o : Bool) (v w x y z : Table) where
+-- which of four lists it is
+module _ (q r o : Bool) (w x y z : Table) where
   abbrev pub chosen : Table
-  chosen = cond p v (cond q (cond r w x) (cond o y z))
+  chosen = cond q (cond r w x) (cond o y z)
 
-  pub pick-1 : p ≡ true → chosen ≡ v
-  pick-1 h = rw h
+  pub pick-1 : q ≡ true → r ≡ true → chosen ≡ w
+  pick-1 i j = rw (i, j)
 
-  pub pick-2 : p ≡ false → q ≡ true → r ≡ true → chosen ≡ w
-  pick-2 h i j = rw (h, i, j)
+  pub pick-2 : q ≡ true → r ≡ false → chosen ≡ x
+  pick-2 i j = rw (i, j)
 
-  pub pick-3 : p ≡ false → q ≡ true → r ≡ false → chosen ≡ x
-  pick-3 h i j = rw (h, i, j)
+  pub pick-3 : q ≡ false → o ≡ true → chosen ≡ y
+  pick-3 i j = rw (i, j)
 
-  pub pick-4 : p ≡ false → q ≡ false → o ≡ true → chosen ≡ y
-  pick-4 h i j = rw (h, i, j)
-
-  pub pick-5 : p ≡ false → q ≡ false → o ≡ false → chosen ≡ z
-  pick-5 h i j = rw (h, i, j)
+  pub pick-4 : q ≡ false → o ≡ false → chosen ≡ z
+  pick-4 i j = rw (i, j)
 
 -- all of it, from the first entry on
 module _ (s w₀ : Bytes) (r : Record) (xs : Table) (h : isTable s r ≡ true) (u : ascends [] xs ≡ true) where

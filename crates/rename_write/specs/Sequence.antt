@@ -5,7 +5,7 @@ use mathlib.Core.List.{[], _∷_, _++_}
 use mathlib.Core.Option.{Option, none, some}
 use Prim.Native.Nat.{_≤_}
 use lib.ListN.{length}
-use Rattle.model.specs.Bytes.{Bytes, same, before}
+use Rattle.model.specs.Bytes.{Bytes, before}
 use Rattle.model.specs.Path.{Path}
 use Rattle.model.specs.Map.{lookup, ascends}
 use Rattle.model.specs.Tree.{Node, Entry, deleted, Table, Tree}
@@ -59,10 +59,9 @@ arrivals whole t l a b = (b, top t l a) ∷ turned (move a b) (lower whole t l a
 -- is below it
 abbrev pub ordered : Bool → Table → Tree → Path → Path → Table
 ordered whole t l a b =
-    cond (same a b) (arrivals whole t l a b)
-    (cond (before a b)
+    cond (before a b)
     (cond (before b (a ++ (47 ∷ []))) ((a, deleted) ∷ (arrivals whole t l a b ++ turned deletion (lower whole t l a)))
     (departures whole t l a ++ arrivals whole t l a b))
     (cond (before a (b ++ (47 ∷ []))) ((b, top t l a) ∷ (departures whole t l a
     ++ turned (move a b) (lower whole t l a)))
-    (arrivals whole t l a b ++ departures whole t l a)))
+    (arrivals whole t l a b ++ departures whole t l a))

@@ -573,9 +573,6 @@ fn put_ordered<'a>(
         (tableIn (now (table .entry)) rec) (treeIn (now (listing .entry))) (now (source .entry))
         (now (destination .entry))) merge r ⌝ }
 {
-    if base_fields::is_same(source, destination) {
-        return put_arrivals(work, table, rec, listing, source, destination, whole, merge);
-    }
     if base_fields::is_before(source, destination) {
         if base_paths::is_before_with(destination, source, b'/') {
             return put_destination_within(

@@ -11,9 +11,13 @@ use Rattle.base_fields.specs.Read.{zeros}
 abbrev pub filled : Bytes → Bool
 filled w = every (λ b. eqb b 165) w
 
--- refused: the table t is the start of its old copy o, the work buffer w is full as before, the record is the same
+-- accepted without a change: the table t is the start of its old copy o, the record is the same
+abbrev pub unchanged : Bytes → Bytes → Record → Record → Bool
+unchanged t o a b = same t (take (length t) o) && sameRecord a b
+
+-- refused: that, and the work buffer w is full as before
 abbrev pub kept : Bytes → Bytes → Bytes → Record → Record → Bool
-kept t o w a b = same t (take (length t) o) && filled w && sameRecord a b
+kept t o w a b = unchanged t o a b && filled w
 
 -- accepted: t with the record r is a table, and the work buffer is all 0
 abbrev pub clean : Bytes → Bytes → Record → Bool

@@ -8,7 +8,7 @@ ghost use lib.ListN.{length, take, replicate};
 ghost use Rattle.model.specs.Bytes.{same};
 ghost use Rattle.model.specs.Table.{sameRecord};
 ghost use Rattle.base_fields.specs.Write.{overwritten};
-ghost use Rattle.test_kept.specs.Left.{filled, kept, clean};
+ghost use Rattle.test_kept.specs.Left.{filled, unchanged, kept, clean};
 use model::Record;
 
 // What the work buffer is filled with.
@@ -69,11 +69,18 @@ fn is_same_record(a: Record, b: Record) -> bool
         & (a.entry_size == b.entry_size)
 }
 
-// Whether nothing changed since `prepare`: the table, the work buffer and the record.
+// Whether table and record are those of before `prepare`.
+pub fn is_unchanged(table: &[u8], old: &[u8], a: Record, b: Record) -> bool
+    ensures { λ r. ⌜ r ≡ unchanged (now (table .entry)) (now (old .entry)) a b ⌝ }
+{
+    is_same_table(table, old) & is_same_record(a, b)
+}
+
+// Whether nothing changed since `prepare`: the table, the record and the work buffer.
 pub fn is_kept(table: &[u8], old: &[u8], work: &[u8], a: Record, b: Record) -> bool
     ensures { λ r. ⌜ r ≡ kept (now (table .entry)) (now (old .entry)) (now (work .entry)) a b ⌝ }
 {
-    is_same_table(table, old) & is_filled(work) & is_same_record(a, b)
+    is_unchanged(table, old, a, b) & is_filled(work)
 }
 
 // Whether the table is well-formed and agrees with its record, and the work buffer is all 0.

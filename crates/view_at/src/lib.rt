@@ -8,7 +8,7 @@ ghost use Prim.Native.Nat.{_+_, _≤_, _<_};
 ghost use lib.ListN.{length, take, drop};
 ghost use Rattle.model.specs.Bytes.{Bytes};
 ghost use Rattle.model.specs.Path.{Path, endsHere};
-ghost use Rattle.model.specs.Tree.{Entry, Node, shown, kindOf, kind, isDirectory};
+ghost use Rattle.model.specs.Tree.{Entry, Node, shown, kindOf, kind, isNothing, isDirectory};
 ghost use Rattle.model.specs.Tree as tree;
 ghost use Rattle.model.specs.Listing.{treeIn, isListing};
 ghost use Rattle.model.specs.Table.{tableIn, isTable};
@@ -145,6 +145,26 @@ pub fn visible_at(listing: &[u8], table: &[u8], rec: model::Record, path: &[u8])
     let entry = table_entries::get(table, rec, path);
     let target = listing_dir::kind_of(listing, path);
     over(entry, target)
+}
+
+// Whether nothing is visible.
+pub fn is_nothing(visible: Visible) -> bool
+    ensures { λ r. ⌜ r ≡ isNothing (visibleKind visible) ⌝ }
+{
+    match visible {
+        Visible::Nothing => {
+            return true;
+        }
+        Visible::Directory => {
+            return false;
+        }
+        Visible::File => {
+            return false;
+        }
+        Visible::Link => {
+            return false;
+        }
+    }
 }
 
 // Whether what is visible is a directory.

@@ -1,4 +1,4 @@
-//! Document 01's cases, those of change requests #102 and #103 and the inputs of docs/DIFFERENCES.md that the original
+//! Document 01's cases, those of change requests #102 to #104 and the inputs of docs/DIFFERENCES.md that the original
 //! can be asked, with the answers written out: the original, the model and the port are each held to them.
 
 use differential::{
@@ -50,8 +50,6 @@ pub fn all() -> Vec<Case> {
             ],
         ),
         ("L", vec![(rename("a", "b").at(1194), "11 (0, 0)", Some(0))]),
-        ("L", vec![(rename("z", "z"), "0 (0, 0)", Some(298))]),
-        ("L", vec![(rename("a", "a"), "9 (1, 1)", Some(0))]),
         ("L", vec![(rename("a", "a/b"), "10 (0, 1)", None), (rename("a", "a/f"), "7 (1, 3)", None)]),
         (
             "L",
@@ -125,7 +123,6 @@ pub fn all() -> Vec<Case> {
                 (rename("a", "b").at(594), "0 (0, 0)", Some(594)),
             ],
         ),
-        ("a/", vec![(rename("a", "a"), "0 (0, 0)", Some(297))]),
         (
             "",
             vec![
@@ -200,6 +197,31 @@ fn shown() -> Vec<Case> {
         ),
         ("a/ a/l@", vec![(show("a"), "0 (0, 0)", None), (rmdir("a"), "9 (0, 1)", None)]),
         ("a/ a-b a/b/ a/b/c a0", vec![(show(""), "0 (0, 12)", None), (show("a"), "0 (0, 3)", None)]),
+    ]
+}
+
+/// The cases of change request #104: two of document 01 with other answers, and what is refused as before.
+fn itself() -> Vec<Case> {
+    vec![
+        ("L", vec![(rename("z", "z").at(0), "0 (0, 0)", Some(0)), (rename("a", "a").at(0), "0 (0, 0)", Some(0))]),
+        ("a/", vec![(rename("a", "a").at(0), "0 (0, 0)", Some(0))]),
+        ("a/ a/l@", vec![(rename("a", "a").at(0), "0 (0, 0)", Some(0)), (rename("a/l", "a/l"), "4 (1, 3)", None)]),
+        (
+            "L",
+            vec![
+                (rename("", ""), "4 (0, 0)", None),
+                (rename("l", "l"), "4 (1, 1)", None),
+                (rename("l/x", "l/x"), "4 (1, 3)", None),
+                (rename("z/n", "z/n"), "5 (1, 3)", None),
+                (rename("q", "q"), "5 (0, 1)", None),
+                (unlink("z"), "0 (0, 0)", Some(297)),
+                (rename("z", "z"), "5 (0, 1)", Some(297)),
+                (rename("a", "b"), "0 (0, 0)", Some(1492)),
+                (rename("b", "b").at(0), "0 (0, 0)", Some(1492)),
+                (rename("b/f", "b/f").at(0), "0 (0, 0)", Some(1492)),
+                (rename("a", "a"), "5 (0, 1)", Some(1492)),
+            ],
+        ),
     ]
 }
 
@@ -288,6 +310,8 @@ fn partings() -> Vec<Parting> {
         ("l@", one("l", directory.clone()), mkdir("l/x", ""), "0 (0, 0)", "4 (0, 3)"),
         ("l@", one("l", directory), append("l/x", "", 0), "0 (0, 0)", "4 (0, 3)"),
         ("", Entries::new(), append("n", "", 1), "17 (0, 0)", "0 (0, 0)"),
+        ("a/ a/f", Entries::new(), rename("a", "a"), "0 (0, 0)", "9 (1, 1)"),
+        ("z", Entries::new(), rename("z", "z").at(297), "0 (0, 0)", "11 (0, 0)"),
         ("l@", one("l/x", Entry::deleted()), mkdir("l/x", "p"), "4 (0, 3)", "4 (0, 1)"),
     ]
 }
@@ -319,7 +343,7 @@ fn run_partings() -> u64 {
 
 pub fn run() -> u64 {
     let (mut calls, mut faults) = (0, run_partings());
-    let cases: Vec<Case> = all().into_iter().chain(shown()).chain(partial()).collect();
+    let cases: Vec<Case> = all().into_iter().chain(shown()).chain(partial()).chain(itself()).collect();
     for (text, steps) in &cases {
         let listing = if *text == "L" { listing_l() } else { tree(text) };
         let mut world = World::new(&Setup::new(listing, 4096));
@@ -340,7 +364,7 @@ pub fn run() -> u64 {
         }
     }
     println!(
-        "{} cases of document 01, its readings, #102, #103, docs/DIFFERENCES.md: {calls} calls, {faults} differences",
+        "{} cases of document 01, its readings, #102 to #104, docs/DIFFERENCES.md: {calls} calls, {faults} differences",
         cases.len()
     );
     faults

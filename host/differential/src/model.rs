@@ -1,4 +1,4 @@
-//! A plain model written from document 01 and change requests #102 and #103 alone: a map of entries over a map of
+//! A plain model written from document 01 and change requests #102, #103 and #104 alone: a map of entries over a map of
 //! listed paths, every check in its order. A third opinion beside the original and the port, and the only one beside
 //! the port on 3, 12, 13 and 17.
 
@@ -258,8 +258,8 @@ impl Model {
         }
     }
 
-    /// The checks of rename up to the absent source, with what stands at the source.
-    fn rename_checks(&self, from: &str, to: &str) -> Checked<Entry> {
+    /// The checks of rename that each path passes by itself.
+    fn rename_paths(&self, from: &str, to: &str) -> Checked {
         for (which, path) in [(0, from), (1, to)] {
             if path.is_empty() {
                 return Err(Answer::named(4, which, path));
@@ -273,9 +273,16 @@ impl Model {
         if self.entries.get(from).is_some_and(|entry| entry.kind == 4) {
             return Err(Answer::named(5, 0, from));
         }
+        if self.shown(from) == Some(Kind::Link) {
+            return Err(Answer::named(4, 0, from));
+        }
+        Ok(())
+    }
+
+    /// Those of both together, up to the absent source, with what stands at the source.
+    fn rename_types(&self, from: &str, to: &str) -> Checked<Entry> {
         let source = self.shown(from);
         match (source, self.shown(to)) {
-            (Some(Kind::Link), _) => return Err(Answer::named(4, 0, from)),
             (Some(Kind::Directory), Some(Kind::File)) => return Err(Answer::named(7, 1, to)),
             (Some(Kind::Directory), Some(_)) if self.has_child(to) => return Err(Answer::named(9, 1, to)),
             (None | Some(Kind::File), Some(Kind::Directory)) => return Err(Answer::named(8, 1, to)),
@@ -327,7 +334,18 @@ impl Model {
     }
 
     fn rename(&mut self, from: &str, to: &str, limit: u64) -> Checked {
-        let source = self.rename_checks(from, to)?;
+        self.rename_paths(from, to)?;
+        // #104: "If both paths are equal and the source is visible, accept and leave table and record as they are,
+        // whatever the limit. This comes before the type clash check"
+        if from == to && self.shown(from).is_some() {
+            return Ok(());
+        }
+        self.move_to(from, to, limit)
+    }
+
+    /// What comes behind that: in document 01, before #104, for equal paths too.
+    pub fn move_to(&mut self, from: &str, to: &str, limit: u64) -> Checked {
+        let source = self.rename_types(from, to)?;
         let moved = |key: &str| format!("{to}{}", &key[from.len()..]);
         let mut moves = vec![(from.to_owned(), source.clone())];
         if source.kind == 3 {

@@ -31,6 +31,8 @@ pub struct Count {
     pub numbers: BTreeMap<u8, u64>,
     /// The calls of change request #103 among them, by name, the answer's number, and whether the original was asked.
     pub partial: BTreeMap<(&'static str, u8, bool), u64>,
+    /// The moves onto itself among them, by what the original answered on a copy; none where it was not asked.
+    pub itself: BTreeMap<Option<u8>, u64>,
     /// The paths that were shown on all sides, by the number of the answer.
     pub shows: BTreeMap<u8, u64>,
     /// The links that the original listed there, which are left aside.
@@ -68,6 +70,9 @@ impl Count {
         for (class, count) in &other.partial {
             *self.partial.entry(*class).or_default() += count;
         }
+        for (theirs, count) in &other.itself {
+            *self.itself.entry(*theirs).or_default() += count;
+        }
     }
 
     fn row(&self, name: &str, seconds: f64) {
@@ -98,7 +103,11 @@ impl Place {
     fn call(&mut self, call: &Call, count: &mut Count) -> Result<Answer, Difference> {
         match self.world.call(call) {
             Ok(answer) => {
-                count.add(call, answer, true);
+                let itself = call.is_onto_itself() && answer.number == 0;
+                count.add(call, answer, !itself);
+                if itself {
+                    *count.itself.entry(self.world.parted.map(|theirs| theirs.number)).or_default() += 1;
+                }
                 if answer.number == 0 {
                     self.calls.push(call.clone());
                 }
@@ -263,6 +272,9 @@ fn other_entry_sizes(lists: u64, seed: u64, make: Make, count: &mut Count) -> Re
                 return Err(Difference { what, listing: differential::listing::text(&tree), calls });
             }
             count.add(&call, answer, false);
+            if call.is_onto_itself() && answer.number == 0 {
+                *count.itself.entry(None).or_default() += 1;
+            }
             let path = which.pick(&paths);
             let (expected, given) = (model.show(path), port.show(path));
             if expected != given {
@@ -379,6 +391,18 @@ fn random_groups(all: &mut Count, share: u64, seed: u64) {
     });
 }
 
+/// How many moves onto itself were accepted, and what the original answered to them.
+fn print_itself(all: &Count) {
+    let said = |theirs: &Option<u8>| match theirs {
+        Some(0) => "moved by the original, as document 01 had it before #104".to_owned(),
+        Some(number) => format!("refused by it with {number}, as document 01 had it"),
+        None => "of which it was not asked".to_owned(),
+    };
+    let each: Vec<String> = all.itself.iter().map(|(theirs, count)| format!("{count} {}", said(theirs))).collect();
+    let sum: u64 = all.itself.values().sum();
+    println!("moves onto itself: {sum} accepted here, and all left as it was; {}.", each.join(", "));
+}
+
 /// How many calls of change request #103 were compared, with the original and without it.
 fn print_partial(all: &Count) {
     for name in ["append", "write_at"] {
@@ -420,6 +444,7 @@ pub fn run(long: bool, seed: u64) -> u64 {
     println!("The names are the same as a set; {} links that the original lists are left aside.", all.links);
     println!("Shown by the port and the model alone: {} paths.", all.shows_without);
     print_partial(&all);
+    print_itself(&all);
     println!();
     all.differences
 }

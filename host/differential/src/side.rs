@@ -77,6 +77,11 @@ impl Call {
         Self { limit, ..self.clone() }
     }
 
+    /// Whether it moves a path onto itself.
+    pub fn is_onto_itself(&self) -> bool {
+        matches!(&self.op, Op::Rename { to } if *to == self.path)
+    }
+
     /// Whether its mtime is an argument of the port.
     pub fn takes_mtime(&self) -> bool {
         matches!(self.op, Op::Write { .. } | Op::Mkdir { .. }) || self.op.is_partial()

@@ -38,6 +38,9 @@ pub struct World {
     pub original: Original,
     pub model: Model,
     pub port: Port,
+    /// What the original answered to the last call, if that was a move onto itself, which it makes and the others do
+    /// not (#104).
+    pub parted: Option<Answer>,
 }
 
 /// The mtime passed to a call that stores none.
@@ -50,11 +53,12 @@ impl World {
             original: Original::new(&listing, setup.mount, Manner::default()),
             model: Model::new(&Rc::new(setup.tree.clone()), entry_size(), setup.room),
             port: Port::new(&listing, entry_size(), setup.room),
+            parted: None,
         }
     }
 
     pub fn copy(&self) -> Self {
-        Self { original: self.original.copy(), model: self.model.copy(), port: self.port.clone() }
+        Self { original: self.original.copy(), model: self.model.copy(), port: self.port.clone(), parted: None }
     }
 
     /// Puts one call to all sides; what parts is told in words. Where the cause of 12 or 13 holds, the original is
@@ -65,6 +69,10 @@ impl World {
         }
         // The cause of 12 and 13 does not hang on the mtime, so the model is asked apart first.
         let foretold = self.model.copy().call(call, UNUSED_MTIME);
+        self.parted = None;
+        if call.is_onto_itself() && foretold.number == 0 {
+            return self.itself(call, foretold);
+        }
         if !asks_original(call, foretold) {
             return self.others(call, UNUSED_MTIME, foretold);
         }
@@ -77,6 +85,26 @@ impl World {
             return Err(format!("the original's charge {kept} is not the sum {}", charge(&entries, entry_size())));
         }
         let answer = self.others(call, mtime, answer)?;
+        self.same("model", &self.model, &entries)?;
+        self.same("port", &self.port, &entries)?;
+        Ok(answer)
+    }
+
+    /// A move of a path onto itself that is accepted: the model and the port leave all as it was. The original moves it
+    /// (docs/DIFFERENCES.md, 18): on a copy, it is held to what document 01 had before #104, its answer and its table.
+    fn itself(&mut self, call: &Call, answer: Answer) -> Result<Answer, String> {
+        let mut before = self.model.copy();
+        let moved = before.move_to(&call.path, &call.path, call.limit).map_or_else(|refusal| refusal, |()| answer);
+        if asks_original(call, moved) {
+            let mut original = self.original.copy();
+            let theirs = original.call(call, UNUSED_MTIME);
+            if theirs != moved || original.entries() != before.entries() || original.charge() != before.charge() {
+                return Err(format!("{call}: the original gives {theirs}, document 01 before #104 {moved}"));
+            }
+            self.parted = Some(theirs);
+        }
+        let entries = self.original.entries();
+        self.others(call, UNUSED_MTIME, answer)?;
         self.same("model", &self.model, &entries)?;
         self.same("port", &self.port, &entries)?;
         Ok(answer)
@@ -145,6 +173,9 @@ impl World {
     /// original cannot be asked without a limit, the model is in its place.
     pub fn threshold(&self, call: &Call) -> Option<u64> {
         let free = self.model.copy().call(&call.at(u64::MAX), UNUSED_MTIME);
+        if call.is_onto_itself() && free.number == 0 {
+            return None;
+        }
         if call.op.is_partial() && !asks_original(call, free) {
             return threshold_of(&self.model, call, u64::MAX);
         }

@@ -252,7 +252,8 @@ impl<'a> OverlayMut<'a> {
         self.change(|lent| raw::rmdir(listing, lent, path.as_ref(), limit)).map(drop)
     }
 
-    /// What is at the source, and below it, moves to the destination, whose file or empty directory goes.
+    /// What is at the source, and below it, moves to the destination, whose file or empty directory goes. A move onto
+    /// itself is accepted whatever the limit, and leaves table and record as they are.
     pub fn rename(
         &mut self,
         listing: &[u8],
@@ -474,7 +475,8 @@ impl Overlay {
         self.lend().rmdir(listing, path, limit)
     }
 
-    /// What is at the source, and below it, moves to the destination, whose file or empty directory goes.
+    /// What is at the source, and below it, moves to the destination, whose file or empty directory goes. A move onto
+    /// itself is accepted whatever the limit, and leaves table and record as they are.
     ///
     /// ```
     /// use overlay::{EMPTY_LISTING, Mkdir, Overlay, Refusal};
@@ -484,6 +486,11 @@ impl Overlay {
     /// assert!(plan.is_dir(EMPTY_LISTING, "b")? && !plan.exists(EMPTY_LISTING, "a")?);
     /// assert_eq!(plan.rename(EMPTY_LISTING, "b", "b/c", u64::MAX), Err(Refusal::BelowSource { len: 1 }));
     /// assert_eq!(plan.rename(EMPTY_LISTING, "b", "", u64::MAX), Err(Refusal::LinkOrRoot { path: 1, len: 0 }));
+    ///
+    /// let before = plan.clone();
+    /// plan.rename(EMPTY_LISTING, "b", "b", 0)?;
+    /// assert_eq!((plan.table(), plan.record()), (before.table(), before.record()));
+    /// assert_eq!(plan.rename(EMPTY_LISTING, "a", "a", 0), Err(Refusal::NotFound { path: 0, len: 1 }));
     /// # Ok::<(), Refusal>(())
     /// ```
     pub fn rename(

@@ -56,12 +56,10 @@ enum Class {
 }
 
 fn classify(call: &Call, answer: Answer, errno: i32) -> Class {
-    let onto_itself = matches!(&call.op, Op::Rename { to } if *to == call.path);
     let rename = matches!(call.op, Op::Rename { .. });
     match (answer.number, errno) {
         (5, ENOENT) | (6, EEXIST) | (7, ENOTDIR) | (8, EISDIR) | (9, ENOTEMPTY) | (10, EINVAL) => Class::Same,
         (4, 0) => Class::OnlyHere,
-        (9, 0) if onto_itself => Class::OnlyHere,
         // A link on the way or at the end.
         (4, _) => Class::OtherMeaning,
         // A file in the path prefix.

@@ -1,5 +1,5 @@
-//! Replays the vectors of calls.jsonl, worked.jsonl, kept.jsonl, show.jsonl and content.jsonl against the library:
-//! every answer, record, table, work buffer, output and place must be as they say. The rows of docs/WORKED-CALLS.md must
+//! Replays the vectors of calls.jsonl, worked.jsonl, kept.jsonl, show.jsonl, content.jsonl and itself.jsonl against the
+//! library: every answer, record, table, work buffer, output and place must be as they say. The rows of docs/WORKED-CALLS.md must
 //! be those of worked.jsonl, and docs/DEFINITION.md may cite no other row of those calls; the page's rows that write and
 //! read kept files and that show directories are put to the library, and the kept files that docs/FORMATS.md shows must
 //! be read as it says. With the name of a file it replays that one alone; with `--rows` it prints the rows of
@@ -31,6 +31,9 @@ const SHOWN: (&str, &[u64]) = ("show", &[0, 1, 2, 3, 4, 5, 7, 13]);
 
 /// The numbers of append and writing inside that content.jsonl has; the worked rows have all that the two can give.
 const CONTENT: [(&str, &[u64]); 2] = [("append", &[0, 3, 4, 5, 8, 11, 13, 17]), ("write_at", &[0, 5, 11, 13])];
+
+/// The numbers of rename that itself.jsonl has.
+const ITSELF: (&str, &[u64]) = ("rename", &[0, 1, 3, 4, 5, 8, 11, 13]);
 
 /// A vector's answer as an answer of the library: number, path, length, value.
 fn four(answer: Result<u64, Refusal>) -> [u64; 4] {
@@ -269,6 +272,7 @@ fn compare() -> Result<(), String> {
             replay_numbers("kept.jsonl", &KEPT)?;
             replay_numbers("show.jsonl", &[SHOWN])?;
             replay_numbers("content.jsonl", &CONTENT)?;
+            replay_numbers("itself.jsonl", &[ITSELF])?;
             let rows = worked_rows(&worked)?;
             rows.stand_in(&read(&page)?).map_err(|error| format!("{page}: {error}"))?;
             rows.cited_in(&read(&definition)?).map_err(|error| format!("{definition}: {error}"))?;

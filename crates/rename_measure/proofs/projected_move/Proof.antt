@@ -1,8 +1,7 @@
--- `projected_move` meets its contract: onto itself by the moves alone, elsewhere by deletions and moves together.
-use mathlib.Core.Path.{sym, _∙_}
+-- `projected_move` meets its contract: deletions and moves together.
 use borrow.Author.Needs.{needs}
 use Rattle.rename_measure.proofs.Sources.{length-small}
-use Rattle.rename_measure.proofs.Foretelling.{onto-itself, enough, elsewhere}
+use Rattle.rename_measure.proofs.Foretelling.{enough, together-foretold}
 use Rattle.rename_measure.proofs.projected_move.Statement.{statement}
 use Rattle.rename_measure.proofs.projected_move.Tie as tie
 
@@ -17,60 +16,32 @@ all-moves-requires c κs =
     let n = length-small (a .table .now) (a .listing .now) (a .rec) (p .1 .0) (p .0) (a .source .now) (a .whole) x (a .first-len) f in
     (p .0, (p .1 .0, ((d .0, d .1, n), (x, f))))
 
-is-same-requires : tie.Need-is-same-requires
-is-same-requires c κs = search needs
-
-add-t12 : tie.Need-add-t12
-add-t12 c = search needs
-
-returns : tie.Need-returns
-returns c =
-    let e = c .before .before .before .before .before .before .before .before .before .before in
-    let a = e .args in
-    let p = e .pre in
-    let m = c .before .before .before .before .before .all-moves in
-    let i = c .before .before .before .is-same in
-    onto-itself (a .table .now) (a .listing .now) (a .rec) (p .1 .0) (p .0) (a .source .now) (a .destination .now)
-    (sym (i .ensures) ∙ c .before .before .if1 .taken) (m .result) (m .ensures .0)
-
 all-deletions-requires : tie.Need-all-deletions-requires
 all-deletions-requires c κs = search needs
 
 together-requires : tie.Need-together-requires
 together-requires c κs =
-    let e = c .before .before .before .before .before .before .before .before .before in
+    let e = c .before .before .before .before .before .before in
     let a = e .args in
     let p = e .pre in
     let g = c .all-deletions in
-    let m = c .before .before .before .before .all-moves in
-    let i = c .before .before .is-same in
-    let n = sym (i .ensures) ∙ c .before .if1 .left in (
+    let m = c .before .all-moves in (
       (g .ensures .1, m .ensures .1 .0, m .ensures .1 .1),
-      enough (a .table .now) (a .listing .now) (a .rec) (p .1 .0) (p .0) (a .source .now) (a .destination .now) (p .1 .1 .1 .1 .1 .1 n)
+      enough (a .table .now) (a .listing .now) (a .rec) (p .1 .0) (p .0) (a .source .now) (a .destination .now) (p .1 .1 .1 .1 .1 .1)
           (g .result) (m .result) (g .ensures .0) (m .ensures .0),
     )
 
-returns-2 : tie.Need-returns-2
-returns-2 c =
-    let e = c .before .before .before .before .before .before .before .before .before .before in
+returns : tie.Need-returns
+returns c =
+    let e = c .before .before .before .before .before .before .before in
     let a = e .args in
     let p = e .pre in
     let t = c .together in
     let g = c .before .all-deletions in
-    let m = c .before .before .before .before .before .all-moves in
-    let i = c .before .before .before .is-same in
-    let n = sym (i .ensures) ∙ c .before .before .if1 .left in
-    elsewhere (a .table .now) (a .listing .now) (a .rec) (p .1 .0) (p .0) (a .source .now) (a .destination .now) (p .1 .1 .1 .1 .1 .1 n)
+    let m = c .before .before .all-moves in
+    together-foretold (a .table .now) (a .listing .now) (a .rec) (p .1 .0) (p .0) (a .source .now) (a .destination .now) (p .1 .1 .1 .1 .1 .1)
     (g .result) (m .result) (g .ensures .0) (m .ensures .0) (t .result) (t .ensures)
 
 pub projected-move-spec : {M : Type 1} → statement M
 projected-move-spec =
-    tie.close
-    (tie.spec
-    all-moves-requires
-    is-same-requires
-    add-t12
-    returns
-    all-deletions-requires
-    together-requires
-    returns-2)
+    tie.close (tie.spec all-moves-requires all-deletions-requires together-requires returns)

@@ -5,7 +5,6 @@ use Rattle.model.specs.Listing.{treeIn}
 use Rattle.model.specs.Table.{tableIn}
 use Rattle.model.proofs.Codec.{path-short}
 use Rattle.rename_checks.proofs.Passed.{apart-paths}
-use Rattle.rename_measure.proofs.Sources.{not-same}
 use Rattle.rename_settle.proofs.Settling.{settled-check, settled-record, top-length, not-roots, source-of}
 use Rattle.rename_settle.proofs.last_checks.Statement.{statement}
 use Rattle.rename_settle.proofs.last_checks.Tie as tie
@@ -34,7 +33,7 @@ projected-move-requires c κs =
             (o .1, path-short y (p .1 .0 .1)),
             (
               source-of t l x y h (a .whole) (p .1 .1 .1),
-              (top-length t l x (f .result) (f .ensures), λ s. apart-paths t l x y h (not-same x y s)),
+              (top-length t l x (f .result) (f .ensures), apart-paths t l x y h),
             ),
           ),
         ),
