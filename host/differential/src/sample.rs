@@ -1,6 +1,6 @@
-//! A fixed sample of the original's answers: as lines of text (sample.txt), and as bytes (sample.bin). Moves onto itself,
-//! in which the port parts from the original (#104), are not in it, but for those that both refuse.
-//! The original stores the clock's time; the sample has 1000, 1001, ... in its place, the same number for the same time.
+//! A fixed sample of the original's answers: as lines of text (sample.txt), and as bytes (sample.bin). Moves onto
+//! itself, in which the port parts from the original (#104), are not in it, but for those that both refuse. The
+//! original stores the clock's time; the sample has 1000, 1001, ... in its place, the same number for the same time.
 
 use std::{collections::BTreeMap, fmt::Write, thread, time::Duration};
 

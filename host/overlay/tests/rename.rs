@@ -1,5 +1,6 @@
 //! Moving a path onto itself: accepted where something is visible, whatever the limit and the room, with every byte of
-//! table and record as it was and the work buffer all 0; refused as any rename where a path by itself is; in scripts too.
+//! table and record as it was and the work buffer all 0; refused as any rename where a path by itself is; in scripts
+//! too.
 use overlay::{Mkdir, Overlay, OverlayMut, Record, Refusal, Script};
 
 const FREE: u64 = u64::MAX;

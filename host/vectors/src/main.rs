@@ -1,10 +1,10 @@
 //! Replays the vectors of calls.jsonl, worked.jsonl, kept.jsonl, show.jsonl, content.jsonl and itself.jsonl against the
-//! library: every answer, record, table, work buffer, output and place must be as they say. The rows of docs/WORKED-CALLS.md must
-//! be those of worked.jsonl, and docs/DEFINITION.md may cite no other row of those calls; the page's rows that write and
-//! read kept files and that show directories are put to the library, and the kept files that docs/FORMATS.md shows must
-//! be read as it says. With the name of a file it replays that one alone; with `--rows` it prints the rows of
-//! worked.jsonl. It says what it compared, and ends with status 1 at the first difference, and where a file has nothing
-//! of a kind that it is there for.
+//! library: every answer, record, table, work buffer, output and place must be as they say. The rows of
+//! docs/WORKED-CALLS.md must be those of worked.jsonl, and docs/DEFINITION.md may cite no other row of those calls; the
+//! page's rows that write and read kept files and that show directories are put to the library, and the kept files that
+//! docs/FORMATS.md shows must be read as it says. With the name of a file it replays that one alone; with `--rows` it
+//! prints the rows of worked.jsonl. It says what it compared, and ends with status 1 at the first difference, and where
+//! a file has nothing of a kind that it is there for.
 mod json;
 mod kept;
 mod page;
