@@ -24,16 +24,16 @@ use Rattle.model.specs.Content.{isOwn, contentOf, appended, appendChecks
 use Rattle.model.specs.Calls.{Call, write, append, writeInside, mkdir, unlink, rmdir, rename, changed, rules}
 use Rattle.model.specs.Plain.{plainWrite, plainEffect}
 use Rattle.model.specs.Cause.{MovesDirectory, Exceeds, charge-above, plan-above, walk-above, content-above, key-above}
-use Rattle.model.proofs.Orders.{same-refl, bot, yea, nay, test, is-none, is-some, opt, mem}
+use Rattle.model.proofs.Orders.{same-refl, bot, yea, nay, test, mem}
 use Rattle.model.proofs.Orders.{rest-self, rest-below, rest-nil, below-rest}
 use Rattle.model.proofs.Maps.{upd, orElse, lookup-put, lookup-del, lookup-puts, lookup-each, Ascending, ascending-put, ascending-del, ascending-puts, ascending-outside}
 use Rattle.model.proofs.Invariant.{kind-is, is-nothing, is-directory, is-file, is-link′, entry-at, at-none, at-own, at-reference, at-directory, at-deleted}
-use Rattle.model.proofs.Invariant.{Closed, Inv, shown-put, shown-over, kind-at, kind-entry, then-pass, then-both, parents-dirs, parents-pass, inv-empty}
+use Rattle.model.proofs.Invariant.{Closed, closed-above, Inv, shown-put, shown-over, kind-at, kind-entry, then-pass, then-both, parents-dirs, parents-pass, inv-empty}
 use Rattle.model.proofs.Small.{write-inv, unlink-inv, unlink-regular, rmdir-inv, RmdirOk, rmdir-ok, ok-rmdir, met-nothing, met-directory, mkdir-met, makes-missing, makes-none, mkdir-inv, mkdir-up, mkdir-lookup, madeAt, childless-empty, empty-childless, root-refused, root-passes}
 use Rattle.model.proofs.Contents.{append-passed, inside-passed, inside-write}
 use Rattle.model.proofs.Moves.{Held, RenameOk, moveView, move-inv, move-tree, plain-move, entry-free, listed-stop, kind-link, kind-absent}
 use Rattle.model.proofs.Passed.{PathsPassed, TypesPassed, MovePassed, RenamePassed, two-elsewhere, passed-paths, passed-types, rename-passed}
-use Rattle.model.proofs.Itself.{ItselfOk, itself-ok, visible-above, itself-onto, itself-checks}
+use Rattle.model.proofs.Itself.{ItselfOk, itself-ok, exists-there, itself-onto, itself-checks}
 use Rattle.model.proofs.Walks.{Met, walk-stops, walk-met, walk-budget, walk-over}
 
 -- the table t over the listing l and the plain tree s: the invariant, and the same tree
@@ -246,9 +246,6 @@ module _ (t : Table) (l : Tree) (cl : Closed (lookup l)) (i : Inv t l) (a b : Pa
       link-a : notLink 0 (length a) ka ≡ pass
       link-a = elim (kind-is ka) [ is-link′ z ↦ absurd (no-a z) | is-nothing z ↦ cc | is-file z ↦ cc | is-directory z ↦ cc ]
 
-      up-a : (q : Path) → below q a ≡ true → kind (shown t l) q ≡ aDirectory
-      up-a q z = elim (opt (shown t l a)) [ is-none e ↦ absurd (o .found e) | is-some n e ↦ i .closed q a n z e ]
-
       there : notDeleted (length a) (lookup t a) ≡ pass
       there = elim (entry-at (lookup t a)) [ at-none z ↦ cc | at-own m d z ↦ cc | at-reference m s p z ↦ cc | at-directory m z ↦ cc | at-deleted z ↦ absurd (o .found (cc)) ]
 
@@ -275,7 +272,7 @@ module _ (t : Table) (l : Tree) (cl : Closed (lookup l)) (i : Inv t l) (a b : Pa
         destination-not-root = root-passes 1 b (o .target);
         destination-parents = parents-pass 1 (length b) (kind (shown t l)) b (o .up);
         destination-no-link = link-b;
-        source-parents = parents-pass 0 (length a) (kind (shown t l)) a up-a;
+        source-parents = parents-pass 0 (length a) (kind (shown t l)) a (closed-above (shown t l) (i .closed) a is-a);
         source-not-deleted = there;
         source-no-link = link-a;
       }
@@ -302,7 +299,7 @@ module _ (t : Table) (l : Tree) (cl : Closed (lookup l)) (i : Inv t l) (a b : Pa
   ok-rename : Ascending l → RenameIs (shown t l) a b → (m : Memory) → Allowed m t l (rename a b) (renameChecks m t l a b)
   ok-rename asc (RenameIs.itself o) m = subst (λ (p : Path). Allowed m t l (rename a p) (renameChecks m t l a p)) (o .one)
       (allowed-pass t l (rename a a) m (renameChecks m t l a a)
-      (itself-checks t l a (o .visible) (o .proper) (visible-above (shown t l) (i .closed) a (o .proper) (o .visible)) m))
+      (itself-checks t l a (o .visible) (o .proper) (closed-above (shown t l) (i .closed) a (exists-there (kind (shown t l) a) (o .visible))) m))
   ok-rename asc (RenameIs.elsewhere o) m = ok-move asc o m
 
 -- the plain tree with directories at a path and at its missing ancestors

@@ -24,12 +24,12 @@ use Rattle.model.specs.Runs.{touches}
 use Rattle.model.proofs.Orders.{split, Split, same-no, same-refl, below-irrefl, bot, yea, nay, test, is-none, is-some, opt, mem, mem-ancestors}
 use Rattle.model.proofs.Orders.{rest-below, rest-nil}
 use Rattle.model.proofs.Maps.{orElse, lookup-put, lookup-puts, lookup-each, lookup-rekey, lookup-keys, lookup-only}
-use Rattle.model.proofs.Invariant.{kind-is, is-nothing, is-directory, is-file, is-link′, Closed, Inv, shown-put, shown-over, kind-at, then-pass, parents-dirs}
-use Rattle.model.proofs.Small.{mkdir-up, mem-absent, met-nothing, met-directory, mkdir-met, makes-missing, makes-none, not-both, mkdir-lookup, madeAt, unlink-found, rmdir-ok, above-dirs}
+use Rattle.model.proofs.Invariant.{kind-is, is-nothing, is-directory, is-file, is-link′, Closed, closed-above, Inv, shown-put, shown-over, kind-at, then-pass, parents-dirs}
+use Rattle.model.proofs.Small.{mkdir-up, mem-absent, met-nothing, met-directory, mkdir-met, makes-missing, makes-none, not-both, mkdir-lookup, madeAt, unlink-found, rmdir-ok}
 use Rattle.model.proofs.Contents.{append-passed, inside-passed}
 use Rattle.model.proofs.Moves.{Held, RenameOk, moveView, move-tree}
 use Rattle.model.proofs.Passed.{RenamePassed, two-elsewhere, rename-passed}
-use Rattle.model.proofs.Itself.{exists-there, visible-above, itself-onto}
+use Rattle.model.proofs.Itself.{exists-there, itself-onto}
 use Rattle.model.proofs.Agree.{RenameIs, rename-ok}
 
 -- the entries elsewhere stay
@@ -198,17 +198,8 @@ module _ (f g : View) (m : ℕ) (p : Path) (made : (q : Path) → g q ≡ cond (
       (λ s. ap isNothing (c q (sym (mem-ancestors p q) ∙ s))))
 
 module _ (t : Table) (l : Tree) (i : Inv t l) where
-  -- what is visible has directories above it
-  prefixed : (p : Path) → (kind (shown t l) p ≡ nothing → ⊥) → Prefixed (shown t l) p
-  prefixed [] h q b = absurd (no-root q b)
-    where
-      no-root : (q : Path) → below q [] ≡ true → ⊥
-      no-root [] b = bot (cc)
-      no-root (c ∷ q) b = bot (cc)
-  prefixed (c ∷ p) h q b = elim (opt (shown t l (c ∷ p))) [ is-none e ↦ absurd (h (cc)) | is-some n e ↦ i .closed q (c ∷ p) n b e ]
-
   in-directories : (p : Path) → kind (shown t l) p ≡ aDirectory → Prefixed (shown t l) p
-  in-directories p e = prefixed p (not-both (kind (shown t l) p) e)
+  in-directories p e = closed-above (shown t l) (i .closed) p (not-both (kind (shown t l) p) e)
 
   -- the tree after directories were made at the missing paths
   made-shown : (p : Path) (up ok : Bool) (m : ℕ) (q : Path) → shown (changed t l (mkdir p up ok m)) l q ≡ cond (mem q (makes (shown t l) p)) (some (dir m)) (shown t l q)
@@ -245,7 +236,7 @@ module _ (t : Table) (l : Tree) (i : Inv t l) where
 
   posix-unlink : (p : Path) → unlinkChecks t l p ≡ pass → Posix (shown t l) (shown (put p deleted t) l) (unlink p)
   posix-unlink p h = let k = unlink-found t l i p h in (
-    record { prefixed = prefixed p (λ e. bot (cc)); present = λ e. bot (cc); other = λ e. bot (cc) },
+    record { prefixed = closed-above (shown t l) (i .closed) p (λ e. bot (cc)); present = λ e. bot (cc); other = λ e. bot (cc) },
     shown-put t l p deleted,
   )
 
@@ -254,14 +245,14 @@ module _ (t : Table) (l : Tree) (i : Inv t l) where
 
   posix-rmdir : (p : Path) → rmdirChecks t l p ≡ pass → Posix (shown t l) (shown (put p deleted t) l) (rmdir p)
   posix-rmdir p h = let o = rmdir-ok t l i p h in (
-    record { named = o .proper; prefixed = above-dirs t l i p (o .proper) (o .isDir); directory = o .isDir; empty = none-of (shown t l) p (o .empty) },
+    record { named = o .proper; prefixed = in-directories p (o .isDir); directory = o .isDir; empty = none-of (shown t l) p (o .empty) },
     shown-put t l p deleted,
   )
 
   -- onto itself: no other action
   posix-itself : (a : Path) → (a ≡ [] → ⊥) → says exists (kind (shown t l) a) ≡ true → Posix (shown t l) (shown t l) (rename a a)
   posix-itself a proper visible =
-      let up = visible-above (shown t l) (i .closed) a proper visible in (
+      let up = closed-above (shown t l) (i .closed) a (exists-there (kind (shown t l) a) visible) in (
         record {
           named-old = proper;
           named-new = proper;
@@ -281,7 +272,7 @@ module _ (t : Table) (l : Tree) (i : Inv t l) where
     record {
       named-old = o .source;
       named-new = o .target;
-      prefixed-old = prefixed a (λ e. absent o e);
+      prefixed-old = closed-above (shown t l) (i .closed) a (λ e. absent o e);
       prefixed-new = o .up;
       present = λ e. absent o e;
       onto-directory = o .over-dir;

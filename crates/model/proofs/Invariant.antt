@@ -40,6 +40,15 @@ kind-is aLink = is-link′ refl
 abbrev pub Closed : View → Type 0
 Closed f = (q k : Path) (n : Node) → below q k ≡ true → f k ≡ some n → kind f q ≡ aDirectory
 
+-- what is visible has directories above it
+pub closed-above : (f : View) → Closed f → (p : Path) → (kind f p ≡ nothing → ⊥) → (q : Path) → below q p ≡ true → kind f q ≡ aDirectory
+closed-above f c [] h q b = absurd (no-root q b)
+  where
+    no-root : (q : Path) → below q [] ≡ true → ⊥
+    no-root [] b = bot (cc)
+    no-root (x ∷ q) b = bot (cc)
+closed-above f c (x ∷ p) h q b = elim (opt (f (x ∷ p))) [ is-none e ↦ absurd (h (cc)) | is-some n e ↦ c q (x ∷ p) n b e ]
+
 -- #112's five rules in the form that the proofs use; specs/Rules.antt has them as written
 pub record Inv (t : Table) (l : Tree) : Type 0 where
   pub closed : Closed (shown t l)

@@ -1,5 +1,5 @@
--- A move of a path onto itself, on entries over a tree: what passes its checks, by what is shown. Where it passes is said
--- of all tables; that what is visible stands in directories, of those with the invariant.
+-- A move of a path onto itself, on entries over a tree: what passes its checks, by what is shown. All of it is said
+-- of all tables, with or without the invariant.
 use mathlib.Core.Path.{_≡_, refl, ap, ap₂}
 use mathlib.Core.List.{[]}
 use mathlib.Core.Bool.{Bool, true, false, cond, not, _&&_}
@@ -13,8 +13,8 @@ use Rattle.model.specs.Checks.{pass, _then_, Memory}
 use Rattle.model.specs.Rename.{notLink, notDeleted, renamePaths, renameTypes, renameMemory, ontoItself, renameChecks}
 use Rattle.model.specs.Calls.{exists, says}
 use Rattle.model.specs.Posix.{Prefixed}
-use Rattle.model.proofs.Orders.{bot, same-refl, is-none, is-some, opt}
-use Rattle.model.proofs.Invariant.{entry-at, at-none, at-own, at-reference, at-directory, at-deleted, Closed, kind-at, then-both, parents-pass}
+use Rattle.model.proofs.Orders.{bot, same-refl}
+use Rattle.model.proofs.Invariant.{entry-at, at-none, at-own, at-reference, at-directory, at-deleted, kind-at, then-both, parents-pass}
 use Rattle.model.proofs.Small.{root-refused, root-passes}
 use Rattle.model.proofs.Passed.{PathsPassed, itself-is, passed-paths}
 
@@ -54,13 +54,6 @@ itself-ok t l a b e p =
       proper = root-refused 0 a (p .source-not-root);
       visible = visible-exists (length a) (kind (shown t l) a) (i .1) (p .source-no-link);
     }
-
--- what is visible stands in directories
-pub visible-above : (f : View) → Closed f → (a : Path) → (a ≡ [] → ⊥) → says exists (kind f a) ≡ true → Prefixed f a
-visible-above f c a proper visible q b = elim (opt (f a)) [
-  | is-none e ↦ absurd (exists-there (kind f a) visible (kind-at f a none e proper))
-  | is-some n e ↦ c q a n b e
-]
 
 module _ (t : Table) (l : Tree) (a : Path) (visible : says exists (kind (shown t l) a) ≡ true) where
   pub itself-onto : ontoItself (shown t l) a a ≡ true

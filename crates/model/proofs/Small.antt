@@ -15,7 +15,7 @@ use Rattle.model.specs.Checks.{Check, pass, _then_, parentChecks, writeA
 use Rattle.model.specs.Checks.{unlinkAt, unlinkChecks, notRoot, visibleChild, noVisibleChild, directoryAt, rmdirEntry, rmdirChecks}
 use Rattle.model.proofs.Orders.{split, Split, and-true, bot, yea, nay, test, is-none, is-some, opt, mem, mem-ancestors, below-trans}
 use Rattle.model.proofs.Maps.{orElse, lookup-puts, lookup-each}
-use Rattle.model.proofs.Invariant.{entry-at, at-none, at-own, at-reference, at-directory, at-deleted, Closed, Inv, kind-at, kind-entry, then-pass, parents-dirs, parents-pass, inv-put, inv-over}
+use Rattle.model.proofs.Invariant.{entry-at, at-none, at-own, at-reference, at-directory, at-deleted, Closed, closed-above, Inv, kind-at, kind-entry, then-pass, parents-dirs, parents-pass, inv-put, inv-over}
 use Rattle.model.proofs.Rules.{child-below, child-root, way}
 
 pub unlink-regular : (n : ℕ) (k : Kind) → unlinkAt n k ≡ pass → k ≡ aFile
@@ -272,17 +272,13 @@ module _ (t : Table) (l : Tree) (i : Inv t l) (p : Path) where
         empty = childless-empty t l p 0 (i .closed) (b .1);
       }
 
-  -- what is a aDirectory stands in directories
-  pub above-dirs : (p ≡ [] → ⊥) → kind (shown t l) p ≡ aDirectory → (q : Path) → below q p ≡ true → kind (shown t l) q ≡ aDirectory
-  above-dirs r k q b = elim (opt (shown t l p)) [ is-none e ↦ cc (kind-at (shown t l) p none e r) | is-some n e ↦ i .closed q p n b e ]
-
   pub ok-rmdir : RmdirOk (shown t l) p → rmdirChecks t l p ≡ pass
   ok-rmdir o =
       let k = o .isDir in
       let c = empty-childless t l p 0 (o .empty) in
       let r : notRoot 0 p ≡ pass = proper p (o .proper) in
       elim (entry-at (lookup t p)) [
-        | at-none e ↦ cc (parents-pass 0 (length p) (kind (shown t l)) p (above-dirs (o .proper) k))
+        | at-none e ↦ cc (parents-pass 0 (length p) (kind (shown t l)) p (closed-above (shown t l) (i .closed) p (not-both (kind (shown t l) p) k)))
         | at-own m d e ↦ cc (kind-entry t l i p (own m d) e)
         | at-reference m s q e ↦ cc (kind-entry t l i p (reference m s q) e)
         | at-directory m e ↦ cc

@@ -23,9 +23,9 @@ use Rattle.model.specs.Runs.{State, entriesOf, Built}
 use Rattle.model.proofs.Orders.{and-true}
 use Rattle.model.proofs.Words.{IsBytes}
 use Rattle.model.proofs.Codec.{decoded}
-use Rattle.model.proofs.Invariant.{then-pass, then-both, unless-pass}
+use Rattle.model.proofs.Invariant.{closed-above, then-pass, then-both, unless-pass}
 use Rattle.model.proofs.Passed.{RenamePassed, rename-passed}
-use Rattle.model.proofs.Itself.{visible-above, itself-onto, itself-checks}
+use Rattle.model.proofs.Itself.{exists-there, itself-onto, itself-checks}
 use Rattle.model.proofs.Reached.{has-passed}
 use Rattle.model.proofs.Built.{built-reached}
 
@@ -104,4 +104,5 @@ module _ (listing : Bytes) (bytes : IsBytes listing) (E : ℕ) (x : State) (buil
       → outcome listing (q listing limit work (x .store) a) (x .store) ≡ nothingDone (q listing limit work (x .store) a) (x .store)
   built-itself h g p r v =
       itself-accepted listing limit work (x .store) a h g p r
-      (visible-above (shown (entriesOf (x .store)) (treeIn listing)) (built-reached listing E bytes x built .sound g .inv .closed) a r v) v
+      (closed-above (shown (entriesOf (x .store)) (treeIn listing)) (built-reached listing E bytes x built .sound g .inv .closed) a
+      (exists-there (kind (shown (entriesOf (x .store)) (treeIn listing)) a) v)) v
