@@ -328,6 +328,12 @@ module _ (t : Table) (l : Tree) where
       pub walk-met : (y : Stop) (v : ℕ) → Ascending l → walkFrom t l b a ≡ stopped y v → Met t l a
       walk-met y v c h = met-below y v c (depth l) a (2 * length a + 1) h
 
+-- the sum that a walk has come to; none is known of one that ended above its budget
+abbrev pub sumOf : Walk → ℕ
+sumOf (sum s) = s
+sumOf overBudget = 0
+sumOf (stopped x s) = s
+
 -- (C) a walk with the budget B beside the one without, both from f on
 data Beside (B f : ℕ) : Walk → Walk → Type 0 where
   both : (s : ℕ) → f ≤ s → (s ≤ B) ⊎ (s ≡ f) → Beside B f (sum s) (sum s)
@@ -397,12 +403,11 @@ module _ (B f : ℕ) where
   beside-stopped _ _ y n (both-stopped x s h g) e = e
   beside-stopped _ _ y n (over-stopped x s h g) e = absurd (bot (cc))
 
-  beside-within : (v w : Walk) (n : ℕ) → Beside B f v w → v ≡ sum n → (n ≤ B) ⊎ (n ≡ f)
-  beside-within _ _ n (both s h (inl g)) e = let u : s ≡ n = cc in inl (omega arith)
-  beside-within _ _ n (both s h (inr g)) e = let u : s ≡ n = cc in inr (sym u ∙ g)
-  beside-within _ _ n (over s h g) e = absurd (bot (cc))
-  beside-within _ _ n (both-stopped x s h g) e = absurd (bot (cc))
-  beside-within _ _ n (over-stopped x s h g) e = absurd (bot (cc))
+  beside-within : (v w : Walk) → Beside B f v w → (sumOf v ≤ B) ⊎ (sumOf v ≡ f)
+  beside-within _ _ (both s h g) = g
+  beside-within _ _ (over s h g) = inl (omega arith)
+  beside-within _ _ (both-stopped x s h g) = g
+  beside-within _ _ (over-stopped x s h g) = inl (omega arith)
 
 module _ (t : Table) (l : Tree) (a : Path) where
   beside : (B : ℕ) → Beside B (2 * length a + 1) (walkFrom t l (some B) a) (walkFrom t l none a)
@@ -427,6 +432,6 @@ module _ (t : Table) (l : Tree) (a : Path) where
   pub walk-stopped : (B : ℕ) (y : Stop) (n : ℕ) → walkFrom t l (some B) a ≡ stopped y n → walkFrom t l none a ≡ stopped y n
   walk-stopped B y n h = beside-stopped B (2 * length a + 1) (walkFrom t l (some B) a) (walkFrom t l none a) y n (beside B) h
 
-  -- the start alone may be above the budget
-  pub walk-within : (B n : ℕ) → walkFrom t l (some B) a ≡ sum n → (n ≤ B) ⊎ (n ≡ 2 * length a + 1)
-  walk-within B n h = beside-within B (2 * length a + 1) (walkFrom t l (some B) a) (walkFrom t l none a) n (beside B) h
+  -- it comes to a sum within the budget, but that the start alone may be above it
+  pub walk-within : (B : ℕ) → (sumOf (walkFrom t l (some B) a) ≤ B) ⊎ (sumOf (walkFrom t l (some B) a) ≡ 2 * length a + 1)
+  walk-within B = beside-within B (2 * length a + 1) (walkFrom t l (some B) a) (walkFrom t l none a) (beside B)
