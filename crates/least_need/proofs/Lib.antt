@@ -1,1 +1,4 @@
+pub mod Others
 pub mod Needs
+pub mod Buffers
+pub mod Leasts

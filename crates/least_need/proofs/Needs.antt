@@ -20,7 +20,9 @@ use Rattle.model.specs.Content.{isOwn, appended, appendChecks, appendMemory, in
 use Rattle.model.specs.Calls.{Call, write, append, writeInside, mkdir, unlink, rmdir, rename, changed, rules}
 use Rattle.model.proofs.Orders.{bot, yea, nay, test}
 use Rattle.model.proofs.Walks.{sumOf, walk-over, walk-sum, walk-stopped, walk-within}
+use Rattle.check_judged.proofs.Thens.{then-assoc}
 use Rattle.least_need.specs.Need.{behind, walkNeed, directoryNeed, moveNeed, need, keyChecks, otherRules}
+use Rattle.least_need.proofs.Others.{overLimit, other-rules}
 
 module _ (L : ℕ) where
   -- 11 unless n is within the limit
@@ -36,10 +38,6 @@ module _ (L : ℕ) where
 
   within-last : (n : ℕ) → within n ≡ (within n then pass)
   within-last n = then-end (within n)
-
-  then-assoc : (x y z : Check) → ((x then y) then z) ≡ (x then (y then z))
-  then-assoc pass y z = refl
-  then-assoc (refuse k w j) y z = refl
 
   -- two sums behind each other: the larger decides
   within-both : (m n : ℕ) (z : Check) → (within m then (within n then z)) ≡ (within (max m n) then z)
@@ -224,3 +222,23 @@ module _ (L : ℕ) where
   rules-need E t l (unlink p) = charge-needs (unlinkChecks t l p) (charge E (changed t l (unlink p)))
   rules-need E t l (rmdir p) = charge-needs (rmdirChecks t l p) (charge E (changed t l (rmdir p)))
   rules-need E t l (rename a b) = rename-needs E t l a b
+
+  -- (B) so 11 is given exactly where the limit is below the need
+  pub need-least : (E : ℕ) (t : Table) (l : Tree) (c : Call)
+      → (rules (limited E L) t l c ≡ refuse 11 0 0 → L < need E t l c) × (L < need E t l c → rules (limited E L) t l c ≡ refuse 11 0 0)
+  need-least E t l c = (above, below)
+    where
+      below : L < need E t l c → rules (limited E L) t l c ≡ refuse 11 0 0
+      below h = rules-need E t l c ∙ rw (lt-leb (need E t l c) L h) refl
+
+      above : rules (limited E L) t l c ≡ refuse 11 0 0 → L < need E t l c
+      above h = elim (test (leb (need E t l c) L)) [
+        | nay e ↦ leb-false (need E t l c) L e
+        | yea e ↦
+            let r : rules (limited E L) t l c ≡ otherRules t l c = rules-need E t l c ∙ rw e refl in
+            absurd (bot (cc (other-rules t l c, ap overLimit (sym r ∙ h))))
+      ]
+
+  -- (C) and any two limits that are not below it give the same
+  pub need-enough : (E : ℕ) (t : Table) (l : Tree) (c : Call) → need E t l c ≤ L → rules (limited E L) t l c ≡ otherRules t l c
+  need-enough E t l c h = rules-need E t l c ∙ rw (le-leb (need E t l c) L h) refl

@@ -2,11 +2,14 @@
 -- A number is the least with which the call is accepted if it is accepted with it and refused with every smaller one;
 -- no formula stands here. proofs/Leasts.antt shows what the numbers are.
 use mathlib.Core.Path.{_≡_}
+use mathlib.Core.Option.{Option, none, some}
 use Prim.Native.Nat.{ℕ, _<_}
 use lib.ListN.{take, replicate}
 use Rattle.model.specs.Bytes.{Bytes}
-use Rattle.model.specs.Table.{padded}
-use Rattle.model.specs.Calls.{Call, valueOf}
+use Rattle.model.specs.Listing.{isListing}
+use Rattle.model.specs.Table.{padded, isTable}
+use Rattle.model.specs.Checks.{Check, _then_, unless}
+use Rattle.model.specs.Calls.{Call, forms, valueOf}
 use Rattle.model.specs.Answer.{accepted}
 use Rattle.model.specs.Outcome.{Store, outcome}
 
@@ -31,3 +34,13 @@ WithLength listing s c n = Accepts listing s c 0xFFFF_FFFF_FFFF_FFFF n
 pub record Least (P : ℕ → Type 0) (n : ℕ) : Type 0 where
   pub holds : P n
   pub least : (m : ℕ) → m < n → P m → ⊥
+
+-- "Report the smallest limit …, and the smallest table length …, or none where no such number exists": the limit before
+-- the length, and never one without the other
+abbrev pub Reported : Bytes → Store → Call → Option (ℕ × ℕ) → Type 0
+Reported listing s c (some x) = Least (WithLimit listing s c) (x .0) × Least (WithLength listing s c) (x .1)
+Reported listing s c none = (limit n : ℕ) → Accepts listing s c limit n → ⊥
+
+-- "1, 2 and 3 refuse", in the order of the call itself; there is no work buffer
+abbrev pub reportChecks : Bytes → Store → Call → Check
+reportChecks listing s c = unless 1 (isTable (s .table) (s .rec)) then unless 2 (isListing listing) then forms c
