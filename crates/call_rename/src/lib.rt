@@ -24,7 +24,7 @@ use model::Record;
 use rename_settle::Settled;
 
 // 3, source before destination.
-fn check_forms(source: &[u8], destination: &[u8]) -> Judged
+pub fn check_forms(source: &[u8], destination: &[u8]) -> Judged
     ensures { λ r. ⌜ checkOf r ≡ calls.forms (calls.rename (now (source .entry)) (now (destination .entry))) ⌝ }
 {
     let from = check_lent::check_path(source, 0);

@@ -23,7 +23,7 @@ use Rattle.model.proofs.Words.{IsBytes}
 use Rattle.model.proofs.Invariant.{then-pass, then-both, unless-pass}
 use Rattle.model.proofs.Reached.{has-passed}
 use Rattle.least_need.specs.Need.{need, otherRules}
-use Rattle.least_need.specs.Least.{inBuffer, Accepts, WithLimit, WithLength, Least, Reported}
+use Rattle.least_need.specs.Least.{inBuffer, Accepts, WithLimit, WithLength, Least, IsReport}
 use Rattle.least_need.proofs.Needs.{rules-need, need-enough}
 use Rattle.least_need.proofs.Buffers.{buffer-length, buffer-entries, buffer-table, buffer-fits, used-within}
 
@@ -139,11 +139,11 @@ module _ (listing : Bytes) (s : Store) (c : Call) where
             least = λ m k a. let e = is-enough 0xFFFF_FFFF_FFFF_FFFF m a in omega (arith, e .before, e .after);
           }
 
-      pub report-both : need E t l c ≤ 0xFFFF_FFFF_FFFF_FFFF → Reported listing s c (some (need E t l c, max (s .rec .used) (length (encode (changed t l c)))))
+      pub report-both : need E t l c ≤ 0xFFFF_FFFF_FFFF_FFFF → IsReport listing s c (some (need E t l c, max (s .rec .used) (length (encode (changed t l c)))))
       report-both h = (least-limit, least-length h)
 
     -- (G) where they do not, nothing lets it through
-    pub report-none : (otherRules t l c ≡ pass → length (encode (changed t l c)) ≤ 16777216 → ⊥) → Reported listing s c none
+    pub report-none : (otherRules t l c ≡ pass → length (encode (changed t l c)) ≤ 16777216 → ⊥) → IsReport listing s c none
     report-none h limit n a = let e = is-enough limit n a in h (e .passes) (omega (arith, e .after, e .most))
 
     -- (H) of the two numbers, as 64-bit limits have them, there is never one without the other
@@ -168,7 +168,7 @@ least-one P m n a b = elim (test (leb m n)) [
 ]
 
 -- (J) so a report is the only one
-pub report-one : (listing : Bytes) (s : Store) (c : Call) (x y : Option (ℕ × ℕ)) → Reported listing s c x → Reported listing s c y → x ≡ y
+pub report-one : (listing : Bytes) (s : Store) (c : Call) (x y : Option (ℕ × ℕ)) → IsReport listing s c x → IsReport listing s c y → x ≡ y
 report-one listing s c none none a b = refl
 report-one listing s c none (some y) a b = absurd (a (y .0) 16777216 (b .0 .holds))
 report-one listing s c (some x) none a b = absurd (b (x .0) 16777216 (a .0 .holds))

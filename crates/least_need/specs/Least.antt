@@ -37,9 +37,9 @@ pub record Least (P : ℕ → Type 0) (n : ℕ) : Type 0 where
 
 -- "Report the smallest limit …, and the smallest table length …, or none where no such number exists": the limit before
 -- the length, and never one without the other
-abbrev pub Reported : Bytes → Store → Call → Option (ℕ × ℕ) → Type 0
-Reported listing s c (some x) = Least (WithLimit listing s c) (x .0) × Least (WithLength listing s c) (x .1)
-Reported listing s c none = (limit n : ℕ) → Accepts listing s c limit n → ⊥
+abbrev pub IsReport : Bytes → Store → Call → Option (ℕ × ℕ) → Type 0
+IsReport listing s c (some x) = Least (WithLimit listing s c) (x .0) × Least (WithLength listing s c) (x .1)
+IsReport listing s c none = (limit n : ℕ) → Accepts listing s c limit n → ⊥
 
 -- "1, 2 and 3 refuse", in the order of the call itself; there is no work buffer
 abbrev pub reportChecks : Bytes → Store → Call → Check

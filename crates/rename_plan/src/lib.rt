@@ -5,6 +5,7 @@
 ghost use mathlib.Core.Path.{_≡_};
 ghost use mathlib.Core.Bool.{true};
 ghost use mathlib.Core.Option.{some};
+ghost use Prim.Native.Nat.{_≤_};
 ghost use lib.ListN.{length};
 ghost use Rattle.model.specs.Path.{isPath};
 ghost use Rattle.model.specs.Map.{lookup};
@@ -24,10 +25,11 @@ use model::Record;
 use model::Refusal;
 
 // The plan's sum over the entries below the source, which are one part of the table.
-fn planned_sum(table: &[u8], rec: Record, source: &[u8], destination: &[u8]) -> u64
+pub fn planned_sum(table: &[u8], rec: Record, source: &[u8], destination: &[u8]) -> u64
     requires { ⌜ isTable (now table) rec ≡ true ⌝ }
     requires { ⌜ (isPath (now source) ≡ true) × (isPath (now destination) ≡ true) ⌝ }
     ensures { λ r. ⌜ r ≡ planned (now (source .entry)) (now (destination .entry)) (tableIn (now (table .entry)) rec) ⌝ }
+    ensures { λ r. ⌜ r ≤ 0x1_0000_0000 ⌝ }
 {
     let part = table_below::below(table, rec, source);
     let from = part.from;
@@ -41,7 +43,7 @@ fn planned_sum(table: &[u8], rec: Record, source: &[u8], destination: &[u8]) -> 
 }
 
 // Whether the listing has a directory at a path. The root is one.
-fn is_listed_directory(listing: &[u8], path: &[u8]) -> bool
+pub fn is_listed_directory(listing: &[u8], path: &[u8]) -> bool
     requires { ⌜ isListing (now listing) ≡ true ⌝ }
     ensures { λ r. ⌜ r ≡ isDirectory (kind (lookup (treeIn (now (listing .entry)))) (now (path .entry))) ⌝ }
 {

@@ -14,6 +14,7 @@ ghost use Rattle.model.specs.Checks.{limited};
 ghost use Rattle.model.specs.Rename.{moved};
 ghost use Rattle.model.specs.Outcome.{Given, shownIn};
 ghost use Rattle.rename_checks.specs.Early.{EarlyPassed};
+ghost use Rattle.rename_measure.specs.Tallies.{Foretold};
 ghost use Rattle.rename_write.specs.Sequence.{topOf, top};
 ghost use Rattle.rename_settle.specs.Settled.{lastChecks, settledOf, settledCheck};
 ghost use Rattle.rename_settle.specs.declared.Settled.the-variants as settled;
@@ -86,6 +87,35 @@ fn settled_by(projected: Projected, limit: u64, room: u64) -> Settled
     Settled::Done(after)
 }
 
+// The charge and the record that the call leaves, without moving anything, once all checks before its plan passed.
+pub fn foretell<'a>(
+    listing: &'a [u8],
+    table: &'a [u8],
+    rec: Record,
+    source: &[u8],
+    destination: &[u8],
+    whole: bool,
+) -> Projected
+    requires { ⌜ Given (now listing) (now table) rec ⌝ }
+    requires { ⌜ (isPath (now source) ≡ true) × (isPath (now destination) ≡ true) ⌝ }
+    requires { ⌜ EarlyPassed (tableIn (now table) rec) (treeIn (now listing)) (now source) (now destination) ⌝ }
+    requires { ⌜ kind (shownIn (now listing) (now table) rec) (now source) ≡ cond whole aDirectory
+        aFile ⌝ }
+    ensures { λ r. ⌜ Foretold (rec .«entry_size») (tableIn (now (table .entry)) rec) (treeIn (now (listing .entry)))
+        (now (source .entry)) (now (destination .entry)) r ⌝ }
+{
+    let len = first_len(listing, table, rec, source);
+    rename_measure::projected_move(
+        listing,
+        table,
+        rec,
+        source,
+        destination,
+        whole,
+        len,
+    )
+}
+
 // What the call is refused with by 11, 12 and 13, or the record that it leaves, once all checks before these passed.
 pub fn last_checks<'a>(
     listing: &'a [u8],
@@ -108,15 +138,6 @@ pub fn last_checks<'a>(
         (moved (tableIn (now (table .entry)) rec) (treeIn (now (listing .entry))) (now (source .entry))
         (now (destination .entry)))) ⌝ }
 {
-    let len = first_len(listing, table, rec, source);
-    let projected = rename_measure::projected_move(
-        listing,
-        table,
-        rec,
-        source,
-        destination,
-        whole,
-        len,
-    );
+    let projected = foretell(listing, table, rec, source, destination, whole);
     settled_by(projected, limit, table.len() as u64)
 }

@@ -114,6 +114,7 @@ pub fn plan_sum(part: &[u8], count: u64, from: u64, to: u64) -> u64
     ensures { λ r. ⌜ ((a b : Path) → length a ≡ from → length b ≡ to
         → every (below a) (keys (entriesAt (now (part .entry)) count 0)) ≡ true
         → r ≡ planned a b (entriesAt (now (part .entry)) count 0)) ⌝ }
+    ensures { λ r. ⌜ r ≤ 0x1_0000_0000 ⌝ }
 {
     let mut at = 0;
     let mut left = count;

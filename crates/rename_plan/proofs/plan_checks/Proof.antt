@@ -57,7 +57,7 @@ returns-2 c =
     let t = tableIn (a .table .now) (a .rec) in
     let e = charge-is (a .table .now) (a .rec) (i .pre .0 .is-table) in
     over-sum (a .rec .«entry_size») (a .limit) t (a .source .now) (a .destination .now) (a .rec .charge) e
-    (p .planned-sum .result) (p .planned-sum .ensures) _ (sym (m .available-memory .ensures) ∙ f .free .given .1) _ _
+    (p .planned-sum .result) (p .planned-sum .ensures .0) _ (sym (m .available-memory .ensures) ∙ f .free .given .1) _ _
     (sym (k .shrink .ensures) ∙ c .enum-told2 .given .1)
 
 walk-checks-requires : tie.Need-walk-checks-requires
@@ -78,7 +78,7 @@ returns-3 c =
     let e = charge-is (a .table .now) (a .rec) (i .pre .0 .is-table) in
     let w = c .walk-checks in
     within (a .rec .«entry_size») (a .limit) t x (a .destination .now) (a .rec .charge) e
-    (p .planned-sum .result) (p .planned-sum .ensures) _ (sym (m .available-memory .ensures) ∙ f .free .given .1)
+    (p .planned-sum .result) (p .planned-sum .ensures .0) _ (sym (m .available-memory .ensures) ∙ f .free .given .1)
     (λ (b : Option ℕ). ifDirectory (kind (lookup l) x) (walked (length x) (walkFrom t l b x)))
     (checkOf (w .result)) _ (sym (k .shrink .ensures) ∙ r .rest .given .1) (w .ensures)
 

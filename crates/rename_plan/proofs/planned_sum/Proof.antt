@@ -28,9 +28,11 @@ plan-sum-requires c κs =
 returns : tie.Need-returns
 returns c =
     let a = c .before .before .before .before .before .before .args in
-    let s = c .plan-sum in
-    planned-part (a .source .now) (a .destination .now) (tableIn (a .table .now) (a .rec)) _ (s .result) (c .before .before .below .ensures .are)
-    (s .ensures (a .source .now) (a .destination .now) refl refl)
+    let s = c .plan-sum in (
+      planned-part (a .source .now) (a .destination .now) (tableIn (a .table .now) (a .rec)) _ (s .result) (c .before .before .below .ensures .are)
+          (s .ensures .0 (a .source .now) (a .destination .now) refl refl),
+      s .ensures .1,
+    )
 
 pub planned-sum-spec : {M : Type 1} → statement M
 planned-sum-spec =

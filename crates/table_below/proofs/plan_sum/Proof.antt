@@ -72,8 +72,10 @@ loop-again c =
 returns : tie.Need-returns Inv-loop μ-loop
 returns c =
     let l = c .before .loop in
-    let a = c .before .before .before .args in
-    sum-end (a .part .now) (a .from) (a .to) (a .count) (l .left) (l .at) (l .sum) (l .inv) (search needs)
+    let a = c .before .before .before .args in (
+      sum-end (a .part .now) (a .from) (a .to) (a .count) (l .left) (l .at) (l .sum) (l .inv) (search needs),
+      omega (arith, l .inv .few, l .inv .stand .within, l .inv .stand .small),
+    )
 
 pub plan-sum-spec : {M : Type 1} → statement M
 plan-sum-spec =
