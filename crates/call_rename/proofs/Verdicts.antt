@@ -12,7 +12,7 @@ use Rattle.model.specs.Map.{keys, rekey}
 use Rattle.model.specs.Tree.{Table, Tree, shown, Kind, isDirectory}
 use Rattle.model.specs.Listing.{treeIn}
 use Rattle.model.specs.Table.{encode, padded, charge, recordOf, tableIn}
-use Rattle.model.specs.Checks.{Check, pass, refuse, _then_, unless, form, Memory, limited, charged}
+use Rattle.model.specs.Checks.{Check, pass, refuse, _then_, unless, Memory, limited, charged}
 use Rattle.model.specs.Rename.{ifDirectory, carried, moved, keysFit, renamePaths, renameTypes, directoryMemory, renameMemory, ontoItself}
 use Rattle.model.specs.Calls.{rename, forms}
 use Rattle.model.specs.Answer.{toldRefusal}
@@ -20,9 +20,10 @@ use Rattle.model.specs.Outcome.{Given, Request, Outcome, tableAfter, room, verd
 use Rattle.model.specs.declared.Record.{Record}
 use Rattle.model.specs.declared.Refusal.{Refusal}
 use Rattle.model.specs.declared.Answer.the-variants.{Accepted, Refused}
-use Rattle.model.proofs.Invariant.{then-pass, unless-pass, form-is}
+use Rattle.model.proofs.Invariant.{then-pass, unless-pass}
 use Rattle.model.proofs.Passed.{elsewhere-two, types-passed}
 use Rattle.base_fields.proofs.Zeros.{zeroed-all}
+use Rattle.check_lent.proofs.Firsts.{both-paths}
 use Rattle.check_judged.specs.declared.Judged.{Judged}
 use Rattle.check_judged.specs.declared.Judged.the-variants as judge
 use Rattle.check_judged.specs.Judged.{asCheck, checkOf, refuses}
@@ -53,12 +54,6 @@ by-moves (refuse n w k) b c d e = refl
 by-moves pass (refuse n w k) c d e = refl
 by-moves pass pass (refuse n w k) d e = refl
 by-moves pass pass pass d e = refl
-
--- 3 passed: both are paths
-pub both-paths : (a b : Path) → forms (rename a b) ≡ pass → (isPath a ≡ true) × (isPath b ≡ true)
-both-paths a b h =
-    let e = then-pass (form 0 a) (form 1 b) h in
-    (form-is 0 a (e .0), form-is 1 b (e .1))
 
 -- 3 gave the check j, and y is whether that refuses
 pub forms-known : (a b : Path) (j : Check) (y : Bool) → j ≡ forms (rename a b) → y ≡ refuses j → y ≡ false → (isPath a ≡ true) × (isPath b ≡ true)

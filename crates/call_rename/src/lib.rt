@@ -23,17 +23,6 @@ use model::Answered;
 use model::Record;
 use rename_settle::Settled;
 
-// 3, source before destination.
-pub fn check_forms(source: &[u8], destination: &[u8]) -> Judged
-    ensures { λ r. ⌜ checkOf r ≡ calls.forms (calls.rename (now (source .entry)) (now (destination .entry))) ⌝ }
-{
-    let from = check_lent::check_path(source, 0);
-    if check_judged::is_refused(from) {
-        return from;
-    }
-    check_lent::check_path(destination, 1)
-}
-
 // The plan and the walk, where the source is a directory.
 fn plan_directory(
     listing: &[u8],
@@ -68,7 +57,7 @@ fn judge_paths(
         then renamePaths (tableIn (now (table .entry)) rec) (treeIn (now (listing .entry))) (now (source .entry))
         (now (destination .entry))) ⌝ }
 {
-    let forms = check_forms(source, destination);
+    let forms = check_lent::check_paths(source, destination);
     if check_judged::is_refused(forms) {
         return forms;
     }

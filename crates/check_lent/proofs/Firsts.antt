@@ -8,9 +8,10 @@ use Rattle.model.specs.Bytes.{Bytes}
 use Rattle.model.specs.Path.{Path, isPath}
 use Rattle.model.specs.Listing.{isListing}
 use Rattle.model.specs.Table.{isTable}
-use Rattle.model.specs.Checks.{Check, pass, refuse, _then_, unless}
+use Rattle.model.specs.Checks.{Check, pass, refuse, _then_, unless, form}
 use Rattle.model.specs.declared.Record.{Record}
 use Rattle.model.proofs.Orders.{bot}
+use Rattle.model.proofs.Invariant.{then-pass, form-is}
 use Rattle.check_judged.specs.declared.Judged.{Judged}
 use Rattle.check_judged.specs.Judged.{checkOf, refuses}
 
@@ -30,3 +31,9 @@ module _ (listing table : Bytes) (r : Record) (n : ℕ) (path : Path) (j : Judge
     (e : checkOf j ≡ firsts (isTable table r) (leb (length table) n) (isListing listing) (isPath path)) (i : b ≡ refuses (checkOf j)) where
   pub known : b ≡ false → (isTable table r ≡ true) × (leb (length table) n ≡ true) × (isListing listing ≡ true) × (isPath path ≡ true)
   known h = all-four (isTable table r) (leb (length table) n) (isListing listing) (isPath path) (ap refuses (sym e) ∙ sym i ∙ h)
+
+-- 3 passed of two paths: both are paths
+pub both-paths : (a b : Path) → (form 0 a then form 1 b) ≡ pass → (isPath a ≡ true) × (isPath b ≡ true)
+both-paths a b h =
+    let e = then-pass (form 0 a) (form 1 b) h in
+    (form-is 0 a (e .0), form-is 1 b (e .1))

@@ -39,6 +39,17 @@ pub fn check_path(path: &[u8], which: u64) -> Judged
     Judged::Refused(Refusal::MalformedPath(which))
 }
 
+// 3 for a call with two paths, source before destination.
+pub fn check_paths(source: &[u8], destination: &[u8]) -> Judged
+    ensures { λ r. ⌜ checkOf r ≡ (form 0 (now (source .entry)) then form 1 (now (destination .entry))) ⌝ }
+{
+    let from = check_path(source, 0);
+    if check_judged::is_refused(from) {
+        return from;
+    }
+    check_path(destination, 1)
+}
+
 // 1, 2 and 3 for a call with one path.
 pub fn ready(listing: &[u8], table: &[u8], rec: Record, room: usize, path: &[u8]) -> Judged
     ensures { λ r. ⌜ checkOf r ≡ (unless 1 (isTable (now (table .entry)) rec && leb (length (now (table .entry))) room)

@@ -1,1 +1,2 @@
+mod Needing
 mod Reporting

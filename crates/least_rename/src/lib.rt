@@ -91,6 +91,7 @@ fn plan_need(
         + cond (isDirectory (kind (lookup (treeIn (now (listing .entry)))) (now (source .entry))))
         (walkNeed (2 * length (now (source .entry)) + 1) (walkFrom (tableIn (now (table .entry)) rec)
         (treeIn (now (listing .entry))) none (now (source .entry)))) 0) r ⌝ }
+    ensures { λ r. ⌜ AtMost 0x2_0000_0000_0000 r ⌝ }
 {
     let walk = walk_need(listing, table, rec, source);
     match walk {
@@ -120,6 +121,7 @@ fn directory_need(
         (treeIn (now (listing .entry))) (now (source .entry)) (now (destination .entry)))
         (directoryNeed (rec .«entry_size») (tableIn (now (table .entry)) rec) (treeIn (now (listing .entry)))
         (now (source .entry)) (now (destination .entry))) r ⌝ }
+    ensures { λ r. ⌜ AtMost 0x2_0000_0000_0000 r ⌝ }
 {
     if whole {
         return plan_need(listing, table, rec, source, destination);
@@ -145,9 +147,9 @@ fn report_of(need: u64, projected: Projected, used: u64) -> Report
 }
 
 // A move to another path, once all checks before its plan passed.
-fn report_move(
-    listing: &[u8],
-    table: &[u8],
+fn report_move<'a>(
+    listing: &'a [u8],
+    table: &'a [u8],
     rec: Record,
     source: &[u8],
     destination: &[u8],
@@ -174,9 +176,9 @@ fn report_move(
 
 // Behind 1, 2 and 3: a path that is refused by itself or beside the other is refused with every limit, and a move onto
 // itself needs nothing.
-fn report_admitted(
-    listing: &[u8],
-    table: &[u8],
+fn report_admitted<'a>(
+    listing: &'a [u8],
+    table: &'a [u8],
     rec: Record,
     source: &[u8],
     destination: &[u8],
@@ -202,9 +204,9 @@ fn report_admitted(
 
 // The least limit with which the rename is accepted when table and work buffer have 16 MiB, and the least length of the
 // table buffer with which it is accepted at the largest limit and with a work buffer as long.
-pub fn report_rename(
-    listing: &[u8],
-    table: &[u8],
+pub fn report_rename<'a>(
+    listing: &'a [u8],
+    table: &'a [u8],
     rec: Record,
     source: &[u8],
     destination: &[u8],
@@ -218,7 +220,7 @@ pub fn report_rename(
             return Report::Refused(refusal);
         }
         Judged::Pass => {
-            let forms = call_rename::check_forms(source, destination);
+            let forms = check_lent::check_paths(source, destination);
             match forms {
                 Judged::Refused(refusal) => {
                     return Report::Refused(refusal);

@@ -10,8 +10,8 @@ use Rattle.call_rename.proofs.Verdicts.{forms-known}
 use Rattle.call_rename.proofs.judge_paths.Statement.{statement}
 use Rattle.call_rename.proofs.judge_paths.Tie as tie
 
-check-forms-requires : tie.Need-check-forms-requires
-check-forms-requires c κs = search needs
+check-paths-requires : tie.Need-check-paths-requires
+check-paths-requires c κs = search needs
 
 is-refused-requires : tie.Need-is-refused-requires
 is-refused-requires c κs = search needs
@@ -21,16 +21,16 @@ returns c =
     let a = c .before .before .before .before .before .before .before .args in
     let x = a .source .now in
     let y = a .destination .now in
-    let j = c .before .before .check-forms in
+    let j = c .before .before .check-paths in
     let r = c .before .is-refused in
     ends (forms (rename x y)) (checkOf (j .result)) (r .result) (j .ensures) (r .ensures)
     (renamePaths (tableIn (a .table .now) (a .rec)) (treeIn (a .listing .now)) x y) (c .if1 .taken)
 
-check-paths-requires : tie.Need-check-paths-requires
-check-paths-requires c κs =
+check-paths-requires-2 : tie.Need-check-paths-requires-2
+check-paths-requires-2 c κs =
     let o = c .before .before .before .before .before .before .before in
     let a = o .args in
-    let j = c .before .before .check-forms in
+    let j = c .before .before .check-paths in
     let r = c .before .is-refused in
     (o .pre, forms-known (a .source .now) (a .destination .now) (checkOf (j .result)) (r .result) (j .ensures) (r .ensures) (c .if1 .left))
 
@@ -39,13 +39,13 @@ returns-2 c =
     let a = c .before .before .before .before .before .before .before .before .args in
     let x = a .source .now in
     let y = a .destination .now in
-    let j = c .before .before .before .check-forms in
+    let j = c .before .before .before .check-paths in
     let r = c .before .before .is-refused in
-    let p = c .check-paths in
+    let p = c .check-paths2 in
     goes-on (forms (rename x y)) (checkOf (j .result)) (r .result) (j .ensures) (r .ensures)
     (renamePaths (tableIn (a .table .now) (a .rec)) (treeIn (a .listing .now)) x y) (checkOf (p .result)) (c .before .if1 .left) (p .ensures)
 
 pub judge-paths-spec : {M : Type 1} → statement M
 judge-paths-spec =
     tie.close
-    (tie.spec check-forms-requires is-refused-requires returns check-paths-requires returns-2)
+    (tie.spec check-paths-requires is-refused-requires returns check-paths-requires-2 returns-2)

@@ -1,10 +1,10 @@
--- `check_forms` meets its contract: 3 for the source, then for the destination.
+-- `check_paths` meets its contract: 3 for the source, then for the destination.
 use borrow.Author.Needs.{needs}
 use Rattle.model.specs.Checks.{form}
 use Rattle.check_judged.specs.Judged.{checkOf}
 use Rattle.check_judged.proofs.Thens.{ends, goes-on}
-use Rattle.call_rename.proofs.check_forms.Statement.{statement}
-use Rattle.call_rename.proofs.check_forms.Tie as tie
+use Rattle.check_lent.proofs.check_paths.Statement.{statement}
+use Rattle.check_lent.proofs.check_paths.Tie as tie
 
 check-path-requires : tie.Need-check-path-requires
 check-path-requires c κs = search needs
@@ -30,5 +30,5 @@ returns-2 c =
     let k = c .check-path2 in
     goes-on (form 0 (a .source .now)) (checkOf (j .result)) (r .result) (j .ensures) (r .ensures) (form 1 (a .destination .now)) (checkOf (k .result)) (c .before .if1 .left) (k .ensures)
 
-pub check-forms-spec : {M : Type 1} → statement M
-check-forms-spec = tie.close (tie.spec check-path-requires is-refused-requires returns check-path-requires-2 returns-2)
+pub check-paths-spec : {M : Type 1} → statement M
+check-paths-spec = tie.close (tie.spec check-path-requires is-refused-requires returns check-path-requires-2 returns-2)
