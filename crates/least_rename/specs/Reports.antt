@@ -11,7 +11,7 @@ use Rattle.model.specs.Tree.{Table, Tree}
 use Rattle.model.specs.Table.{encode}
 use Rattle.model.specs.Checks.{Check, pass}
 use Rattle.model.specs.Calls.{Call, rename, changed}
-use Rattle.model.specs.Answer.{toldRefusal}
+use Rattle.model.specs.Answer.{Reply, accepted, toldRefusal}
 use Rattle.model.specs.Outcome.{Store}
 use Rattle.check_judged.specs.Judged.{asCheck}
 use Rattle.rename_measure.specs.declared.Projected.{Projected}
@@ -27,6 +27,12 @@ abbrev pub Reports : Bytes → Store → Call → Report → Type 0
 Reports listing s c (Both m n) = (reportChecks listing s c ≡ pass) × IsReport listing s c (some (m, n))
 Reports listing s c Neither = (reportChecks listing s c ≡ pass) × IsReport listing s c none
 Reports listing s c (Refused x) = reportChecks listing s c ≡ asCheck (toldRefusal x)
+
+-- what is told of it: 1 where there are the two numbers, 0 where there are none
+abbrev pub toldReport : Report → Reply
+toldReport (Both m n) = accepted 1
+toldReport Neither = accepted 0
+toldReport (Refused x) = toldRefusal x
 
 -- a check that has no limit passes, and with one it would need n; or it does not pass
 abbrev pub NeededFor : Check → ℕ → Needed → Type 0

@@ -5,4 +5,5 @@ pub mod Handing
 pub mod Filling
 pub mod Keeping
 pub mod Showing
+pub mod Reporting
 pub mod Resuming

@@ -1,6 +1,7 @@
 -- What each exported call answers and leaves, for every input. A record that is not four numbers is answered with 1,
 -- and all is left as it was.
-use mathlib.Core.Bool.{Bool, cond, _&&_}
+use mathlib.Core.Path.{_≡_}
+use mathlib.Core.Bool.{Bool, true, false, cond, _&&_}
 use mathlib.Core.List.{List, []}
 use Prim.Native.Nat.{ℕ, _/_, _%_}
 use lib.Dec.{eqb}
@@ -8,15 +9,18 @@ use lib.ListN.{length}
 use Rattle.model.specs.Bytes.{Bytes}
 use Rattle.model.specs.Path.{Path}
 use Rattle.model.specs.Table.{recordOf}
-use Rattle.model.specs.Calls.{Query}
+use Rattle.model.specs.Calls.{Call, Query}
 use Rattle.model.specs.Answer.{Reply, accepted, refused}
 use Rattle.model.specs.Output.{Written}
 use Rattle.model.specs.Outcome.{Request, Outcome, outcome, ask, opened}
 use Rattle.call_answer.specs.Meets.{stored}
 use Rattle.run_calls.specs.Runs.{ranOn, ranNew, asNew}
 use Rattle.show_names.specs.Names.{showing}
+use Rattle.least_rename.specs.declared.Report.{Report}
+use Rattle.least_rename.specs.Reports.{Reports, toldReport}
 use Rattle.kept_file.specs.Kept.{written, readBack}
 use Rattle.overlay_packed.specs.Packed.{packed, numbers, recordIn, ranNumber, ranNumbers, contentNumbers, contentPlace}
+use Rattle.overlay_packed.specs.Packed.{reportNumbers}
 
 abbrev pub isFour : List ℕ → Bool
 isFour s = eqb (length s) 4
@@ -119,3 +123,10 @@ keptRead file t n p =
     cond (isFour n && isTwo p)
     (readLeft (packed (r .reply)) (contentNumbers (r .content) n) (contentPlace (r .content) p) (r .table))
     (readLeft (packed (refused 1 0 0)) n p t)
+
+-- what would let the call c through, on the table t with the record n, in the two numbers that were s: the answer and
+-- the numbers after it; two numbers that are not two are answered with 1 too
+pub data LeastLeft (listing t : Bytes) (n s : List ℕ) (c : Call) : (answer : ℕ) → (least : List ℕ) → Type 0 where
+  not-numbers : (isFour n && isTwo s) ≡ false → LeastLeft listing t n s c (packed (refused 1 0 0)) s
+  reported : (isFour n && isTwo s) ≡ true → (x : Report) → Reports listing (stored t (recordIn n)) c x
+      → LeastLeft listing t n s c (packed (toldReport x)) (reportNumbers x s)

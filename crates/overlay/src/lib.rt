@@ -1,5 +1,5 @@
-// The calls of document 01, the writer and the reader of kept files (#101), and showing a directory (#102), for
-// programs in C or Rust to link: numbers and byte slices in, the answer packed in one number out. Nothing is assumed of
+// The calls of document 01, the writer and the reader of kept files (#101), showing a directory (#102), and what would
+// let a rename through (#105), for programs in C or Rust to link: numbers and byte slices in, the answer packed in one number out. Nothing is assumed of
 // what is lent, but that no two of the buffers overlap: any bytes and any numbers can be given. A record that is not
 // four numbers is answered with 1, and is no table's. A refused call leaves every lent buffer, the record too, as it
 // was; what a script that is not run leaves stands at `overlay_run_new`. The cost is that of the call itself.
@@ -16,7 +16,7 @@ ghost use Rattle.run_calls.specs.Runs.{requests, Holds};
 ghost use Rattle.overlay_packed.specs.Packed.{packed, ifAccepted, numbers, recordIn};
 ghost use Rattle.overlay.specs.Exported.{isFour, left, called, asked, opening};
 ghost use Rattle.overlay.specs.Exported.{runLeft, scriptRun, newScriptRun};
-ghost use Rattle.overlay.specs.Exported.{writeLeft, keptWritten, childrenShown, readLeft, keptRead};
+ghost use Rattle.overlay.specs.Exported.{writeLeft, keptWritten, childrenShown, readLeft, keptRead, LeastLeft};
 use call_content::append_bytes;
 use call_content::write_file_at;
 use call_one_path::write_bytes;
@@ -27,6 +27,9 @@ const NUMBERS: usize = 4;
 
 // The numbers that tell where the listing stands in a kept file: its start and its length.
 const PLACE: usize = 2;
+
+// The numbers of a report: the least limit and the least length.
+const LEAST: usize = 2;
 
 // Makes the buffer an empty table for entries of this size.
 #[no_mangle]
@@ -358,6 +361,31 @@ pub extern "C" fn overlay_show<'a>(
     }
     let answer = show_dir::show(listing, table, overlay_packed::record_in(rec), path, output);
     overlay_packed::pack_answer(answer)
+}
+
+// Reports what would let a rename through: the least limit and the least length of the table, in two numbers. Two
+// numbers that are not two are answered with 1 too.
+#[no_mangle]
+pub extern "C" fn overlay_least_rename<'a>(
+    listing: &'a [u8],
+    table: &'a [u8],
+    rec: &[u64],
+    source: &[u8],
+    destination: &[u8],
+    least: &mut [u64],
+) -> u64
+    ensures { λ r. ⌜ LeastLeft (now (listing .entry)) (now (table .entry)) (now (rec .entry)) (now (least .entry))
+        (calls.rename (now (source .entry)) (now (destination .entry))) r (now (least .exit)) ⌝ }
+{
+    if rec.len() != NUMBERS {
+        return overlay_packed::MALFORMED_TABLE;
+    }
+    if least.len() != LEAST {
+        return overlay_packed::MALFORMED_TABLE;
+    }
+    let before = overlay_packed::record_in(rec);
+    let report = least_rename::report_rename(listing, table, before, source, destination);
+    overlay_packed::store_and_pack_report(least, report)
 }
 
 // Writes the kept file of the listing and the table, and zeros behind it.

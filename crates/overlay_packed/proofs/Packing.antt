@@ -1,4 +1,4 @@
--- What is packed of a reply, and when its parts fit; the record stored where a call is accepted; a run, a writing and a reading by their cases.
+-- What is packed of a reply, and when its parts fit; the record stored where a call is accepted; a run, a writing, a reading and a report by their cases.
 use mathlib.Core.Path.{_≡_, refl, ap, sym, _∙_, subst}
 use mathlib.Core.Bool.{Bool, true, false}
 use mathlib.Core.List.{List, [], _∷_}
@@ -16,11 +16,14 @@ use Rattle.call_answer.proofs.Settles.{told-as}
 use Rattle.call_values.specs.declared.Row.{Row}
 use Rattle.call_values.specs.Values.{rowOf}
 use Rattle.run_calls.specs.declared.RanNew.{RanNew}
+use Rattle.least_rename.specs.declared.Report.{Report}
+use Rattle.least_rename.specs.declared.Report.the-variants as report
+use Rattle.least_rename.specs.Reports.{toldReport}
 use Rattle.kept_file.specs.Kept.{toldWriting, toldReading, toldContent}
 use Rattle.kept_file.specs.declared.Writing.{Writing}
 use Rattle.kept_file.specs.declared.Writing.the-variants as writing
 use Rattle.kept_file.specs.declared.Reading.{Reading}
-use Rattle.overlay_packed.specs.Packed.{packed, Fits, ifAccepted, ranNumber, ranNumbers, contentNumbers, contentPlace}
+use Rattle.overlay_packed.specs.Packed.{packed, Fits, ifAccepted, ranNumber, ranNumbers, contentNumbers, contentPlace, reportNumbers}
 
 -- a reply's row fits where the reply does, and is packed as the reply is
 pub row-fits : (a : Reply) (w : Row) → w ≡ rowOf a → Fits a → Fits (refused (w .number) (w .path) (w .len))
@@ -88,3 +91,15 @@ read-stored a b e m p x y f g = (
   sym (ap (λ (r : Reading). packed (toldReading r)) e),
   (f ∙ sym (ap (λ (r : Reading). contentNumbers (toldContent r) m) e), g ∙ sym (ap (λ (r : Reading). contentPlace (toldContent r) p) e)),
 )
+
+-- a report that is the case b, where the two numbers are now y
+pub report-stored : (a b : Report) → a ≡ b → (s y : List ℕ) → y ≡ reportNumbers b s → (packed (toldReport b) ≡ packed (toldReport a)) × (y ≡ reportNumbers a s)
+report-stored a b e s y f = (sym (ap (λ (x : Report). packed (toldReport x)) e), f ∙ sym (ap (λ (x : Report). reportNumbers x s) e))
+
+-- a report that is refused
+module _ (f : Report) (r : Refusal) (e : f ≡ report.Refused r) (w : Row) (g : w ≡ rowOf (toldRefusal r)) where
+  pub report-fits : Fits (toldReport f) → Fits (refused (w .number) (w .path) (w .len))
+  report-fits h = row-fits (toldRefusal r) w g (subst (λ (x : Report). Fits (toldReport x)) e h)
+
+  pub report-packed : packed (refused (w .number) (w .path) (w .len)) ≡ packed (toldReport f)
+  report-packed = row-packed (toldRefusal r) w g ∙ sym (ap (λ (x : Report). packed (toldReport x)) e)

@@ -1,10 +1,12 @@
--- An answer in one number, a record as four numbers, and where a listing stands in a kept file as two.
+-- An answer in one number, a record as four numbers, where a listing stands in a kept file as two, and a report as two.
 use mathlib.Core.List.{List, [], _∷_}
 use mathlib.Core.Option.{Option, none, some}
 use Prim.Native.Nat.{ℕ, _+_, _*_, _<_}
 use lib.ListN.{getD}
 use Rattle.model.specs.Answer.{Reply, accepted, refused}
 use Rattle.model.specs.declared.Record.{Record}
+use Rattle.least_rename.specs.declared.Report.{Report}
+use Rattle.least_rename.specs.declared.Report.the-variants as report
 use Rattle.kept_file.specs.declared.Content.{Content}
 use Rattle.run_calls.specs.declared.RanNew.{RanNew}
 use Rattle.run_calls.specs.declared.RanNew.the-variants as new
@@ -61,3 +63,10 @@ contentNumbers (some c) s = numbers (c .«record»)
 abbrev pub contentPlace : Option Content → List ℕ → List ℕ
 contentPlace none s = s
 contentPlace (some c) s = placeOf c
+
+-- the two numbers after a report: the least limit and the least length, 0 and 0 where there are none; s, what they were,
+-- where it is refused
+abbrev pub reportNumbers : Report → List ℕ → List ℕ
+reportNumbers (report.Both m n) s = m ∷ n ∷ []
+reportNumbers report.Neither s = 0 ∷ 0 ∷ []
+reportNumbers (report.Refused x) s = s

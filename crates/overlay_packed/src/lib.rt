@@ -1,16 +1,20 @@
-// An answer packed in one number, a record in four lent numbers, and where a listing stands in two, for the exported
-// calls. Assumes four numbers and two, and an answer whose parts fit: only this repository's crates call.
+// An answer packed in one number, a record in four lent numbers, where a listing stands in two, and a report in two,
+// for the exported calls. Assumes four numbers and two, and an answer whose parts fit: only this repository's crates
+// call.
 ghost use mathlib.Core.Path.{_≡_};
 ghost use mathlib.Core.Bool.{true, false};
+ghost use mathlib.Core.List.{[], _∷_};
 ghost use lib.ListN.{length};
 ghost use Rattle.model.specs.Answer.{refused, told, toldFinding};
+ghost use Rattle.least_rename.specs.Reports.{toldReport};
 ghost use Rattle.kept_file.specs.Kept.{toldWriting, toldReading, toldContent};
 ghost use Rattle.overlay_packed.specs.Packed.{packed, Fits, ifAccepted, numbers, recordIn};
-ghost use Rattle.overlay_packed.specs.Packed.{ranNumber, ranNumbers, placeOf, contentNumbers, contentPlace};
+ghost use Rattle.overlay_packed.specs.Packed.{ranNumber, ranNumbers, placeOf, contentNumbers, contentPlace, reportNumbers};
 use call_values::Row;
 use kept_file::Content;
 use kept_file::Reading;
 use kept_file::Writing;
+use least_rename::Report;
 use model::Answer;
 use model::Answered;
 use model::Finding;
@@ -159,6 +163,15 @@ pub fn pack_writing(writing: Writing) -> u64
     }
 }
 
+// Two numbers stored.
+fn store_two(pair: &mut [u64], first: u64, second: u64)
+    requires { ⌜ length (now pair) ≡ 2 ⌝ }
+    ensures { λ _. ⌜ now (pair .exit) ≡ first ∷ second ∷ [] ⌝ }
+{
+    pair[0] = first;
+    pair[1] = second;
+}
+
 // What a file holds, in four numbers and two.
 fn store_content(rec: &mut [u64], place: &mut [u64], content: Content)
     requires { ⌜ (length (now rec) ≡ 4) × (length (now place) ≡ 2) ⌝ }
@@ -166,8 +179,11 @@ fn store_content(rec: &mut [u64], place: &mut [u64], content: Content)
     ensures { λ _. ⌜ now (place .exit) ≡ placeOf content ⌝ }
 {
     store(rec, content.record);
-    place[0] = content.listing_start as u64;
-    place[1] = content.listing_len as u64;
+    store_two(
+        place,
+        content.listing_start as u64,
+        content.listing_len as u64,
+    );
 }
 
 // A reading's answer in one number. The record and the listing's place are stored where the reading is accepted, and
@@ -187,5 +203,26 @@ pub fn store_and_pack_reading(rec: &mut [u64], place: &mut [u64], reading: Readi
         Reading::NotKept => return NOT_KEPT,
         Reading::Damaged => return DAMAGED,
         Reading::NoRoom => return NO_ROOM,
+    }
+}
+
+// A report in one number. The least limit and the least length are stored where there are any, else 0 and 0; nothing
+// is stored where it is refused.
+pub fn store_and_pack_report(least: &mut [u64], report: Report) -> u64
+    requires { ⌜ length (now least) ≡ 2 ⌝ }
+    requires { ⌜ Fits (toldReport report) ⌝ }
+    ensures { λ r. ⌜ r ≡ packed (toldReport report) ⌝ }
+    ensures { λ _. ⌜ now (least .exit) ≡ reportNumbers report (now (least .entry)) ⌝ }
+{
+    match report {
+        Report::Both(limit, len) => {
+            store_two(least, limit, len);
+            return VALUE_UNIT;
+        }
+        Report::Neither => {
+            store_two(least, 0, 0);
+            return 0;
+        }
+        Report::Refused(refusal) => return pack(call_values::told_refusal(refusal)),
     }
 }
