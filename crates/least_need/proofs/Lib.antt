@@ -1,3 +1,4 @@
+pub mod Cases
 pub mod Others
 pub mod Needs
 pub mod Buffers
