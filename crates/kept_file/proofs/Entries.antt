@@ -8,7 +8,7 @@ use Prim.Native.Nat.{ℕ, zero, suc, _+_, _-_, _<_, _≤_}
 use native.Mathlib.Omega.{arith}
 use lib.Dec.{leb, eqb}
 use lib.ListN.{length, length-append}
-use borrow.Author.Tests.{leb-true, le-leb, lt-leb}
+use borrow.Author.Tests.{le-leb, lt-leb}
 use Rattle.model.specs.Bytes.{Bytes, every}
 use Rattle.model.specs.Path.{isPath}
 use Rattle.model.specs.Map.{ascends}
@@ -108,10 +108,9 @@ are-entries E s h =
     let u : length (encode t) ≡ length s = eqb-eq (r .used) (length s) (x .1) in
     let d = decoded s r (x .0) in
     let e : tableIn s r ≡ t = counted s (length s) 0 in
-    let z = and-true (leb E 4096) (leb (length s) 16777216) (d .size) in
     record {
       table = x .0;
       entries = e;
       bytes = d .bytes ∙ ap (λ (y : Table). padded (length s) (encode y)) e ∙ padded-full (length s) (encode t) u;
-      short = leb-true (length s) 16777216 (z .1);
+      short = d .length-most;
     }

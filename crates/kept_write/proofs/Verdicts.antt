@@ -16,7 +16,6 @@ use Rattle.model.specs.Checks.{Check, pass, _then_, unless}
 use Rattle.model.specs.Answer.{Reply, accepted, refused}
 use Rattle.model.specs.Output.{writtenBy}
 use Rattle.model.specs.declared.Record.{Record}
-use Rattle.model.proofs.Orders.{and-true}
 use Rattle.model.proofs.Codec.{decoded}
 use Rattle.model.proofs.Outputs.{writing-accepted, writing-refused}
 use Rattle.model.proofs.Listings.{checked}
@@ -32,8 +31,7 @@ use Rattle.kept_write.proofs.Files.{used-is, used-bytes, used-within}
 pub small : (l s : Bytes) (r : Record) → isTable s r ≡ true → isListing l ≡ true → length l + r .used ≤ 33554432
 small l s r t i =
     let a = checked l i .small in
-    let z = and-true (leb (r .«entry_size») 4096) (leb (length s) 16777216) (decoded s r t .size) in
-    let b = leb-true (length s) 16777216 (z .1) in
+    let b = decoded s r t .length-most in
     let c = used-within s r t in
     omega arith
 

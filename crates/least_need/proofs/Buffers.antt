@@ -1,19 +1,16 @@
 -- A table in a buffer of another length: it is a table exactly if its bytes fit and the buffer has at most 16 MiB, and
 -- then it has the same entries. Assumes a table in form, of bytes.
-use mathlib.Core.Path.{_≡_, refl, ap, sym, _∙_, subst}
-use mathlib.Core.Bool.{true, _&&_}
-use mathlib.Core.List.{[], _∷_, _++_, append-assoc}
+use mathlib.Core.Path.{_≡_, refl, ap, _∙_}
+use mathlib.Core.Bool.{true}
+use mathlib.Core.List.{_∷_, _++_, append-assoc}
 use Prim.Native.Nat.{ℕ, zero, suc, _+_, _-_, _≤_}
 use native.Mathlib.Omega.{arith}
-use lib.Dec.{leb}
 use lib.ListN.{length, take, replicate, length-append, length-replicate, replicate-append-replicate}
 use lib.Seq.{length-take-le, take-append-add}
-use borrow.Author.Tests.{leb-true}
 use Rattle.model.specs.Bytes.{Bytes}
 use Rattle.model.specs.Table.{encode, padded, isTable, tableIn}
 use Rattle.model.specs.declared.Record.{Record}
 use Rattle.model.specs.Outcome.{Store}
-use Rattle.model.proofs.Orders.{and-true}
 use Rattle.model.proofs.Words.{IsBytes}
 use Rattle.model.proofs.Codec.{padded-length, decoded, moved-table}
 use Rattle.model.proofs.Resumed.{words-read}
@@ -50,11 +47,10 @@ module _ (s : Store) (is : isTable (s .table) (s .rec) ≡ true) where
   pub used-is : s .rec .used ≡ length (encode (tableIn (s .table) (s .rec)))
   used-is = ap (λ (r : Record). r .used) (decoded (s .table) (s .rec) is .rec)
 
-  pub used-within : s .rec .used ≤ 16777216
-  used-within =
+  pub used-most : s .rec .used ≤ 16777216
+  used-most =
       let d = decoded (s .table) (s .rec) is in
-      let z = leb-true (length (s .table)) 16777216 (and-true (leb (s .rec .«entry_size») 4096) (leb (length (s .table)) 16777216) (d .size) .1) in
-      omega (arith, used-is, d .fits)
+      omega (arith, used-is, d .fits, d .length-most)
 
   -- in a buffer that they fit
   module _ (bytes : IsBytes (s .table)) (n : ℕ) (fits : s .rec .used ≤ n) (most : n ≤ 16777216) where
@@ -81,5 +77,4 @@ module _ (s : Store) (is : isTable (s .table) (s .rec) ≡ true) where
       let d = decoded (inBuffer n s .table) (s .rec) h in
       let l = buffer-length n (s .table) in
       let u : s .rec .used ≡ length (encode (tableIn (inBuffer n s .table) (s .rec))) = ap (λ (r : Record). r .used) (d .rec) in
-      let z = leb-true (length (inBuffer n s .table)) 16777216 (and-true (leb (s .rec .«entry_size») 4096) (leb (length (inBuffer n s .table)) 16777216) (d .size) .1) in
-      (omega (arith, d .fits), omega arith)
+      (omega (arith, d .fits), omega (arith, d .length-most))

@@ -5,17 +5,15 @@ use mathlib.Core.Path.{_≡_, refl}
 use mathlib.Core.Bool.{Bool, true, false, cond}
 use mathlib.Core.Option.{Option, none, some}
 use Prim.Native.Nat.{ℕ, max}
-use Prim.Native.String.{String}
 use lib.Dec.{leb}
 use lib.ListN.{length, replicate}
-use Rattle.model.specs.Bytes.{Bytes}
 use Rattle.model.specs.Path.{Path}
 use Rattle.model.specs.Tree.{dir, own, reference, directory, deleted, Table, Tree}
 use Rattle.model.specs.Table.{encode}
 use Rattle.model.specs.Checks.{Check, pass, refuse}
 use Rattle.model.specs.Calls.{Call, write, append, writeInside, mkdir, unlink, rmdir, rename, changed}
 use Rattle.model.proofs.Case.{path, dirAt, fileAt, linkAt}
-use Rattle.model.proofs.Cases.{one, two, L, there}
+use Rattle.model.proofs.Cases.{two, L, there}
 use Rattle.least_need.specs.Need.{need, otherRules}
 
 -- `n` with one byte
@@ -98,8 +96,15 @@ renames =
     ∷ ((L, there, path "b", path "a"), some (1460, 107))
     ∷ ((L, there, path "b", path "c"), some (1791, 159))
     -- the walk left out, or its nodes counted as directories
-    ∷ ((dirAt "a" 1 ∷ fileAt "a/f" 2 5 ∷ fileAt "a/g" 2 5 ∷ fileAt "a/h" 2 5 ∷ [],
-        (path "b", directory 7) ∷ (path "b/f", deleted) ∷ (path "b/g", deleted) ∷ (path "b/h", deleted) ∷ [], path "a", path "b"), some (2751, 221))
+    ∷ (
+      (
+        dirAt "a" 1 ∷ fileAt "a/f" 2 5 ∷ fileAt "a/g" 2 5 ∷ fileAt "a/h" 2 5 ∷ [],
+        (path "b", directory 7) ∷ (path "b/f", deleted) ∷ (path "b/g", deleted) ∷ (path "b/h", deleted) ∷ [],
+        path "a",
+        path "b",
+      ),
+      some (2751, 221),
+    )
     -- the walk's start counted alone: 496 + 401 are 897
     ∷ (((long 200, dir 1) ∷ [], (long 200, directory 7) ∷ [], long 200, path "b"), some (793, 249))
     -- a number where there is none: 4 to 10, a link in the walk, a moved key of 513 bytes

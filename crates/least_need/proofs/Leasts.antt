@@ -1,35 +1,30 @@
 -- #105: which numbers are the least. A call is accepted with a limit and a length exactly if both are enough (`Enough`), so the least limit is what the call needs,
 -- the least length the larger of the bytes used before and after, and both together are enough. Assumes a listing in form, a table in form with its record, of bytes,
 -- and paths in form: with these 1, 2 and 3 do not refuse. Of the table nothing else: no calls need have built it.
-use mathlib.Core.Path.{_≡_, refl, ap, sym, _∙_, subst, subst⁻¹}
-use mathlib.Core.List.{[]}
-use mathlib.Core.Bool.{Bool, true, false, _&&_}
+use mathlib.Core.Path.{_≡_, refl, ap, sym, _∙_, subst}
+use mathlib.Core.Bool.{Bool, true, _&&_}
 use mathlib.Core.Option.{Option, none, some}
-use Prim.Native.Nat.{ℕ, _≤_, _<_, max}
+use Prim.Native.Nat.{ℕ, _≤_, max}
 use native.Mathlib.Omega.{arith}
 use lib.Dec.{leb}
-use lib.ListN.{length, replicate, length-replicate}
-use borrow.Author.Tests.{leb-true, leb-false, le-leb, lt-leb}
+use lib.ListN.{length, length-replicate}
+use borrow.Author.Tests.{leb-true, leb-false, le-leb}
 use Rattle.model.specs.Bytes.{Bytes}
 use Rattle.model.specs.Tree.{Table, Tree}
 use Rattle.model.specs.Listing.{isListing, treeIn}
 use Rattle.model.specs.Table.{encode, isTable, tableIn}
 use Rattle.model.specs.Checks.{Check, pass, refuse, _then_, unless, limited}
 use Rattle.model.specs.Calls.{Call, changed, forms, rules, valueOf}
-use Rattle.model.specs.Answer.{Reply, accepted}
-use Rattle.model.specs.Outcome.{Store, Request, lent, room, verdict, settle, outcome}
+use Rattle.model.specs.Answer.{accepted}
+use Rattle.model.specs.Outcome.{Store, Request, lent, verdict, settle, outcome}
 use Rattle.model.proofs.Orders.{bot, yea, nay, test, and-true}
 use Rattle.model.proofs.Words.{IsBytes}
 use Rattle.model.proofs.Invariant.{then-pass, then-both, unless-pass}
 use Rattle.model.proofs.Reached.{has-passed}
 use Rattle.least_need.specs.Need.{need, otherRules}
-use Rattle.least_need.specs.Least.{inBuffer, Accepts, WithLimit, WithLength, Least, IsReport}
+use Rattle.least_need.specs.Least.{inBuffer, requestOf, Accepts, WithLimit, WithLength, Least, IsReport}
 use Rattle.least_need.proofs.Needs.{rules-need, need-enough}
-use Rattle.least_need.proofs.Buffers.{buffer-length, buffer-entries, buffer-table, buffer-fits, used-within}
-
--- the call with a limit and buffers of n bytes
-abbrev asked : Call → (limit n : ℕ) → Request
-asked c limit n = record { call = c; limit = limit; work = replicate n 0 }
+use Rattle.least_need.proofs.Buffers.{buffer-length, buffer-entries, used-most, buffer-table, buffer-fits}
 
 -- a call is accepted exactly if its verdict passes
 accepted-passes : (listing : Bytes) (q : Request) (s : Store) (v : ℕ) → outcome listing q s .reply ≡ accepted v → verdict listing q s ≡ pass
@@ -60,7 +55,7 @@ module _ (listing : Bytes) (s : Store) (c : Call) where
   module _ (is-listing : isListing listing ≡ true) (is-table : isTable (s .table) (s .rec) ≡ true) (bytes : IsBytes (s .table)) (formed : forms c ≡ pass) where
     module _ (limit n : ℕ) where
       abbrev q : Request
-      q = asked c limit n
+      q = requestOf c limit n
 
       abbrev u : Store
       u = inBuffer n s
@@ -118,15 +113,12 @@ module _ (listing : Bytes) (s : Store) (c : Call) where
         let b = is-enough 0xFFFF_FFFF_FFFF_FFFF n g in
         enough-is limit n (record { before = b .before; after = b .after; most = b .most; covers = a .covers; passes = a .passes })
 
-    used-most : s .rec .used ≤ 16777216
-    used-most = used-within s is-table
-
     -- where the other rules pass, and the entries after the call fit 16 MiB
     module _ (passes : otherRules t l c ≡ pass) (fits : length (encode (changed t l c)) ≤ 16777216) where
       -- (E) the least limit is what the call needs
       pub least-limit : Least (WithLimit listing s c) (need E t l c)
       least-limit = record {
-        holds = enough-is (need E t l c) 16777216 (record { before = used-most; after = fits; most = omega arith; covers = omega arith; passes = passes });
+        holds = enough-is (need E t l c) 16777216 (record { before = used-most s is-table; after = fits; most = omega arith; covers = omega arith; passes = passes });
         least = λ m h a. let e = is-enough m 16777216 a in omega (arith, e .covers);
       }
 
@@ -135,7 +127,7 @@ module _ (listing : Bytes) (s : Store) (c : Call) where
       least-length h =
           let n = max (s .rec .used) (length (encode (changed t l c))) in
           record {
-            holds = enough-is 0xFFFF_FFFF_FFFF_FFFF n (record { before = omega arith; after = omega arith; most = omega (arith, used-most); covers = h; passes = passes });
+            holds = enough-is 0xFFFF_FFFF_FFFF_FFFF n (record { before = omega arith; after = omega arith; most = omega (arith, used-most s is-table); covers = h; passes = passes });
             least = λ m k a. let e = is-enough 0xFFFF_FFFF_FFFF_FFFF m a in omega (arith, e .before, e .after);
           }
 

@@ -2,8 +2,8 @@
 -- without a limit. Assumes nothing: every table, every tree, every call.
 use mathlib.Core.Path.{_≡_, refl, ap, sym, _∙_, subst, subst⁻¹}
 use mathlib.Core.Logic.{_⊎_, inl, inr}
-use mathlib.Core.Bool.{Bool, true, false, cond, not, _&&_, _||_}
-use mathlib.Core.Option.{Option, none, some}
+use mathlib.Core.Bool.{Bool, true, false, cond, _||_}
+use mathlib.Core.Option.{none, some}
 use Prim.Native.Nat.{ℕ, _+_, _-_, _*_, _≤_, _<_, max}
 use native.Mathlib.Omega.{arith}
 use lib.Dec.{leb, ltb, leb·zero}
@@ -13,15 +13,15 @@ use Rattle.model.specs.Path.{Path}
 use Rattle.model.specs.Map.{lookup, rekey}
 use Rattle.model.specs.Tree.{Table, Tree, shown, Kind, nothing, aDirectory, aFile, aLink, kind, isNothing, isDirectory}
 use Rattle.model.specs.Table.{charge}
-use Rattle.model.specs.Checks.{Check, pass, refuse, _then_, unless, mkdirAt, mkdirParents, writeChecks, unlinkChecks, rmdirChecks, limited, unlimited, charged}
-use Rattle.model.specs.Rename.{Walk, sum, overBudget, stopped, walkFrom, walked, planned, plan, budget, moved, carried, keysFit, ifDirectory}
-use Rattle.model.specs.Rename.{planAndWalk, directoryMemory, renameMemory, renamePaths, renameTypes, renameChecks, ontoItself}
-use Rattle.model.specs.Content.{isOwn, appended, appendChecks, appendMemory, insideChecks}
+use Rattle.model.specs.Checks.{Check, pass, refuse, _then_, unless, mkdirAt, mkdirParents, writeChecks, unlinkChecks, rmdirChecks, limited, unlimited}
+use Rattle.model.specs.Rename.{Walk, sum, overBudget, stopped, walkFrom, walked, planned, plan, budget, moved, carried, keysFit}
+use Rattle.model.specs.Rename.{directoryMemory, renameMemory, renamePaths, renameTypes, renameChecks, ontoItself}
+use Rattle.model.specs.Content.{isOwn, appended, appendChecks, insideChecks}
 use Rattle.model.specs.Calls.{Call, write, append, writeInside, mkdir, unlink, rmdir, rename, changed, rules}
 use Rattle.model.proofs.Orders.{bot, yea, nay, test}
 use Rattle.model.proofs.Walks.{sumOf, walk-over, walk-sum, walk-stopped, walk-within}
 use Rattle.check_judged.proofs.Thens.{then-assoc}
-use Rattle.least_need.specs.Need.{behind, walkNeed, directoryNeed, moveNeed, need, keyChecks, otherRules}
+use Rattle.least_need.specs.Need.{behind, walkNeed, directoryNeed, moveNeed, need, otherRules}
 use Rattle.least_need.proofs.Others.{overLimit, other-rules}
 
 module _ (L : ℕ) where

@@ -7,15 +7,15 @@ use mathlib.Core.Option.{Option, none, some}
 use Prim.Native.Nat.{ℕ, _+_}
 use lib.Dec.{eqb, ltb}
 use lib.ListN.{length}
-use Rattle.model.specs.Bytes.{Bytes, every}
+use Rattle.model.specs.Bytes.{every}
 use Rattle.model.specs.Path.{Path, short, below, ancestors}
 use Rattle.model.specs.Map.{lookup, keys, rekey}
 use Rattle.model.specs.Tree.{Entry, own, reference, directory, deleted, Table, Tree, View, shown, Kind, nothing, aDirectory, aFile, aLink, kind, isDirectory}
 use Rattle.model.specs.Checks.{Check, pass, refuse, _then_, unless, parentAt, parentsIn, parentChecks, writeAt, writeChecks, ancestorAt, ancestorsIn, mkdirParents, mkdirAt}
-use Rattle.model.specs.Checks.{unlinkAt, unlinkEntry, unlinkChecks, notRoot, visibleChild, noVisibleChild, directoryAt, rmdirEntry, rmdirChecks, limited, unlimited}
-use Rattle.model.specs.Rename.{Walk, sum, overBudget, stopped, atLink, walkFrom, walked, notLink, notDeleted, noClash, present, ifDirectory, carried, keysFit}
+use Rattle.model.specs.Checks.{unlinkAt, unlinkEntry, notRoot, visibleChild, noVisibleChild, directoryAt, rmdirEntry, unlimited}
+use Rattle.model.specs.Rename.{Walk, sum, overBudget, stopped, atLink, walkFrom, walked, notLink, notDeleted, noClash, present, carried}
 use Rattle.model.specs.Rename.{directoryMemory, renamePaths, renameTypes, ontoItself}
-use Rattle.model.specs.Content.{needed, appendChecks, ownAt, insideChecks}
+use Rattle.model.specs.Content.{needed, ownAt}
 use Rattle.model.specs.Calls.{Call, write, append, writeInside, mkdir, unlink, rmdir, rename, rules}
 use Rattle.model.proofs.Walks.{walk-budget}
 use Rattle.least_need.specs.Need.{keyChecks, otherRules}

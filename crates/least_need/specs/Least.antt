@@ -11,16 +11,20 @@ use Rattle.model.specs.Table.{padded, isTable}
 use Rattle.model.specs.Checks.{Check, _then_, unless}
 use Rattle.model.specs.Calls.{Call, forms, valueOf}
 use Rattle.model.specs.Answer.{accepted}
-use Rattle.model.specs.Outcome.{Store, outcome}
+use Rattle.model.specs.Outcome.{Store, Request, outcome}
 
 -- the same table and record in a buffer of n bytes, which cuts the table or goes on with zeros
 abbrev pub inBuffer : ℕ → Store → Store
 inBuffer n s = record { table = take n (padded n (s .table)); rec = s .rec }
 
+-- the call c with this limit, and a work buffer of n bytes, of zeros: what they are does not matter
+abbrev pub requestOf : Call → (limit n : ℕ) → Request
+requestOf c limit n = record { call = c; limit = limit; work = replicate n 0 }
+
 -- "the same call is accepted" with this limit, when table and work buffer have n bytes
 abbrev pub Accepts : Bytes → Store → Call → (limit n : ℕ) → Type 0
 Accepts listing s c limit n =
-    outcome listing (record { call = c; limit = limit; work = replicate n 0 }) (inBuffer n s) .reply ≡ accepted (valueOf c)
+    outcome listing (requestOf c limit n) (inBuffer n s) .reply ≡ accepted (valueOf c)
 
 -- "the smallest limit with which the same call is accepted when table and work buffers have 16 MiB"
 abbrev pub WithLimit : Bytes → Store → Call → ℕ → Type 0
@@ -35,8 +39,8 @@ pub record Least (P : ℕ → Type 0) (n : ℕ) : Type 0 where
   pub holds : P n
   pub least : (m : ℕ) → m < n → P m → ⊥
 
--- "Report the smallest limit …, and the smallest table length …, or none where no such number exists": the limit before
--- the length, and never one without the other
+-- "Report the smallest limit …, and the smallest table length …, or none where no such number exists": the limit
+-- before the length, and never one without the other
 abbrev pub IsReport : Bytes → Store → Call → Option (ℕ × ℕ) → Type 0
 IsReport listing s c (some x) = Least (WithLimit listing s c) (x .0) × Least (WithLength listing s c) (x .1)
 IsReport listing s c none = (limit n : ℕ) → Accepts listing s c limit n → ⊥

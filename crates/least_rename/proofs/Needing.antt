@@ -1,13 +1,13 @@
 -- What plan and walk need of the limit: the walk is one sum, whatever its order, and none of the sums is large.
 -- Assumes a listing in form, of bytes.
 use mathlib.Core.Path.{_≡_, refl, ap, ap₂, sym, _∙_, subst, subst⁻¹}
-use mathlib.Core.Bool.{Bool, true, false, cond, _&&_}
+use mathlib.Core.Bool.{Bool, true, false, cond}
 use mathlib.Core.Option.{none}
 use Prim.Native.Nat.{ℕ, zero, suc, _+_, _*_, _≤_, _<_}
 use native.Mathlib.Omega.{arith}
-use lib.Dec.{leb, ltb, eqb}
+use lib.Dec.{ltb, eqb}
 use lib.ListN.{length, getD}
-use borrow.Author.Tests.{leb-true, lt-ltb, le-ltb, ne-eqb}
+use borrow.Author.Tests.{lt-ltb, le-ltb, ne-eqb}
 use Rattle.model.specs.Bytes.{Bytes}
 use Rattle.model.specs.Path.{Path}
 use Rattle.model.specs.Map.{lookup}
@@ -17,14 +17,14 @@ use Rattle.model.specs.Table.{charge, isTable, tableIn}
 use Rattle.model.specs.Checks.{Check, pass, unlimited}
 use Rattle.model.specs.Rename.{Stop, atLink, Walk, stopped, walkFrom, walked, planned, ifDirectory, planAndWalk, directoryMemory}
 use Rattle.model.specs.declared.Record.{Record}
-use Rattle.model.proofs.Orders.{bot, yea, nay, test, and-true, eqb-eq}
+use Rattle.model.proofs.Orders.{bot, yea, nay, test, eqb-eq}
 use Rattle.model.proofs.Codec.{decoded, charge-is}
 use Rattle.model.proofs.Formed.{Listing, listing-fine}
 use Rattle.base_fields.proofs.Pieces.{bytes-of}
 use Rattle.table_insert.proofs.Inserts.{bounds}
 use Rattle.least_walk.specs.Total.{costs, anyStops, reached}
 use Rattle.least_walk.proofs.Sums.{walk-total, walk-stops-at}
-use Rattle.least_need.specs.Need.{walkNeed, directoryNeed}
+use Rattle.least_need.specs.Need.{walkNeed, listedNeed, directoryNeed}
 use Rattle.least_rename.specs.declared.Needed.{Needed}
 use Rattle.least_rename.specs.declared.Needed.the-variants.{Stopped, Limit}
 use Rattle.least_rename.specs.Reports.{NeededFor, AtMost}
@@ -36,17 +36,12 @@ sum-none start n e = rw e refl
 pub sum-some : (start n : ℕ) → (n ≡ 0 → ⊥) → start + n ≡ cond (eqb n 0) 0 (start + n)
 sum-some start n h = rw (ne-eqb n 0 h) refl
 
--- of a table: its entry size is at most 4,096, and its charge is small enough to add to
-pub size-small : (s : Bytes) (r : Record) → isTable s r ≡ true → r .«entry_size» ≤ 4096
-size-small s r h =
-    leb-true (r .«entry_size») 4096 (and-true (leb (r .«entry_size») 4096) (leb (length s) 16777216) (decoded s r h .size) .0)
-
+-- a table's charge is small enough to add to
 pub charge-small : (s : Bytes) (r : Record) → isTable s r ≡ true → r .charge ≤ 0x20_0000_0000
 charge-small s r h =
     let d = decoded s r h in
-    let b = bounds (r .«entry_size») (tableIn s r) (size-small s r h) in
-    let n = leb-true (length s) 16777216 (and-true (leb (r .«entry_size») 4096) (leb (length s) 16777216) (d .size) .1) in
-    omega (arith, b .1, d .fits, charge-is s r h)
+    let b = bounds (r .«entry_size») (tableIn s r) (d .size-most) in
+    omega (arith, b .1, d .fits, d .length-most, charge-is s r h)
 
 pub at-most : (n : ℕ) (w : Needed) → AtMost n w → (m : ℕ) → w ≡ Limit m → m ≤ n
 at-most n w h m e = subst (AtMost n) e h
@@ -105,26 +100,23 @@ module _ (E : ℕ) (t : Table) (l : Tree) (a b : Path) where
   abbrev walkCheck : Check
   walkCheck = ifDirectory (kind (lookup l) a) (walked (length a) (walkFrom t l none a))
 
-  abbrev walkSum : ℕ
-  walkSum = cond (isDirectory (kind (lookup l) a)) (walkNeed (2 * length a + 1) (walkFrom t l none a)) 0
-
   abbrev PlanNeeds : Needed → Type 0
-  PlanNeeds r = NeededFor (planAndWalk unlimited t l a b) (charge E t + planned a b t + walkSum) r
+  PlanNeeds r = NeededFor (planAndWalk unlimited t l a b) (charge E t + planned a b t + listedNeed t l a) r
 
-  pub plan-stopped : (w : Needed) → NeededFor walkCheck walkSum w → w ≡ Stopped → PlanNeeds Stopped
-  plan-stopped w h e = subst (NeededFor walkCheck walkSum) e h
+  pub plan-stopped : (w : Needed) → NeededFor walkCheck (listedNeed t l a) w → w ≡ Stopped → PlanNeeds Stopped
+  plan-stopped w h e = subst (NeededFor walkCheck (listedNeed t l a)) e h
 
-  pub plan-sums : (w : Needed) → NeededFor walkCheck walkSum w → (n : ℕ) → w ≡ Limit n → (c p m : ℕ) → c ≡ charge E t → p ≡ planned a b t
+  pub plan-sums : (w : Needed) → NeededFor walkCheck (listedNeed t l a) w → (n : ℕ) → w ≡ Limit n → (c p m : ℕ) → c ≡ charge E t → p ≡ planned a b t
       → m ≡ c + p + n → PlanNeeds (Limit m)
   plan-sums w h n e c p m i j k =
-      let x = subst (NeededFor walkCheck walkSum) e h in
+      let x = subst (NeededFor walkCheck (listedNeed t l a)) e h in
       (x .0, k ∙ ap₂ (λ (u v : ℕ). u + v + n) i j ∙ ap (λ (u : ℕ). charge E t + planned a b t + u) (x .1))
 
   abbrev DirectoryNeeds : Needed → Type 0
   DirectoryNeeds r = NeededFor (directoryMemory unlimited t l a b) (directoryNeed E t l a b) r
 
   pub whole-needs : kind (shown t l) a ≡ aDirectory → (r : Needed) → PlanNeeds r → DirectoryNeeds r
-  whole-needs k r h = subst⁻¹ (λ (x : Kind). NeededFor (ifDirectory x (planAndWalk unlimited t l a b)) (cond (isDirectory x) (charge E t + planned a b t + walkSum) 0) r) k h
+  whole-needs k r h = subst⁻¹ (λ (x : Kind). NeededFor (ifDirectory x (planAndWalk unlimited t l a b)) (cond (isDirectory x) (charge E t + planned a b t + listedNeed t l a) 0) r) k h
 
   pub file-needs : kind (shown t l) a ≡ aFile → DirectoryNeeds (Limit 0)
-  file-needs k = subst⁻¹ (λ (x : Kind). NeededFor (ifDirectory x (planAndWalk unlimited t l a b)) (cond (isDirectory x) (charge E t + planned a b t + walkSum) 0) (Limit 0)) k (refl, refl)
+  file-needs k = subst⁻¹ (λ (x : Kind). NeededFor (ifDirectory x (planAndWalk unlimited t l a b)) (cond (isDirectory x) (charge E t + planned a b t + listedNeed t l a) 0) (Limit 0)) k (refl, refl)

@@ -1,8 +1,8 @@
 -- From what is measured to what is reported, exit by exit.
 use mathlib.Core.Path.{_≡_, refl, ap, sym, _∙_, subst, subst⁻¹}
-use mathlib.Core.Bool.{Bool, true, false, cond, not, _&&_}
-use mathlib.Core.Option.{none, some}
-use Prim.Native.Nat.{ℕ, _*_, _≤_, _<_, max}
+use mathlib.Core.Bool.{Bool, true, false, cond, _&&_}
+use mathlib.Core.Option.{some}
+use Prim.Native.Nat.{ℕ, _≤_, _<_, max}
 use native.Mathlib.Omega.{arith}
 use lib.Dec.{leb}
 use lib.ListN.{length}
@@ -17,7 +17,7 @@ use Rattle.model.specs.Checks.{Check, pass, refuse, _then_, unless, limited, un
 use Rattle.model.specs.Rename.{carried, moved, keysFit, directoryMemory, renameMemory, renamePaths, renameTypes, ontoItself}
 use Rattle.model.specs.Calls.{rename, forms}
 use Rattle.model.specs.Answer.{toldRefusal}
-use Rattle.model.specs.Outcome.{Given, Store}
+use Rattle.model.specs.Outcome.{Given}
 use Rattle.model.specs.declared.Record.{Record}
 use Rattle.model.specs.declared.Refusal.{Refusal}
 use Rattle.model.proofs.Orders.{bot, yea, nay, test}
@@ -33,9 +33,8 @@ use Rattle.rename_checks.specs.Early.{EarlyPassed}
 use Rattle.rename_measure.specs.declared.Projected.{Projected}
 use Rattle.rename_measure.specs.Tallies.{Foretold}
 use Rattle.call_answer.specs.Meets.{stored}
-use Rattle.least_need.specs.Need.{behind, directoryNeed, moveNeed, need, otherRules}
+use Rattle.least_need.specs.Need.{behind, directoryNeed, need, otherRules}
 use Rattle.least_need.specs.Least.{IsReport, reportChecks}
-use Rattle.least_need.proofs.Buffers.{used-is, used-within}
 use Rattle.least_need.proofs.Leasts.{report-both, report-none}
 use Rattle.least_rename.specs.declared.Needed.{Needed}
 use Rattle.least_rename.specs.declared.Needed.the-variants.{Stopped, Limit}

@@ -5,11 +5,11 @@
 ghost use mathlib.Core.Path.{_≡_};
 ghost use mathlib.Core.Bool.{true, cond};
 ghost use mathlib.Core.Option.{none};
-ghost use Prim.Native.Nat.{_+_, _*_, _≤_, max};
+ghost use Prim.Native.Nat.{_+_, _*_, max};
 ghost use lib.ListN.{length};
 ghost use Rattle.model.specs.Path.{isPath};
 ghost use Rattle.model.specs.Map.{lookup};
-ghost use Rattle.model.specs.Tree.{kind, isDirectory, shown, aDirectory, aFile};
+ghost use Rattle.model.specs.Tree.{kind, aDirectory, aFile};
 ghost use Rattle.model.specs.Listing.{treeIn};
 ghost use Rattle.model.specs.Table.{tableIn, charge};
 ghost use Rattle.model.specs.Checks.{unlimited};
@@ -19,7 +19,7 @@ ghost use Rattle.model.specs.Calls.{rename};
 ghost use Rattle.model.specs.Outcome.{Given, shownIn};
 ghost use Rattle.rename_checks.specs.Early.{EarlyPassed};
 ghost use Rattle.call_answer.specs.Meets.{stored};
-ghost use Rattle.least_need.specs.Need.{walkNeed, directoryNeed};
+ghost use Rattle.least_need.specs.Need.{listedNeed, directoryNeed};
 ghost use Rattle.least_rename.specs.Reports.{Reports, NeededFor, AtMost, reportOf, Known};
 use check_judged::Judged;
 use model::Record;
@@ -56,10 +56,8 @@ fn walk_need(listing: &[u8], table: &[u8], rec: Record, source: &[u8]) -> Needed
     requires { ⌜ isPath (now source) ≡ true ⌝ }
     ensures { λ r. ⌜ NeededFor (ifDirectory (kind (lookup (treeIn (now (listing .entry)))) (now (source .entry)))
         (model_rename.walked (length (now (source .entry))) (walkFrom (tableIn (now (table .entry)) rec)
-        (treeIn (now (listing .entry))) none (now (source .entry))))) (cond (isDirectory (kind (lookup
-        (treeIn (now (listing .entry)))) (now (source .entry)))) (walkNeed (2 * length (now (source .entry)) + 1)
-        (walkFrom (tableIn (now (table .entry)) rec) (treeIn (now (listing .entry))) none (now (source .entry)))) 0)
-        r ⌝ }
+        (treeIn (now (listing .entry))) none (now (source .entry))))) (listedNeed (tableIn (now (table .entry)) rec)
+        (treeIn (now (listing .entry))) (now (source .entry))) r ⌝ }
     ensures { λ r. ⌜ AtMost 0x1_0000_0000_0000 r ⌝ }
 {
     if rename_plan::is_listed_directory(listing, source) {
@@ -76,21 +74,13 @@ fn walk_need(listing: &[u8], table: &[u8], rec: Record, source: &[u8]) -> Needed
 }
 
 // What plan and walk need beside the charge as it is.
-fn plan_need(
-    listing: &[u8],
-    table: &[u8],
-    rec: Record,
-    source: &[u8],
-    destination: &[u8],
-) -> Needed
+fn plan_need(listing: &[u8], table: &[u8], rec: Record, source: &[u8], destination: &[u8]) -> Needed
     requires { ⌜ Given (now listing) (now table) rec ⌝ }
     requires { ⌜ (isPath (now source) ≡ true) × (isPath (now destination) ≡ true) ⌝ }
     ensures { λ r. ⌜ NeededFor (planAndWalk unlimited (tableIn (now (table .entry)) rec) (treeIn (now (listing .entry)))
         (now (source .entry)) (now (destination .entry))) (charge (rec .«entry_size») (tableIn (now (table .entry)) rec)
         + planned (now (source .entry)) (now (destination .entry)) (tableIn (now (table .entry)) rec)
-        + cond (isDirectory (kind (lookup (treeIn (now (listing .entry)))) (now (source .entry))))
-        (walkNeed (2 * length (now (source .entry)) + 1) (walkFrom (tableIn (now (table .entry)) rec)
-        (treeIn (now (listing .entry))) none (now (source .entry)))) 0) r ⌝ }
+        + listedNeed (tableIn (now (table .entry)) rec) (treeIn (now (listing .entry))) (now (source .entry))) r ⌝ }
     ensures { λ r. ⌜ AtMost 0x2_0000_0000_0000 r ⌝ }
 {
     let walk = walk_need(listing, table, rec, source);
@@ -168,7 +158,14 @@ fn report_move<'a>(
             return Report::Neither;
         }
         Needed::Limit(need) => {
-            let projected = rename_settle::foretell(listing, table, rec, source, destination, whole);
+            let projected = rename_settle::foretell(
+                listing,
+                table,
+                rec,
+                source,
+                destination,
+                whole,
+            );
             return report_of(need, projected, rec.used);
         }
     }

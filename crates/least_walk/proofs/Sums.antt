@@ -20,6 +20,7 @@ use Rattle.model.proofs.Orders.{bot, yea, nay, test, and-true, split, Split, me
 use Rattle.model.proofs.Orders.{below-trans, below-rest, inside-both}
 use Rattle.model.proofs.Maps.{Ascending, lookup-low, lookup-only, ascending-only}
 use Rattle.model.proofs.Invariant.{Closed, kind-at, node-at, no-node, a-dir, a-file, a-link}
+use Rattle.model.proofs.Formed.{every-mem}
 use Rattle.model.proofs.Rules.{child-below, child-root, way}
 use Rattle.model.proofs.Walks.{level, child-level, below-level, depth-le, free-is, walk-stops, walk-budget}
 use Rattle.least_walk.specs.Total.{cost, costs, anyStops, reached}
@@ -180,14 +181,7 @@ one-stops (x ∷ xs) a h = elim (test (stops (x .1))) [
   | nay u ↦ let r = one-stops xs (a .1) (cc) in (r .0, r .1, found-behind x xs a (r .0) (r .1) (r .2), r .3)
 ]
 
--- a test that every path of a list passes, and one that each of them passes
-every-at : (f : Path → Bool) (ks : List Path) → every f ks ≡ true → (q : Path) → mem q ks ≡ true → f q ≡ true
-every-at f [] h q m = absurd (bot (cc))
-every-at f (k ∷ ks) h q m = let e = and-true (f k) (every f ks) h in elim (split k q) [
-  | Split.eq u w ↦ ap f (sym u) ∙ e .0
-  | Split.ne u w ↦ every-at f ks (e .1) q (cc)
-]
-
+-- a test that each path of a list passes
 every-of : (f : Path → Bool) (ks : List Path) → ((q : Path) → mem q ks ≡ true → f q ≡ true) → every f ks ≡ true
 every-of f [] h = refl
 every-of f (k ∷ ks) h =
@@ -237,7 +231,7 @@ module _ (t : Table) (d q : Path) where
         free-is (lookup t q) (e .0),
         λ p u v.
             let m = mem-ancestors q p ∙ v in
-            let w = every-at (λ k. not (below d k) || isNone (lookup t k)) (ancestors q) (e .1) p m in
+            let w = every-mem (λ k. not (below d k) || isNone (lookup t k)) (ancestors q) p (e .1) m in
             free-is (lookup t p) (cc),
       )
 

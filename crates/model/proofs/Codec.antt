@@ -43,9 +43,15 @@ pub record Decoded (s : Bytes) (r : Record) : Type 0 where
   pub bytes : s ≡ padded (length s) (encode (tableIn s r))
   pub rec : r ≡ recordOf (r .«entry_size») (tableIn s r)
   pub size : sized (r .«entry_size») (length s) ≡ true
+  pub size-most : r .«entry_size» ≤ 4096
+  pub length-most : length s ≤ 16777216
   pub ascending : ascends [] (tableIn s r) ≡ true
   pub formed : every formedEntry (tableIn s r) ≡ true
   pub fits : length (encode (tableIn s r)) ≤ length s
+
+-- what an entry size and a buffer's length may be
+sized-is : (E n : ℕ) → sized E n ≡ true → (E ≤ 4096) × (n ≤ 16777216)
+sized-is E n h = let z = and-true (leb E 4096) (leb n 16777216) h in (leb-true E 4096 (z .0), leb-true n 16777216 (z .1))
 
 pub same-record-is : (r q : Record) → sameRecord r q ≡ true → r ≡ q
 same-record-is r q h =
@@ -73,9 +79,10 @@ decoded s r h =
     let x = and-true (a && b && c) d (w .0) in
     let y = and-true (a && b) c (x .0) in
     let z = and-true a b (y .0) in
+    let m = sized-is (r .«entry_size») (length s) (z .0) in
     let e : s ≡ padded (length s) (encode t) = same-is s (padded (length s) (encode t)) (x .1) in
     let l : length s ≡ length (encode t) + (length s - length (encode t)) = ap length e ∙ length-padded (length s) (encode t) in
-    record { bytes = e; rec = same-record-is r q (w .1); size = z .0; ascending = z .1; formed = y .1; fits = omega arith }
+    record { bytes = e; rec = same-record-is r q (w .1); size = z .0; size-most = m .0; length-most = m .1; ascending = z .1; formed = y .1; fits = omega arith }
 
 -- the record's charge is the table's
 pub charge-is : (s : Bytes) (r : Record) → isTable s r ≡ true → r .charge ≡ charge (r .«entry_size») (tableIn s r)
@@ -194,7 +201,7 @@ pub encoded : (E n : ℕ) (t : Table) → ascends [] t ≡ true → every formed
     → (tableIn (padded n (encode t)) (recordOf E t) ≡ t) × (isTable (padded n (encode t)) (recordOf E t) ≡ true)
 encoded E n t a f w l z =
     let s : Bytes = padded n (encode t) in
-    let m : n ≤ 16777216 = leb-true n 16777216 (and-true (leb E 4096) (leb n 16777216) z .1) in
+    let m = sized-is E n z .1 in
     let e : tableIn s (recordOf E t) ≡ t = read-table t [] (replicate (n - length (encode t)) 0) f w (omega arith) in
     (e, rw (e, padded-length n (encode t) l, z, a, f, same-refl s, same-record (recordOf E t)))
 
@@ -206,8 +213,7 @@ pub moved-table : (s : Bytes) (r : Record) → isTable s r ≡ true → Words (t
 moved-table s r h w n l m =
     let t : Table = tableIn s r in
     let d = decoded s r h in
-    let z = and-true (leb (r .«entry_size») 4096) (leb (length s) 16777216) (d .size) in
-    let e = encoded (r .«entry_size») n t (d .ascending) (d .formed) w l (rw (z .0, le-leb n 16777216 m)) in
+    let e = encoded (r .«entry_size») n t (d .ascending) (d .formed) w l (rw (le-leb (r .«entry_size») 4096 (d .size-most), le-leb n 16777216 m)) in
     (ap (tableIn (padded n (encode t))) (d .rec) ∙ e .0, ap (isTable (padded n (encode t))) (d .rec) ∙ e .1)
 
 -- the buffer of zeros is the empty table

@@ -19,7 +19,7 @@ use Rattle.model.specs.Content.{contentOf, appended, spliced}
 use Rattle.model.specs.Calls.{Call, write, append, writeInside, mkdir, unlink, rmdir, rename, changed, forms, rules, valueOf, Query, says}
 use Rattle.model.specs.Answer.{accepted, refused}
 use Rattle.model.specs.Outcome.{Store, Request, lent, room, verdict, settle, outcome, answered, ask, opened}
-use Rattle.model.proofs.Orders.{bot, yea, nay, test, and-true}
+use Rattle.model.proofs.Orders.{yea, nay, test, and-true}
 use Rattle.model.proofs.Codec.{decoded, path-short}
 use Rattle.model.proofs.Invariant.{then-pass, unless-pass, form-is}
 use Rattle.model.proofs.Splices.{spliced-length}
@@ -125,8 +125,7 @@ module _ (l : Bytes) (q : Request) (s : Store) where
   content-fits : (p : Path) (m : ℕ) (x : Bytes) → isTable (s .table) (s .rec) ≡ true
       → length (encode (put p (own m x) (tableIn (s .table) (s .rec)))) ≤ length (s .table) → length x < 0x1_0000_0000_0000
   content-fits p m x h r =
-      let z = and-true (leb (s .rec .«entry_size») 4096) (leb (length (s .table)) 16777216) (decoded (s .table) (s .rec) h .size) in
-      let n = leb-true (length (s .table)) 16777216 (z .1) in
+      let n = decoded (s .table) (s .rec) h .length-most in
       let f = inserts.room p (own m x) (tableIn (s .table) (s .rec)) (length (s .table)) r in
       omega arith
 

@@ -7,14 +7,13 @@ use Prim.Native.Nat.{ℕ, _<_}
 use native.Mathlib.Omega.{arith}
 use lib.Dec.{leb, eqb}
 use lib.ListN.{length}
-use borrow.Author.Tests.{leb-true, eq-eqb, ne-eqb}
+use borrow.Author.Tests.{eq-eqb, ne-eqb}
 use Rattle.model.specs.Bytes.{Bytes}
 use Rattle.model.specs.Listing.{isListing}
 use Rattle.model.specs.Table.{encode, tableIn, isTable}
 use Rattle.model.specs.Checks.{pass, _then_, unless}
 use Rattle.model.specs.Output.{writtenBy}
 use Rattle.model.specs.declared.Record.{Record}
-use Rattle.model.proofs.Orders.{and-true}
 use Rattle.model.proofs.Codec.{decoded}
 use Rattle.model.proofs.Listings.{checked}
 use Rattle.kept_file.specs.Kept.{fileOf, written, ReadBack, readBack, toldWriting, toldReading, toldContent}
@@ -37,7 +36,7 @@ module _ (l t : Bytes) (r : Record) (o : Bytes) where
       let k = kept-size l (encode (tableIn t r)) in
       let d = decoded t r h in
       let a = d .fits in
-      let b = leb-true (length t) 16777216 (and-true (leb (r .«entry_size») 4096) (leb (length t) 16777216) (d .size) .1) in
+      let b = d .length-most in
       let c = checked l g .small in
       omega arith
 

@@ -7,7 +7,6 @@ use Prim.Native.Nat.{ℕ, _<_, _≤_}
 use native.Mathlib.Omega.{arith}
 use lib.Dec.{leb}
 use lib.ListN.{length}
-use borrow.Author.Tests.{leb-true}
 use Rattle.model.specs.Bytes.{Bytes}
 use Rattle.model.specs.Path.{Path, isPath}
 use Rattle.model.specs.Map.{isNone, lookup}
@@ -19,7 +18,6 @@ use Rattle.model.specs.Answer.{told}
 use Rattle.model.specs.Output.{writtenBy}
 use Rattle.model.specs.declared.Answer.{Answer}
 use Rattle.model.specs.declared.Record.{Record}
-use Rattle.model.proofs.Orders.{and-true}
 use Rattle.model.proofs.Codec.{decoded, path-short}
 use Rattle.model.proofs.Listings.{checked}
 use Rattle.show_names.specs.Names.{linkOnWay, childNames, showing}
@@ -36,7 +34,7 @@ module _ (l t : Bytes) (r : Record) (p : Path) (o : Bytes) where
   names-small : isTable t r ≡ true → isListing l ≡ true → length names < 0x1_0000_0000_0000
   names-small h g =
       let a = names-bound l t r p (record { is-listing = g; is-table = h }) in
-      let b = leb-true (length t) 16777216 (and-true (leb (r .«entry_size») 4096) (leb (length t) 16777216) (decoded t r h .size) .1) in
+      let b = decoded t r h .length-most in
       let c = checked l g .small in
       omega arith
 

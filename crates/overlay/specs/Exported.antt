@@ -126,7 +126,7 @@ keptRead file t n p =
 
 -- what would let the call c through, on the table t with the record n, in the two numbers that were s: the answer and
 -- the numbers after it; two numbers that are not two are answered with 1 too
-pub data LeastLeft (listing t : Bytes) (n s : List ℕ) (c : Call) : (answer : ℕ) → (least : List ℕ) → Type 0 where
+pub data LeastLeft (listing t : Bytes) (n s : List ℕ) (c : Call) : (answer : ℕ) → List ℕ → Type 0 where
   not-numbers : (isFour n && isTwo s) ≡ false → LeastLeft listing t n s c (packed (refused 1 0 0)) s
   reported : (isFour n && isTwo s) ≡ true → (x : Report) → Reports listing (stored t (recordIn n)) c x
       → LeastLeft listing t n s c (packed (toldReport x)) (reportNumbers x s)

@@ -1,8 +1,9 @@
 // The calls of document 01, the writer and the reader of kept files (#101), showing a directory (#102), and what would
-// let a rename through (#105), for programs in C or Rust to link: numbers and byte slices in, the answer packed in one number out. Nothing is assumed of
-// what is lent, but that no two of the buffers overlap: any bytes and any numbers can be given. A record that is not
-// four numbers is answered with 1, and is no table's. A refused call leaves every lent buffer, the record too, as it
-// was; what a script that is not run leaves stands at `overlay_run_new`. The cost is that of the call itself.
+// let a rename through (#105), for programs in C or Rust to link: numbers and byte slices in, the answer packed in one
+// number out. Nothing is assumed of what is lent, but that no two of the buffers overlap: any bytes and any numbers can
+// be given. A record that is not four numbers is answered with 1, and is no table's. A refused call leaves every lent
+// buffer, the record too, as it was; what a script that is not run leaves stands at `overlay_run_new`. The cost is that
+// of the call itself.
 ghost use mathlib.Core.Path.{_≡_};
 ghost use mathlib.Core.Bool.{_&&_};
 ghost use Rattle.model.specs.Listing.{isListing};

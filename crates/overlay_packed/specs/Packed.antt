@@ -1,4 +1,4 @@
--- An answer in one number, a record as four numbers, where a listing stands in a kept file as two, and a report as two.
+-- An answer in one number, a record as four numbers, where a listing stands in a kept file and a report as two each.
 use mathlib.Core.List.{List, [], _∷_}
 use mathlib.Core.Option.{Option, none, some}
 use Prim.Native.Nat.{ℕ, _+_, _*_, _<_}
@@ -64,8 +64,8 @@ abbrev pub contentPlace : Option Content → List ℕ → List ℕ
 contentPlace none s = s
 contentPlace (some c) s = placeOf c
 
--- the two numbers after a report: the least limit and the least length, 0 and 0 where there are none; s, what they were,
--- where it is refused
+-- the two numbers after a report: the least limit and the least length, 0 and 0 where there are none; s, what they
+-- were, where it is refused
 abbrev pub reportNumbers : Report → List ℕ → List ℕ
 reportNumbers (report.Both m n) s = m ∷ n ∷ []
 reportNumbers report.Neither s = 0 ∷ 0 ∷ []

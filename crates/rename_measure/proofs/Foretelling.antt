@@ -8,7 +8,7 @@ use Prim.Native.Nat.{ℕ, _+_, _-_, _<_, _≤_}
 use native.Mathlib.Omega.{arith}
 use lib.Dec.{leb}
 use lib.ListN.{length}
-use borrow.Author.Tests.{leb-true, le-leb}
+use borrow.Author.Tests.{le-leb}
 use Rattle.model.specs.Bytes.{Bytes, every, before}
 use Rattle.model.specs.Path.{Path, isPath, components, short}
 use Rattle.model.specs.Map.{lookup, put, puts, only, each, keys, rekey, mapped}
@@ -169,7 +169,7 @@ pub small-put : (s : Bytes) (r : Record) → isTable s r ≡ true → (k : Path)
 small-put s r h k v kl vl o e =
     let d = decoded s r h in
     let E : ℕ = r .«entry_size» in
-    let z = leb-true (length s) 16777216 (and-true (leb E 4096) (leb (length s) 16777216) (d .size) .1) in
+    let z = d .length-most in
     let f = d .fits in
     let p = put-bytes k v (tableIn s r) in
     let b = bounds E (put k v (tableIn s r)) (size-small s r h) in

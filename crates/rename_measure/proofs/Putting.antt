@@ -4,9 +4,7 @@ use mathlib.Core.List.{[], _∷_}
 use mathlib.Core.Bool.{true}
 use Prim.Native.Nat.{ℕ, _+_, _≤_}
 use native.Mathlib.Omega.{arith}
-use lib.Dec.{leb}
 use lib.ListN.{length, replicate, length-replicate}
-use borrow.Author.Tests.{leb-true}
 use Rattle.model.specs.Bytes.{Bytes, before}
 use Rattle.model.specs.Path.{Path}
 use Rattle.model.specs.Map.{ascends, put, puts}
@@ -33,7 +31,7 @@ as-long n = length-replicate n 0
 
 -- the table's entry size is small
 pub size-small : (s : Bytes) (r : Record) → isTable s r ≡ true → r .«entry_size» ≤ 4096
-size-small s r h = leb-true (r .«entry_size») 4096 (and-true (leb (r .«entry_size») 4096) (leb (length s) 16777216) (decoded s r h .size) .0)
+size-small s r h = decoded s r h .size-most
 
 -- a is the record of t; with `rest` put too, whose keys are behind those put, t is the whole
 pub record Putting (s : Bytes) (E : ℕ) (whole rest : Table) (q : Place) (a : Record) (most : ℕ) : Type 0 where
@@ -50,8 +48,7 @@ pub putting-begun : (s : Bytes) (r : Record) (c : Table) (q : Place) → isTable
     → Putting s (r .«entry_size») (puts c (tableIn s r)) c q r 16777216
 putting-begun s r c q h u e =
     let d = decoded s r h in
-    let z = and-true (leb (r .«entry_size») 4096) (leb (length s) 16777216) (d .size) in
-    let l = leb-true (length s) 16777216 (z .1) in
+    let l = d .length-most in
     let o : r .used ≡ length (encode (tableIn s r)) = ap (λ (x : Record). x .used) (d .rec) in
     let f = d .fits in
     let a = ascends-is [] c u in

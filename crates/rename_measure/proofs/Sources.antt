@@ -5,9 +5,7 @@ use mathlib.Core.Bool.{Bool, true, false, _&&_}
 use mathlib.Core.Option.{Option, none, some}
 use Prim.Native.Nat.{ℕ, _≤_}
 use native.Mathlib.Omega.{arith}
-use lib.Dec.{leb}
 use lib.ListN.{length}
-use borrow.Author.Tests.{leb-true}
 use Rattle.model.specs.Bytes.{Bytes, every}
 use Rattle.model.specs.Path.{Path, isPath}
 use Rattle.model.specs.Map.{lookup, puts, only, mapped}
@@ -64,7 +62,7 @@ pub top-small : (s g : Bytes) (r : Record) → isTable s r ≡ true → isListin
     → lookup (puts (tableIn s r) (mapped asEntry (only (uncovered (tableIn s r) a) (treeIn g)))) a ≡ some e → length (bodyOf e) ≤ 16777216
 top-small s g r h i a e f =
     let d = decoded s r h in
-    let z = leb-true (length s) 16777216 (and-true (leb (r .«entry_size») 4096) (leb (length s) 16777216) (d .size) .1) in
+    let z = d .length-most in
     let fit = d .fits in
     let o = loose-top (tableIn s r) (treeIn g) a in
     elim (opt (lookup (tableIn s r) a)) [

@@ -105,15 +105,7 @@ pub fn foretell<'a>(
         (now (source .entry)) (now (destination .entry)) r ⌝ }
 {
     let len = first_len(listing, table, rec, source);
-    rename_measure::projected_move(
-        listing,
-        table,
-        rec,
-        source,
-        destination,
-        whole,
-        len,
-    )
+    rename_measure::projected_move(listing, table, rec, source, destination, whole, len)
 }
 
 // What the call is refused with by 11, 12 and 13, or the record that it leaves, once all checks before these passed.

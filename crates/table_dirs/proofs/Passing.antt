@@ -4,9 +4,7 @@ use mathlib.Core.List.{List, [], _∷_}
 use mathlib.Core.Bool.{true}
 use Prim.Native.Nat.{ℕ, _+_, _*_, _≤_}
 use native.Mathlib.Omega.{arith}
-use lib.Dec.{leb}
 use lib.ListN.{length, take, drop, length-take}
-use borrow.Author.Tests.{leb-true}
 use Rattle.model.specs.Bytes.{Bytes, before}
 use Rattle.model.specs.Path.{Path, isPath}
 use Rattle.model.specs.Map.{ascends, put, puts, each}
@@ -76,8 +74,7 @@ module _ (v : Entry) (s : Bytes) (p : Path) (es : List ℕ) (r : Record) where
       → Measuring v s p es r 0 q r
   measuring-begun q h c e =
       let d = decoded s r h in
-      let z = and-true (leb (r .«entry_size») 4096) (leb (length s) 16777216) (d .size) in
-      let l = leb-true (length s) 16777216 (z .1) in
+      let l = d .length-most in
       let u : r .used ≡ length (encode (tableIn s r)) = ap (λ (x : Record). x .used) (d .rec) in
       let f = d .fits in
       record {
@@ -95,7 +92,7 @@ module _ (v : Entry) (s : Bytes) (p : Path) (es : List ℕ) (r : Record) where
     measuring-counts h b =
         let x = m .measured .passed in
         let E : ℕ = a .«entry_size» in
-        let z = leb-true (r .«entry_size») 4096 (and-true (leb (r .«entry_size») 4096) (leb (length s) 16777216) (decoded s r h .size) .0) in
+        let z = decoded s r h .size-most in
         let y : E ≤ 4096 = (let f = m .size in omega arith) in
         let g = bounds E (m .t) y in
         let g0 = g .0 in

@@ -5,10 +5,9 @@ use mathlib.Core.Bool.{true}
 use Prim.Native.Nat.{ℕ, zero, suc, _+_, _-_, _^_, _/_, _<_, _≤_}
 use native.Mathlib.Omega.{arith}
 use native.Mathlib.Nat.{pow-succ'}
-use lib.Dec.{leb, eqb}
+use lib.Dec.{eqb}
 use lib.ListN.{length, take, drop, replicate, length-append, length-drop}
 use lib.Seq.{drop-drop, drop-append-seam}
-use borrow.Author.Tests.{leb-true}
 use Rattle.model.specs.Bytes.{Bytes, every, number, numberAt, bytes, before}
 use Rattle.model.specs.Path.{Path, isPath}
 use Rattle.model.specs.Map.{ascends}
@@ -179,7 +178,7 @@ pub table-stands : (s : Bytes) (r : Record) → isTable s r ≡ true → Standin
 table-stands s r h =
     let d = decoded s r h in
     record {
-      small = leb-true (length s) 16777216 (and-true (leb (r .«entry_size») 4096) (leb (length s) 16777216) (d .size) .1);
+      small = d .length-most;
       within = omega arith;
       rest = replicate (length s - length (encode (tableIn s r))) 0;
       bytes = d .bytes;

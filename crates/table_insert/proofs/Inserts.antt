@@ -13,7 +13,7 @@ use Rattle.model.specs.Map.{put}
 use Rattle.model.specs.Tree.{Entry, Table}
 use Rattle.model.specs.Table.{bodyOf, entryBytes, encode, charge, recordOf, entryOf, entriesAt, tableIn, isTable}
 use Rattle.model.specs.declared.Record.{Record}
-use Rattle.model.proofs.Orders.{and-true, test, yea, nay, bot}
+use Rattle.model.proofs.Orders.{test, yea, nay, bot}
 use Rattle.model.proofs.Codec.{decoded, entry-length}
 use Rattle.table_entries.specs.declared.Place.{Place}
 use Rattle.table_entries.specs.Place.{endOf}
@@ -42,9 +42,8 @@ pub counts-all : (s : Bytes) (r : Record) → isTable s r ≡ true → Counts s 
 counts-all s r h =
     let d = decoded s r h in
     let e = d .rec in
-    let z = and-true (leb (r .«entry_size») 4096) (leb (length s) 16777216) (d .size) in
-    let E = leb-true (r .«entry_size») 4096 (z .0) in
-    let S = leb-true (length s) 16777216 (z .1) in
+    let E = d .size-most in
+    let S = d .length-most in
     let b = bounds (r .«entry_size») (tableIn s r) E in
     let b0 = b .0 in
     let b1 = b .1 in

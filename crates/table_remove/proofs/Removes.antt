@@ -4,16 +4,14 @@ use mathlib.Core.List.{[], _∷_, _++_}
 use mathlib.Core.Bool.{Bool, true, false}
 use Prim.Native.Nat.{ℕ, _+_, _-_, _<_, _≤_}
 use native.Mathlib.Omega.{arith}
-use lib.Dec.{leb}
 use lib.ListN.{length, take, drop, length-append}
-use borrow.Author.Tests.{leb-true}
 use Rattle.model.specs.Bytes.{Bytes, numberAt, same, before}
 use Rattle.model.specs.Path.{Path}
 use Rattle.model.specs.Map.{del}
 use Rattle.model.specs.Tree.{Entry, Table}
 use Rattle.model.specs.Table.{bodyOf, encode, charge, recordOf, keyAt, entryAt, entriesAt, tableIn, isTable}
 use Rattle.model.specs.declared.Record.{Record}
-use Rattle.model.proofs.Orders.{Lt, Lt-irrefl, Lt-trans, Lt-≢, Cmp, cmp, same-no, same-refl, test, yea, nay, and-true}
+use Rattle.model.proofs.Orders.{Lt, Lt-irrefl, Lt-trans, Lt-≢, Cmp, cmp, same-no, same-refl, test, yea, nay}
 use Rattle.model.proofs.Maps.{Above, Ascending, above-trans, ascends-is}
 use Rattle.model.proofs.Codec.{decoded, entry-length, same-is}
 use Rattle.base_fields.specs.Write.{overwritten}
@@ -187,9 +185,9 @@ module _ (s : Bytes) (r : Record) (k : Path) (left at : ℕ) (h : isTable s r �
           (λ (n : ℕ). (24 + length k + n ≤ bytesOf all) × (1 ≤ length all) × (chargeBy (r .«entry_size») (length k) n ≤ charge (r .«entry_size») all))
           (sym is-body) c) in
           let g0 = g .0 in
-          let z = and-true (leb (r .«entry_size») 4096) (leb (length s) 16777216) (decoded s r h .size) in
-          let S = leb-true (length s) 16777216 (z .1) in
-          ((leb-true (r .«entry_size») 4096 (z .0), omega arith, omega arith), g)
+          let d = decoded s r h in
+          let S = d .length-most in
+          ((d .size-most, omega arith, omega arith), g)
 
       pub taken-out : (q : Record) → q ≡ lessened r (length k) m → q ≡ recordOf (r .«entry_size») (del k all)
       taken-out q e =

@@ -8,20 +8,13 @@ use Rattle.model.proofs.Codec.{charge-is}
 use Rattle.least_rename.proofs.Needing.{plan-stopped, plan-sums, charge-small, at-most}
 use Rattle.least_rename.proofs.plan_need.Statement.{statement}
 use Rattle.least_rename.proofs.plan_need.Tie as tie
-use Rattle.least_rename.proofs.plan_need.Reads as reads
-use Rattle.least_rename.proofs.plan_need.Lts as lts
-use Rattle.least_rename.proofs.walk_need.Reads as walk-need-reads
-use Rattle.rename_plan.proofs.planned_sum.Reads as planned-sum-reads
 
--- src/lib.rt:95:9
 walk-need-requires : tie.Need-walk-need-requires
 walk-need-requires c κs = search needs
 
--- src/lib.rt:98:13
 enum-told : tie.Need-enum-told
 enum-told c = search needs
 
--- src/lib.rt:98:13
 returns : tie.Need-returns
 returns c =
     let a = c .before .before .before .before .before .before .before .args in (
@@ -30,29 +23,28 @@ returns c =
       tt,
     )
 
--- src/lib.rt:100:23
 enum-known-walk : tie.Need-enum-known-walk
 enum-known-walk c = search needs
 
--- src/lib.rt:101:17
 planned-sum-requires : tie.Need-planned-sum-requires
 planned-sum-requires c κs = search needs
 
--- src/lib.rt:102:34
 add-t9 : tie.Need-add-t9
 add-t9 c =
     let e = c .before .before .before .before .before .before .before .before .before .before in
     omega (arith, charge-small (e .args .table .now) (e .args .rec) (e .pre .0 .is-table), c .before .planned-sum .ensures .1)
 
--- src/lib.rt:102:34
 add-t10 : tie.Need-add-t10
 add-t10 c =
     let e = c .before .before .before .before .before .before .before .before .before .before in
     let w = c .before .before .before .before .before .walk-need in
-    omega (arith, charge-small (e .args .table .now) (e .args .rec) (e .pre .0 .is-table), c .before .planned-sum .ensures .1,
-    at-most 0x1_0000_0000_0000 (w .result) (w .ensures .1) _ (c .before .before .before .walk .given .1))
+    omega (
+      arith,
+      charge-small (e .args .table .now) (e .args .rec) (e .pre .0 .is-table),
+      c .before .planned-sum .ensures .1,
+      at-most 0x1_0000_0000_0000 (w .result) (w .ensures .1) _ (c .before .before .before .walk .given .1),
+    )
 
--- src/lib.rt:102:13
 returns-2 : tie.Need-returns-2
 returns-2 c =
     let e = c .before .before .before .before .before .before .before .before .before .before in

@@ -4,27 +4,17 @@ use Rattle.model.specs.Listing.{treeIn}
 use Rattle.model.specs.Table.{tableIn}
 use Rattle.check_judged.specs.Judged.{checkOf}
 use Rattle.call_answer.specs.Meets.{stored}
-use Rattle.least_need.proofs.Buffers.{used-is, used-within}
+use Rattle.least_need.proofs.Buffers.{used-is, used-most}
 use Rattle.least_rename.proofs.Reporting.{paths-refused, types-refused, both-passed, itself-known}
 use Rattle.least_rename.proofs.report_admitted.Statement.{statement}
 use Rattle.least_rename.proofs.report_admitted.Tie as tie
-use Rattle.least_rename.proofs.report_admitted.Reads as reads
-use Rattle.least_rename.proofs.report_admitted.Lts as lts
-use Rattle.check_judged.proofs.is_refused.Reads as is-refused-reads
-use Rattle.least_rename.proofs.report_move.Reads as report-move-reads
-use Rattle.rename_checks.proofs.check_paths.Reads as check-paths-reads
-use Rattle.rename_checks.proofs.check_types.Reads as check-types-reads
-use Rattle.rename_checks.proofs.is_onto_itself.Reads as is-onto-itself-reads
 
--- src/lib.rt:189:9
 check-paths-requires : tie.Need-check-paths-requires
 check-paths-requires c κs = search needs
 
--- src/lib.rt:190:8
 is-refused-requires : tie.Need-is-refused-requires
 is-refused-requires c κs = search needs
 
--- src/lib.rt:191:9
 returns : tie.Need-returns
 returns c =
     let e = c .before .before .before .before .before .before .before in
@@ -36,11 +26,9 @@ returns c =
     paths-refused (a .rec .«entry_size») t l (a .source .now) (a .destination .now) (a .rec .used) (checkOf (j .result)) (j .ensures) (i .result) (i .ensures)
     (c .if1 .taken)
 
--- src/lib.rt:193:8
 is-onto-itself-requires : tie.Need-is-onto-itself-requires
 is-onto-itself-requires c κs = search needs
 
--- src/lib.rt:194:9
 returns-2 : tie.Need-returns-2
 returns-2 c =
     let e = c .before .before .before .before .before .before .before .before .before in
@@ -52,17 +40,14 @@ returns-2 c =
     let o = c .before .is-onto-itself in
     let s = stored (a .table .now) (a .rec) in
     itself-known (a .rec .«entry_size») t l (a .source .now) (a .destination .now) (a .rec .used) (o .result) (o .ensures) (c .if2 .taken)
-    (checkOf (j .result)) (j .ensures) (i .result) (i .ensures) (c .before .before .if1 .left) (used-is s (e .pre .0 .is-table)) (used-within s (e .pre .0 .is-table))
+    (checkOf (j .result)) (j .ensures) (i .result) (i .ensures) (c .before .before .if1 .left) (used-is s (e .pre .0 .is-table)) (used-most s (e .pre .0 .is-table))
 
--- src/lib.rt:196:9
 check-types-requires : tie.Need-check-types-requires
 check-types-requires c κs = search needs
 
--- src/lib.rt:197:8
 is-refused-requires-2 : tie.Need-is-refused-requires-2
 is-refused-requires-2 c κs = search needs
 
--- src/lib.rt:198:9
 returns-3 : tie.Need-returns-3
 returns-3 c =
     let e = c .before .before .before .before .before .before .before .before .before .before .before .before in
@@ -75,7 +60,6 @@ returns-3 c =
     types-refused (a .rec .«entry_size») t l (a .source .now) (a .destination .now) (a .rec .used) (o .result) (o .ensures) (c .before .before .before .if2 .left)
     (checkOf (k .result)) (k .ensures) (m .result) (m .ensures) (c .if3 .taken)
 
--- src/lib.rt:200:5
 report-move-requires : tie.Need-report-move-requires
 report-move-requires c κs =
     let e = c .before .before .before .before .before .before .before .before .before .before .before .before in
@@ -92,7 +76,6 @@ report-move-requires c κs =
     (c .if3 .left) in
     (e .pre .0, (e .pre .1, r))
 
--- src/lib.rt:177:1
 returns-4 : tie.Need-returns-4
 returns-4 c = search needs
 

@@ -2,29 +2,19 @@
 use borrow.Author.Needs.{needs}
 use Rattle.model.specs.Listing.{treeIn}
 use Rattle.model.specs.Table.{tableIn}
+use Rattle.model.proofs.Codec.{decoded}
 use Rattle.view_at.specs.Sight.{visibleKind}
 use Rattle.rename_checks.proofs.Passed.{kind-whole}
-use Rattle.least_rename.proofs.Needing.{size-small}
 use Rattle.least_rename.proofs.Reporting.{move-stopped, move-known}
 use Rattle.least_rename.proofs.report_move.Statement.{statement}
 use Rattle.least_rename.proofs.report_move.Tie as tie
-use Rattle.least_rename.proofs.report_move.Reads as reads
-use Rattle.least_rename.proofs.report_move.Lts as lts
-use Rattle.least_rename.proofs.directory_need.Reads as directory-need-reads
-use Rattle.least_rename.proofs.report_of.Reads as report-of-reads
-use Rattle.rename_settle.proofs.foretell.Reads as foretell-reads
-use Rattle.view_at.proofs.is_directory.Reads as is-directory-reads
-use Rattle.view_at.proofs.visible_at.Reads as visible-at-reads
 
--- src/lib.rt:161:9
 visible-at-requires : tie.Need-visible-at-requires
 visible-at-requires c κs = search needs
 
--- src/lib.rt:162:9
 is-directory-requires : tie.Need-is-directory-requires
 is-directory-requires c κs = search needs
 
--- src/lib.rt:163:9
 directory-need-requires : tie.Need-directory-need-requires
 directory-need-requires c κs =
     let e = c .before .before .before .before .before .before in
@@ -37,11 +27,9 @@ directory-need-requires c κs =
     let k = kind-whole t l (a .source .now) (a .destination .now) (p .1 .1) (visibleKind (v .result)) (v .ensures) (d .result) (d .ensures) in
     (p .0, (p .1 .0, k))
 
--- src/lib.rt:166:13
 enum-told : tie.Need-enum-told
 enum-told c = search needs
 
--- src/lib.rt:166:13
 returns : tie.Need-returns
 returns c =
     let e = c .before .before .before .before .before .before .before .before .before in
@@ -52,11 +40,9 @@ returns c =
     move-stopped (a .rec .«entry_size») t l (a .source .now) (a .destination .now) (a .rec .used) (e .pre .1 .1) (n .result) (n .ensures .0)
     (c .enum-told .given .1)
 
--- src/lib.rt:168:23
 enum-known-needed : tie.Need-enum-known-needed
 enum-known-needed c = search needs
 
--- src/lib.rt:169:17
 foretell-requires : tie.Need-foretell-requires
 foretell-requires c κs =
     let e = c .before .before .before .before .before .before .before .before .before .before in
@@ -69,11 +55,9 @@ foretell-requires c κs =
     let k = kind-whole t l (a .source .now) (a .destination .now) (p .1 .1) (visibleKind (v .result)) (v .ensures) (d .result) (d .ensures) in
     (p .0, (p .1 .0, (p .1 .1, k)))
 
--- src/lib.rt:170:13
 report-of-requires : tie.Need-report-of-requires
 report-of-requires c κs = search needs
 
--- src/lib.rt:170:13
 returns-2 : tie.Need-returns-2
 returns-2 c =
     let e = c .before .before .before .before .before .before .before .before .before .before .before .before in
@@ -83,7 +67,7 @@ returns-2 c =
     let n = c .before .before .before .before .before .directory-need in
     let f = c .before .foretell in
     move-known (a .rec .«entry_size») t l (a .source .now) (a .destination .now) (a .rec .used) (e .pre .1 .1)
-    (size-small (a .table .now) (a .rec) (e .pre .0 .is-table)) (n .result) (n .ensures .0) (n .ensures .1) _ (c .before .before .before .needed .given .1)
+    (decoded (a .table .now) (a .rec) (e .pre .0 .is-table) .size-most) (n .result) (n .ensures .0) (n .ensures .1) _ (c .before .before .before .needed .given .1)
     (f .result) (f .ensures) (c .report-of .result) (c .report-of .ensures)
 
 pub report-move-spec : {M : Type 1} → statement M

@@ -8,40 +8,28 @@ use Rattle.check_lent.proofs.Firsts.{both-paths}
 use Rattle.least_rename.proofs.Reporting.{not-admitted, admitted, not-formed, reported}
 use Rattle.least_rename.proofs.report_rename.Statement.{statement}
 use Rattle.least_rename.proofs.report_rename.Tie as tie
-use Rattle.least_rename.proofs.report_rename.Reads as reads
-use Rattle.least_rename.proofs.report_rename.Lts as lts
-use Rattle.check_lent.proofs.check_paths.Reads as check-paths-reads
-use Rattle.check_lent.proofs.admitted.Reads as admitted-reads
-use Rattle.least_rename.proofs.report_admitted.Reads as report-admitted-reads
 
--- src/lib.rt:215:9
 admitted-requires : tie.Need-admitted-requires
 admitted-requires c κs = search needs
 
--- src/lib.rt:217:25
 enum-known-admitted : tie.Need-enum-known-admitted
 enum-known-admitted c = search needs
 
--- src/lib.rt:218:13
 returns : tie.Need-returns
 returns c =
     let a = c .before .before .before .before .before .before .before .before .args in
     let j = c .before .before .before .admitted in
     not-admitted (a .listing .now) (a .table .now) (a .rec) (a .source .now) (a .destination .now) (j .result) (j .ensures) _ (c .before .admitted2 .given .1)
 
--- src/lib.rt:221:17
 enum-told : tie.Need-enum-told
 enum-told c = search needs
 
--- src/lib.rt:221:17
 check-paths-requires : tie.Need-check-paths-requires
 check-paths-requires c κs = search needs
 
--- src/lib.rt:223:33
 enum-known-forms : tie.Need-enum-known-forms
 enum-known-forms c = search needs
 
--- src/lib.rt:224:21
 returns-2 : tie.Need-returns-2
 returns-2 c =
     let a = c .before .before .before .before .before .before .before .before .before .before .before .args in
@@ -50,11 +38,9 @@ returns-2 c =
     not-formed (a .listing .now) (a .table .now) (a .rec) (a .source .now) (a .destination .now) (j .result) (j .ensures) (c .before .before .before .before .enum-told .given .1)
     (k .result) (k .ensures) _ (c .before .forms .given .1)
 
--- src/lib.rt:227:21
 enum-told-2 : tie.Need-enum-told-2
 enum-told-2 c = search needs
 
--- src/lib.rt:227:21
 report-admitted-requires : tie.Need-report-admitted-requires
 report-admitted-requires c κs =
     let a = c .before .before .before .before .before .before .before .before .before .before .args in
@@ -64,7 +50,6 @@ report-admitted-requires c κs =
       both-paths (a .source .now) (a .destination .now) (sym (k .ensures) ∙ ap checkOf (c .enum-told2 .given .1)),
     )
 
--- src/lib.rt:227:21
 returns-3 : tie.Need-returns-3
 returns-3 c =
     let a = c .before .before .before .before .before .before .before .before .before .before .before .args in

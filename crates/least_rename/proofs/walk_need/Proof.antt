@@ -11,31 +11,25 @@ use Rattle.model.proofs.Codec.{path-short}
 use Rattle.least_rename.proofs.Needing.{tree-fine, walk-stopped, walk-sums, walk-not, sum-none, sum-some}
 use Rattle.least_rename.proofs.walk_need.Statement.{statement}
 use Rattle.least_rename.proofs.walk_need.Tie as tie
-use Rattle.least_rename.proofs.walk_need.Reads as reads
-use Rattle.least_rename.proofs.walk_need.Lts as lts
-use Rattle.least_walk.proofs.reached_total.Reads as reached-total-reads
-use Rattle.rename_plan.proofs.is_listed_directory.Reads as is-listed-directory-reads
 
--- src/lib.rt:65:8
 is-listed-directory-requires : tie.Need-is-listed-directory-requires
 is-listed-directory-requires c κs = search needs
 
--- src/lib.rt:66:13
 reached-total-requires : tie.Need-reached-total-requires
 reached-total-requires c κs = search needs
 
--- src/lib.rt:68:13
 returns : tie.Need-returns
 returns c =
     let a = c .before .before .before .before .before .before .before .args in
     let f = tree-fine (a .listing .now) (λ i. omega (arith, c .before .before .before .before .before .before .shared-slice-known .given i)) (c .before .before .before .before .before .before .before .pre .0 .is-listing) in
     let t = tableIn (a .table .now) (a .rec) in
     let l = treeIn (a .listing .now) in
-    let k = kind (lookup l) (a .source .now) in
-    (walk-stopped t l (a .source .now) f k (c .before .before .before .is-listed-directory .result) (c .before .before .before .is-listed-directory .ensures)
-    (c .before .before .if1 .taken) (c .before .reached-total .result .stops) (c .before .reached-total .ensures .1 .0) (c .if2 .taken), tt)
+    let k = kind (lookup l) (a .source .now) in (
+      walk-stopped t l (a .source .now) f k (c .before .before .before .is-listed-directory .result) (c .before .before .before .is-listed-directory .ensures)
+          (c .before .before .if1 .taken) (c .before .reached-total .result .stops) (c .before .reached-total .ensures .1 .0) (c .if2 .taken),
+      tt,
+    )
 
--- src/lib.rt:71:13
 returns-2 : tie.Need-returns-2
 returns-2 c =
     let a = c .before .before .before .before .before .before .before .before .before .args in
@@ -43,26 +37,24 @@ returns-2 c =
     let t = tableIn (a .table .now) (a .rec) in
     let l = treeIn (a .listing .now) in
     let k = kind (lookup l) (a .source .now) in
-    let r = c .before .before .before .reached-total in
-    (walk-sums t l (a .source .now) f k (c .before .before .before .before .before .is-listed-directory .result)
-    (c .before .before .before .before .before .is-listed-directory .ensures) (c .before .before .before .before .if1 .taken) (r .result .stops)
-    (r .ensures .1 .0) (c .before .before .if2 .left) (r .result .sum) (r .ensures .0) 0 (sum-none (2 * length (a .source .now) + 1) (r .result .sum) (c .if3 .taken)), omega arith)
+    let r = c .before .before .before .reached-total in (
+      walk-sums t l (a .source .now) f k (c .before .before .before .before .before .is-listed-directory .result)
+          (c .before .before .before .before .before .is-listed-directory .ensures) (c .before .before .before .before .if1 .taken) (r .result .stops)
+          (r .ensures .1 .0) (c .before .before .if2 .left) (r .result .sum) (r .ensures .0) 0 (sum-none (2 * length (a .source .now) + 1) (r .result .sum) (c .if3 .taken)),
+      omega arith,
+    )
 
--- src/lib.rt:73:30
 mul-t10 : tie.Need-mul-t10
 mul-t10 c = search needs
 
--- src/lib.rt:73:30
 add-t11 : tie.Need-add-t11
 add-t11 c = search needs
 
--- src/lib.rt:73:30
 add-t12 : tie.Need-add-t12
 add-t12 c =
     let e = c .before .before .before .before .before .before .before .before .before .before in
     omega (arith, path-short (e .args .source .now) (e .pre .1), c .before .before .before .before .reached-total .ensures .1 .1)
 
--- src/lib.rt:73:9
 returns-3 : tie.Need-returns-3
 returns-3 c =
     let a = c .before .before .before .before .before .before .before .before .before .before .args in
@@ -70,12 +62,13 @@ returns-3 c =
     let t = tableIn (a .table .now) (a .rec) in
     let l = treeIn (a .listing .now) in
     let k = kind (lookup l) (a .source .now) in
-    let r = c .before .before .before .before .reached-total in
-    (walk-sums t l (a .source .now) f k (c .before .before .before .before .before .before .is-listed-directory .result)
-    (c .before .before .before .before .before .before .is-listed-directory .ensures) (c .before .before .before .before .before .if1 .taken) (r .result .stops)
-    (r .ensures .1 .0) (c .before .before .before .if2 .left) (r .result .sum) (r .ensures .0) _ (sum-some (2 * length (a .source .now) + 1) (r .result .sum) (c .before .if3 .left)), omega (arith, path-short (a .source .now) (c .before .before .before .before .before .before .before .before .before .before .pre .1), r .ensures .1 .1))
+    let r = c .before .before .before .before .reached-total in (
+      walk-sums t l (a .source .now) f k (c .before .before .before .before .before .before .is-listed-directory .result)
+          (c .before .before .before .before .before .before .is-listed-directory .ensures) (c .before .before .before .before .before .if1 .taken) (r .result .stops)
+          (r .ensures .1 .0) (c .before .before .before .if2 .left) (r .result .sum) (r .ensures .0) _ (sum-some (2 * length (a .source .now) + 1) (r .result .sum) (c .before .if3 .left)),
+      omega (arith, path-short (a .source .now) (c .before .before .before .before .before .before .before .before .before .before .pre .1), r .ensures .1 .1),
+    )
 
--- src/lib.rt:54:1
 returns-4 : tie.Need-returns-4
 returns-4 c =
     let a = c .before .before .before .before .before .args in

@@ -3,33 +3,23 @@ use borrow.Author.Needs.{needs}
 use Rattle.overlay.proofs.Reporting.{no-record, no-least, report-fits, report-settled}
 use Rattle.overlay.proofs.overlay_least_rename.Statement.{statement}
 use Rattle.overlay.proofs.overlay_least_rename.Tie as tie
-use Rattle.overlay.proofs.overlay_least_rename.Reads as reads
-use Rattle.overlay.proofs.overlay_least_rename.Lts as lts
-use Rattle.least_rename.proofs.report_rename.Reads as report-rename-reads
-use Rattle.overlay_packed.proofs.record_in.Reads as record-in-reads
-use Rattle.overlay_packed.proofs.store_and_pack_report.Reads as store-and-pack-report-reads
 
--- src/lib.rt:381:9
 returns : tie.Need-returns
 returns c =
     let a = c .before .before .before .before .before .before .before .args in
     no-record (a .listing .now) (a .table .now) (a .rec .now) (a .least .now) (a .source .now) (a .destination .now) (c .if1 .taken)
 
--- src/lib.rt:384:9
 returns-2 : tie.Need-returns-2
 returns-2 c =
     let a = c .before .before .before .before .before .before .before .before .args in
     no-least (a .listing .now) (a .table .now) (a .rec .now) (a .least .now) (a .source .now) (a .destination .now) (c .before .if1 .left) (c .if2 .taken)
 
--- src/lib.rt:386:9
 record-in-requires : tie.Need-record-in-requires
 record-in-requires c κs = search needs
 
--- src/lib.rt:387:9
 report-rename-requires : tie.Need-report-rename-requires
 report-rename-requires c κs = search needs
 
--- src/lib.rt:388:5
 store-and-pack-report-requires : tie.Need-store-and-pack-report-requires
 store-and-pack-report-requires c κs =
     let a = c .before .before .before .before .before .before .before .before .before .before .before .args in
@@ -37,11 +27,9 @@ store-and-pack-report-requires c κs =
     let r = c .before .report-rename in
     (c .before .before .before .if2 .left, report-fits (a .listing .now) (a .table .now) (a .rec .now) (a .least .now) (a .source .now) (a .destination .now) (n .result) (n .ensures) (r .result) (r .ensures))
 
--- src/lib.rt:368:1
 same-length : tie.Need-same-length
 same-length c = search needs
 
--- src/lib.rt:368:1
 returns-3 : tie.Need-returns-3
 returns-3 c =
     let a = c .before .before .before .before .before .before .before .before .before .before .before .before .before .before .args in

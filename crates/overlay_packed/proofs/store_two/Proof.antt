@@ -3,22 +3,16 @@ use borrow.Author.Needs.{needs}
 use Rattle.overlay_packed.proofs.Packing.{two-stored}
 use Rattle.overlay_packed.proofs.store_two.Statement.{statement}
 use Rattle.overlay_packed.proofs.store_two.Tie as tie
-use Rattle.overlay_packed.proofs.store_two.Reads as reads
-use Rattle.overlay_packed.proofs.store_two.Lts as lts
 
--- src/lib.rt:171:5
 slice-write-pair : tie.Need-slice-write-pair
 slice-write-pair c = search needs
 
--- src/lib.rt:172:5
 slice-write-pair-2 : tie.Need-slice-write-pair-2
 slice-write-pair-2 c = search needs
 
--- src/lib.rt:167:1
 same-length : tie.Need-same-length
 same-length c = search needs
 
--- src/lib.rt:167:1
 returns : tie.Need-returns
 returns c = two-stored (c .args .pair .now) (c .pre) _ _
 
