@@ -1,6 +1,6 @@
 /* A table over a listing, from C: directories and files are made, moved and deleted, by one call after the other and
- * by a script; files are added to and written inside; directories are shown; table and listing are kept in a file's
- * bytes and read again; and each answer is printed. */
+ * by a script; what a move needs is asked; files are added to and written inside; directories are shown; table and
+ * listing are kept in a file's bytes and read again; and each answer is printed. */
 #include <stdio.h>
 #include <string.h>
 
@@ -19,6 +19,7 @@ struct plan {
 #define LENT(plan) TABLE(plan), (plan)->work, sizeof(plan)->work
 #define PATH(text) (const uint8_t *)(text), strlen(text)
 #define PLACE place, OVERLAY_PLACE_LENGTH
+#define LEAST least, OVERLAY_LEAST_LENGTH
 
 /* A published tree of one directory `a` with a file `a/f` of 5 bytes. */
 static const uint8_t listing[] = {'R', 'D', 'L', 1, 0, 2, 0, 0, 0,
@@ -117,6 +118,45 @@ static void change_content(void) {
         differences++;
 }
 
+/* Asks what would let a rename through. Prints the two numbers, and counts them where they or the value are others. */
+static void expect_least(const struct plan *plan, const char *source, const char *destination, uint64_t value,
+                         uint64_t limit, uint64_t length) {
+    uint64_t least[OVERLAY_LEAST_LENGTH] = {8, 9};
+    char call[40];
+
+    snprintf(call, sizeof call, "least for %s %s", source, destination);
+    expect(call, overlay_least_rename(LISTING, TABLE(plan), PATH(source), PATH(destination), LEAST), OVERLAY_ACCEPTED,
+           value);
+    printf("  limit %llu, table %llu bytes\n", (unsigned long long)least[OVERLAY_LEAST_LIMIT],
+           (unsigned long long)least[OVERLAY_LEAST_TABLE_LENGTH]);
+    if (least[OVERLAY_LEAST_LIMIT] != limit || least[OVERLAY_LEAST_TABLE_LENGTH] != length) {
+        printf("  expected %llu and %llu\n", (unsigned long long)limit, (unsigned long long)length);
+        differences++;
+    }
+}
+
+/* Asks what moving `a` to `b/c/a` needs, moves it, and asks what moving it back needs.
+ * The table holds b (charge 297, 25 bytes), b/c (299, 27) and b/c/g (306, 34): 902 in 86 bytes. The move adds a (297,
+ * 25) and a/f (299, 27) as deleted, b/c/a (301, 29), and b/c/a/f (306, 34) as a reference to a/f: 2,105 in 201 bytes.
+ * Its walk asks for less, 902 + 3 + 518. Moving it back changes neither sum; it plans 2 * 7 + 3 + 256 for the key
+ * b/c/a/f, beside the charge. */
+static void move_with_the_least(struct plan *plan) {
+    uint64_t least[OVERLAY_LEAST_LENGTH] = {8, 9};
+
+    expect_least(plan, "a", "b/c/a", 1, 2105, 201);
+    expect("rename a b/c/a at 2104", overlay_rename(LISTING, LENT(plan), PATH("a"), PATH("b/c/a"), 2104),
+           OVERLAY_LIMIT, 0);
+    expect("rename a b/c/a at 2105", overlay_rename(LISTING, LENT(plan), PATH("a"), PATH("b/c/a"), 2105),
+           OVERLAY_ACCEPTED, 0);
+    expect_least(plan, "b/c/a", "a", 1, 2378, 201);
+    expect_least(plan, "b/c/a", "b/c/a", 1, 0, 201);
+    expect_least(plan, "b", "b/c/b", 0, 0, 0);
+    expect("least for .. a", overlay_least_rename(LISTING, TABLE(plan), PATH(".."), PATH("a"), LEAST),
+           OVERLAY_MALFORMED_PATH, 0);
+    if (least[OVERLAY_LEAST_LIMIT] != 8 || least[OVERLAY_LEAST_TABLE_LENGTH] != 9)
+        differences++;
+}
+
 /* Prints the names that were written for a shown directory. Each stands behind its length in 16 bits. */
 static void print_names(const uint8_t *names, size_t length) {
     for (size_t at = 0; at < length;) {
@@ -193,8 +233,7 @@ int main(void) {
     expect("write n/g",
            overlay_write_bytes(LISTING, LENT(&plan), PATH("n/g"), PATH("hello"), one_second, no_limit),
            OVERLAY_NOT_FOUND, 3);
-    expect("rename a b/c/a", overlay_rename(LISTING, LENT(&plan), PATH("a"), PATH("b/c/a"), no_limit),
-           OVERLAY_ACCEPTED, 0);
+    move_with_the_least(&plan);
     expect("rename b/c/a b/c/a at limit 0",
            overlay_rename(LISTING, LENT(&plan), PATH("b/c/a"), PATH("b/c/a"), 0), OVERLAY_ACCEPTED, 0);
     expect("is_file b/c/a/f", overlay_is_file(LISTING, TABLE(&plan), PATH("b/c/a/f")), OVERLAY_ACCEPTED, 1);

@@ -4,17 +4,17 @@
  * The library has no state and calls nothing but memcpy, memmove and memset of the C library. Threads may call it at
  * once, each with buffers of its own.
  *
- * WHAT IS LENT. Every buffer is a pointer and a length, counted in elements (bytes, or 64-bit numbers for a record and
- * a place).
+ * WHAT IS LENT. Every buffer is a pointer and a length, counted in elements (bytes, or 64-bit numbers for a record, a
+ * place and least numbers).
  * Any bytes and any numbers may be given: each call checks what it is lent. What C itself asks is left to the caller:
  *   - the memory is there and can be read, and written where the pointer is not const;
- *   - the pointer of a record and of a place is aligned to 8 bytes;
+ *   - the pointer of a record, of a place and of least numbers is aligned to 8 bytes;
  *   - a buffer that is not const overlaps no other buffer of the same call;
  *   - with length 0 the pointer is not looked at, and may be NULL;
  *   - a bool is 0 or 1.
  *
- * A REFUSED CALL CHANGES NOTHING: table, record, work buffer, output and place are byte for byte as they were. Only
- * overlay_run_new may leave the table opened where it does not run the script.
+ * A REFUSED CALL CHANGES NOTHING: table, record, work buffer, output, place and least numbers are byte for byte as they
+ * were. Only overlay_run_new may leave the table opened where it does not run the script.
  * An accepted changing call leaves the table with its new record, and the work buffer all 0; a script, as its last call
  * leaves them.
  *
@@ -60,7 +60,8 @@ extern "C" {
 /* The number of an answer: 0, or why the call is refused. */
 enum overlay_number {
     OVERLAY_ACCEPTED = 0,
-    OVERLAY_MALFORMED_TABLE = 1,    /* table, record, entry size, work buffer or place malformed, too short or long */
+    OVERLAY_MALFORMED_TABLE = 1,    /* table, record, entry size, work buffer, place or least numbers malformed, too
+                                       short or long */
     OVERLAY_MALFORMED_LISTING = 2,
     OVERLAY_MALFORMED_PATH = 3,     /* path */
     OVERLAY_LINK_OR_ROOT = 4,       /* path, length: a link is met, or the root is given */
@@ -88,7 +89,8 @@ enum overlay_number {
 /* An answer is packed in one number: the number above in the low 8 bits, the path (0: only or source, 1: destination)
  * in the next 8, and from bit 16 on the length of that path, or of the ancestor at which mkdir with parents met a file.
  * Accepted, these 48 bits hold the value: the data's length for a write, an append and a writing inside, the file's for
- * overlay_write_kept, the number of bytes written for overlay_show, 1 or 0 for a query, else 0. */
+ * overlay_write_kept, the number of bytes written for overlay_show, 1 or 0 for a query and for overlay_least_rename,
+ * else 0. */
 static inline int overlay_answer_number(uint64_t answer) { return (int)(answer & 0xff); }
 static inline int overlay_answer_path(uint64_t answer) { return (int)(answer >> 8 & 0xff); }
 static inline uint64_t overlay_answer_length(uint64_t answer) { return answer >> 16; }
@@ -181,6 +183,27 @@ uint64_t overlay_rename(const uint8_t *listing, size_t listing_length, uint8_t *
                         uint64_t *record, size_t record_length, uint8_t *work, size_t work_length,
                         const uint8_t *source, size_t source_length, const uint8_t *destination,
                         size_t destination_length, uint64_t limit);
+
+/* Least numbers: two numbers that say what would let a rename through. Least numbers of another length are refused with
+ * OVERLAY_MALFORMED_TABLE. */
+#define OVERLAY_LEAST_LENGTH 2
+#define OVERLAY_LEAST_LIMIT 0        /* the limit, when table and work buffer have OVERLAY_MAX_BUFFER bytes */
+#define OVERLAY_LEAST_TABLE_LENGTH 1 /* the table's length, when the limit is 2^64 - 1 and the work buffer as long */
+
+/* Tells what would let the rename of source to destination through: writes the least limit and the least length of the
+ * table with which it is accepted, the table being lengthened by zeros. With one less of either, where it is above 0,
+ * the rename is refused; both together, with a work buffer as long as the table, are enough. They are told whether or
+ * not the rename would be refused as it is. There is no work buffer, and nothing but the two numbers is changed. The
+ * value is 1. For a move onto itself the limit is 0 and the length the record's OVERLAY_RECORD_USED.
+ * Where no limit and no length would do, the value is 0, and so are both numbers: what stands against it is one of
+ * OVERLAY_LINK_OR_ROOT to OVERLAY_BELOW_SOURCE (a link that is met below the source too), OVERLAY_KEY_TOO_LONG, or
+ * entries after it of more than OVERLAY_MAX_BUFFER bytes.
+ * Refused with OVERLAY_MALFORMED_TABLE, OVERLAY_MALFORMED_LISTING or OVERLAY_MALFORMED_PATH, the first of them that
+ * holds; the two numbers are then as they were. */
+uint64_t overlay_least_rename(const uint8_t *listing, size_t listing_length, const uint8_t *table, size_t table_length,
+                              const uint64_t *record, size_t record_length, const uint8_t *source, size_t source_length,
+                              const uint8_t *destination, size_t destination_length, uint64_t *least,
+                              size_t least_length);
 
 /* A SCRIPT is a list of changing calls as bytes: the mark "TSC1" or "TSC2", a 32-bit count, then the steps: kind (8
  * bits: 1 write, 2 mkdir, 3 unlink, 4 rmdir, 5 rename, and only in TSC2 6 append, 7 writing inside), flags (8 bits, for

@@ -6,8 +6,10 @@
 //!
 //! [`Overlay`] owns its buffers, [`OverlayMut`] borrows them, and [`raw`] has the calls on plain slices.
 //! [`Overlay::append_bytes`] adds to a file, a listed one too, and [`Overlay::write_file_at`] writes inside an own one.
-//! [`Overlay::show`] shows a directory, and [`Overlay::walk`] goes through the whole visible tree. A [`Script`] is a
-//! list of calls, to be run as one. [`Overlay::save`] and [`Overlay::load`] keep a table and its listing in a file.
+//! [`Overlay::show`] shows a directory, and [`Overlay::walk`] goes through the whole visible tree.
+//! [`Overlay::least_rename`] tells what would let a rename through, and [`Overlay::rename_or_least`] tells it where the
+//! rename is refused. A [`Script`] is a list of calls, to be run as one. [`Overlay::save`] and [`Overlay::load`] keep a
+//! table and its listing in a file.
 //!
 //! ```
 //! use overlay::{EMPTY_LISTING, Mkdir, Overlay, Refusal};
@@ -31,6 +33,7 @@
 mod content;
 mod entries;
 mod kept;
+mod least;
 pub mod raw;
 mod refusal;
 mod script;
@@ -39,6 +42,7 @@ mod show;
 pub use content::ListedFile;
 pub use entries::{Entries, Entry, EntryKind};
 pub use kept::{FileError, KEPT_ENTRY_SIZE, KEPT_OVERHEAD, KeptListing};
+pub use least::{Least, RefusedRename};
 pub use refusal::{Refusal, unpack};
 pub use script::{NotRun, ROW_LENGTH, Row, Script};
 pub use show::{NameList, Names, Node, NodeKind, Walk};

@@ -1,8 +1,8 @@
 //! The calls as the library exports them: slices in, the answer packed in one number out.
 //!
 //! A record is four numbers (used, count, charge, entry size), a place two (where a listing starts in a kept file, and
-//! its length); a slice of another length is answered with 1. These functions are safe: slices that Rust lends cannot
-//! overlap where one is written, and the library takes any bytes.
+//! its length), least numbers two (a limit and a table's length); a slice of another length is answered with 1. These
+//! functions are safe: slices that Rust lends cannot overlap where one is written, and the library takes any bytes.
 
 mod exported {
     unsafe extern "C" {
@@ -40,6 +40,20 @@ mod exported {
             pn: usize,
             o: *mut u8,
             on: usize,
+        ) -> u64;
+        pub fn overlay_least_rename(
+            l: *const u8,
+            ln: usize,
+            t: *const u8,
+            tn: usize,
+            r: *const u64,
+            rn: usize,
+            p: *const u8,
+            pn: usize,
+            d: *const u8,
+            dn: usize,
+            n: *mut u64,
+            nn: usize,
         ) -> u64;
     }
 
@@ -135,6 +149,34 @@ pub fn show(listing: &[u8], table: &[u8], record: &[u64], path: &[u8], output: &
             path.len(),
             output.as_mut_ptr(),
             output.len(),
+        )
+    }
+}
+
+/// Writes to `least` what would let a rename through: the least limit and the least length of the table. The value is
+/// 1; where nothing would, it is 0, and so are both numbers.
+pub fn least_rename(
+    listing: &[u8],
+    table: &[u8],
+    record: &[u64],
+    source: &[u8],
+    destination: &[u8],
+    least: &mut [u64],
+) -> u64 {
+    unsafe {
+        exported::overlay_least_rename(
+            listing.as_ptr(),
+            listing.len(),
+            table.as_ptr(),
+            table.len(),
+            record.as_ptr(),
+            record.len(),
+            source.as_ptr(),
+            source.len(),
+            destination.as_ptr(),
+            destination.len(),
+            least.as_mut_ptr(),
+            least.len(),
         )
     }
 }

@@ -1,12 +1,13 @@
-//! Replays the vectors of calls.jsonl, worked.jsonl, kept.jsonl, show.jsonl, content.jsonl and itself.jsonl against the
-//! library: every answer, record, table, work buffer, output and place must be as they say. The rows of
-//! docs/WORKED-CALLS.md must be those of worked.jsonl, and docs/DEFINITION.md may cite no other row of those calls; the
-//! page's rows that write and read kept files and that show directories are put to the library, and the kept files that
-//! docs/FORMATS.md shows must be read as it says. With the name of a file it replays that one alone; with `--rows` it
-//! prints the rows of worked.jsonl. It says what it compared, and ends with status 1 at the first difference, and where
-//! a file has nothing of a kind that it is there for.
+//! Replays the vectors of calls.jsonl, worked.jsonl, kept.jsonl, show.jsonl, content.jsonl, itself.jsonl and
+//! least.jsonl against the library: every answer, record, table, work buffer, output, place and least number must be as
+//! they say. The rows of docs/WORKED-CALLS.md must be those of worked.jsonl, and docs/DEFINITION.md may cite no other
+//! row of those calls; the page's rows that write and read kept files and that show directories are put to the library,
+//! and the kept files that docs/FORMATS.md shows must be read as it says. With the name of a file it replays that one
+//! alone; with `--rows` it prints the rows of worked.jsonl. It says what it compared, and ends with status 1 at the
+//! first difference, and where a file has nothing of a kind that it is there for.
 mod json;
 mod kept;
+mod least;
 mod page;
 mod rows;
 mod sha256;
@@ -34,6 +35,9 @@ const CONTENT: [(&str, &[u64]); 2] = [("append", &[0, 3, 4, 5, 8, 11, 13, 17]), 
 
 /// The numbers of rename that itself.jsonl has.
 const ITSELF: (&str, &[u64]) = ("rename", &[0, 1, 3, 4, 5, 8, 11, 13]);
+
+/// The numbers of telling what would let a rename through that least.jsonl has.
+const LEAST: (&str, &[u64]) = ("least", &[0, 2, 3]);
 
 /// A vector's answer as an answer of the library: number, path, length, value.
 fn four(answer: Result<u64, Refusal>) -> [u64; 4] {
@@ -107,6 +111,7 @@ impl State {
         match call.get("op").text() {
             "keep" => return kept::keep(self, listing, call),
             "show" => return show::show(self, listing, call),
+            "least" => return least::least(self, listing, call),
             _ => {}
         }
         let (before, record_before) = (self.table.clone(), self.record);
@@ -273,6 +278,7 @@ fn compare() -> Result<(), String> {
             replay_numbers("show.jsonl", &[SHOWN])?;
             replay_numbers("content.jsonl", &CONTENT)?;
             replay_numbers("itself.jsonl", &[ITSELF])?;
+            replay_numbers("least.jsonl", &[LEAST])?;
             let rows = worked_rows(&worked)?;
             rows.stand_in(&read(&page)?).map_err(|error| format!("{page}: {error}"))?;
             rows.cited_in(&read(&definition)?).map_err(|error| format!("{definition}: {error}"))?;
