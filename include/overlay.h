@@ -191,9 +191,9 @@ uint64_t overlay_rename(const uint8_t *listing, size_t listing_length, uint8_t *
 #define OVERLAY_LEAST_TABLE_LENGTH 1 /* the table's length, when the limit is 2^64 - 1 and the work buffer as long */
 
 /* Tells what would let the rename of source to destination through: writes the least limit and the least length of the
- * table with which it is accepted, the table being lengthened by zeros. With one less of either, where it is above 0,
- * the rename is refused; both together, with a work buffer as long as the table, are enough. They are told whether or
- * not the rename would be refused as it is. There is no work buffer, and nothing but the two numbers is changed. The
+ * table with which it is accepted, the table being lengthened by zeros. With every smaller limit, and in every shorter
+ * table, the rename is refused; both together, with a work buffer as long as the table, are enough. They are told
+ * whether or not the rename would be refused as it is. There is no work buffer, and nothing but the two numbers is changed. The
  * value is 1. For a move onto itself the limit is 0 and the length the record's OVERLAY_RECORD_USED.
  * Where no limit and no length would do, the value is 0, and so are both numbers: what stands against it is one of
  * OVERLAY_LINK_OR_ROOT to OVERLAY_BELOW_SOURCE (a link that is met below the source too), OVERLAY_KEY_TOO_LONG, or

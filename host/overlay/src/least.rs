@@ -2,8 +2,8 @@
 use crate::{Overlay, OverlayMut, OverlayRef, Refusal, raw, unpack};
 use std::{error::Error, fmt};
 
-/// What a rename needs to be accepted. Each number that is above 0 is the least: with one less the rename is refused.
-/// Both together, with a work buffer as long as the table, are enough.
+/// What a rename needs to be accepted: each number is the least, with every smaller one the rename is refused. Both
+/// together, with a work buffer as long as the table, are enough.
 #[derive(Clone, Copy, Debug, PartialEq, Eq, Hash)]
 pub struct Least {
     /// The least limit with which it is accepted when table and work buffer have 16 MiB.

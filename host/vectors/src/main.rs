@@ -1,10 +1,11 @@
 //! Replays the vectors of calls.jsonl, worked.jsonl, kept.jsonl, show.jsonl, content.jsonl, itself.jsonl and
 //! least.jsonl against the library: every answer, record, table, work buffer, output, place and least number must be as
 //! they say. The rows of docs/WORKED-CALLS.md must be those of worked.jsonl, and docs/DEFINITION.md may cite no other
-//! row of those calls; the page's rows that write and read kept files and that show directories are put to the library,
-//! and the kept files that docs/FORMATS.md shows must be read as it says. With the name of a file it replays that one
-//! alone; with `--rows` it prints the rows of worked.jsonl. It says what it compared, and ends with status 1 at the
-//! first difference, and where a file has nothing of a kind that it is there for.
+//! row of those calls; the page's rows that write and read kept files, that show directories and that tell what would
+//! let a rename through are put to the library, and the kept files that docs/FORMATS.md shows must be read as it says.
+//! With the name of a file it replays that one alone; with `--rows` it prints the rows of worked.jsonl. It says what it
+//! compared, and ends with status 1 at the first difference, and where a file has nothing of a kind that it is there
+//! for.
 mod json;
 mod kept;
 mod least;
@@ -14,6 +15,7 @@ mod sha256;
 mod show;
 mod worked;
 mod worked_kept;
+mod worked_least;
 mod worked_show;
 
 use json::{Json, parse};
@@ -287,6 +289,8 @@ fn compare() -> Result<(), String> {
             println!("worked kept files: {keep} rows of writing, {read_rows} of reading, all as the page says");
             let shown = worked_show::compare(&read(&page)?).map_err(|error| format!("{page}: {error}"))?;
             println!("worked showings: {shown} rows, all as the page says");
+            let least = worked_least::compare(&read(&page)?).map_err(|error| format!("{page}: {error}"))?;
+            println!("worked least numbers: {least} rows, all as the page says");
             let formats = beside("../../docs/FORMATS.md");
             let (refused, length) = page::compare(&read(&formats)?).map_err(|error| format!("{formats}: {error}"))?;
             println!("kept files in the page: {refused} refused as it says, one of {length} bytes read as it says");

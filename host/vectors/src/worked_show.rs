@@ -11,14 +11,14 @@ const TITLE: &str = "## show a directory";
 const HEAD: &str = "| id | listing | entries | record | path | output | answer | output after | why |";
 
 /// What stands between backquotes.
-fn quoted(text: &str) -> Result<&str, String> {
+pub fn quoted(text: &str) -> Result<&str, String> {
     let inner = text.strip_prefix('`').and_then(|rest| rest.strip_suffix('`'));
     inner.filter(|inner| !inner.contains('`')).ok_or(format!("{text:?} is not in backquotes"))
 }
 
 /// The bytes of a listing: `L`, `empty`, `no bytes`, or paths, `x/` a directory, `x@` a link, `x` a file, with all mtimes
 /// and sizes 0.
-fn listing(text: &str) -> Result<Vec<u8>, String> {
+pub fn listing(text: &str) -> Result<Vec<u8>, String> {
     let mut records = Vec::new();
     match text {
         "no bytes" => return Ok(Vec::new()),
@@ -48,16 +48,19 @@ fn listing(text: &str) -> Result<Vec<u8>, String> {
     Ok(out)
 }
 
-/// The bytes of entries: `none`, or keys with what each is, with all mtimes and sizes 0 and own files without data.
-fn entries(text: &str) -> Result<Vec<u8>, String> {
+/// The bytes of entries: `none`, or keys with what each is, with all mtimes and sizes 0. An own file has no data, or so
+/// many bytes `x`.
+pub fn entries(text: &str) -> Result<Vec<u8>, String> {
     let mut out = Vec::new();
     for entry in text.split("; ").filter(|_| text != "none") {
         let (key, is) = entry.split_once(' ').ok_or(format!("{entry:?} is no entry"))?;
-        let (kind, body): (u16, &str) = match is {
-            "own" => (1, ""),
-            "directory" => (3, ""),
-            "deleted" => (4, ""),
-            _ => (2, quoted(is.strip_prefix("reference ").ok_or(format!("{is:?} is no kind"))?)?),
+        let own = is.strip_prefix("own, ").and_then(|rest| rest.strip_suffix(" bytes"));
+        let (kind, body): (u16, String) = match is {
+            "own" => (1, String::new()),
+            "directory" => (3, String::new()),
+            "deleted" => (4, String::new()),
+            _ if own.is_some() => (1, "x".repeat(number(own.unwrap_or_default())? as usize)),
+            _ => (2, quoted(is.strip_prefix("reference ").ok_or(format!("{is:?} is no kind"))?)?.to_owned()),
         };
         let key = quoted(key)?;
         out.extend((key.len() as u16).to_le_bytes());
@@ -71,7 +74,7 @@ fn entries(text: &str) -> Result<Vec<u8>, String> {
 }
 
 /// A refused answer: the number, with path and length behind it.
-fn refused(text: &str) -> Result<[u64; 4], String> {
+pub fn refused(text: &str) -> Result<[u64; 4], String> {
     let (refusal, rest) = text.split_once(" (").ok_or(format!("{text:?} is no answer"))?;
     let [path, length] = numbers::<2>(rest.trim_end_matches(')'), ", ")?;
     Ok([number(refusal)?, path, length, 0])
@@ -122,11 +125,12 @@ mod tests {
         let one = [&b"\x01\0\x02\0\x01\0\0\0"[..], &[0; 16], b"nz"].concat();
         assert_eq!(entries("`n` reference `z`"), Ok(one.clone()));
         assert_eq!(entries("`n` reference `z`; `q` deleted").map(|bytes| bytes.len()), Ok(one.len() + 25));
+        assert_eq!(entries("`n` own, 2 bytes"), Ok([&b"\x01\0\x01\0\x02\0\0\0"[..], &[0; 16], b"nxx"].concat()));
         assert_eq!((entries("none"), refused("5 (0, 3)")), (Ok(vec![]), Ok([5, 0, 3, 0])));
         for wrong in ["", "a", "`a", "`a`  `b`", "`a` b", "Empty"] {
             assert!(listing(wrong).is_err(), "{wrong}");
         }
-        for wrong in ["", "`a`", "a own", "`a` link", "`a` reference z", "`a` own; "] {
+        for wrong in ["", "`a`", "a own", "`a` link", "`a` reference z", "`a` own; ", "`a` own, x bytes"] {
             assert!(entries(wrong).is_err(), "{wrong}");
         }
         for wrong in ["5", "5 (0)", "5 (0, x)", "x (0, 0)"] {
