@@ -6,6 +6,7 @@
 
 mod contents;
 mod kept;
+mod least;
 mod shows;
 mod walks;
 
@@ -277,6 +278,9 @@ fn main() {
     }
     if word.as_deref() == Some("show") {
         return shows::rows();
+    }
+    if word.as_deref() == Some("least") {
+        return least::rows();
     }
     if word.as_deref() == Some("content") {
         return contents::rows(&SIZES);
