@@ -16,7 +16,7 @@ use Rattle.model.specs.Table.{encode, isTable, tableIn}
 use Rattle.model.specs.Checks.{Check, pass, refuse, _then_, unless, limited}
 use Rattle.model.specs.Calls.{Call, changed, forms, rules, valueOf}
 use Rattle.model.specs.Answer.{accepted}
-use Rattle.model.specs.Outcome.{Store, Request, lent, verdict, settle, outcome}
+use Rattle.model.specs.Outcome.{Store, Request, lent, room, verdict, settle, outcome}
 use Rattle.model.proofs.Orders.{bot, yea, nay, test, and-true}
 use Rattle.model.proofs.Words.{IsBytes}
 use Rattle.model.proofs.Invariant.{then-pass, then-both, unless-pass}
@@ -149,7 +149,32 @@ module _ (listing : Bytes) (s : Store) (c : Call) where
         let e = is-enough 0xFFFF_FFFF_FFFF_FFFF n a in
         (need E t l c, least-limit (e .passes) (omega (arith, e .after, e .most)), e .covers)
 
--- (I) a least number is the only one
+-- (I) what the bytes of the work buffer are does not matter
+pub any-work : (listing : Bytes) (s : Store) (c : Call) (limit n : ℕ) (w : Bytes) → length w ≡ n
+    → outcome listing (record { call = c; limit = limit; work = w }) (inBuffer n s) .reply ≡ outcome listing (requestOf c limit n) (inBuffer n s) .reply
+any-work listing s c limit n w e =
+    replies (verdict listing q u) (verdict listing r u) (ap (λ (m : ℕ). unless 1 (isTable (u .table) (u .rec) && leb (length (u .table)) m) then rest) (e ∙ sym (length-replicate {A = ℕ} n 0)))
+  where
+    u : Store
+    u = inBuffer n s
+
+    q : Request
+    q = record { call = c; limit = limit; work = w }
+
+    r : Request
+    r = requestOf c limit n
+
+    rest : Check
+    rest =
+        unless 2 (isListing listing) then forms c
+        then rules (limited (u .rec .«entry_size») limit) (tableIn (u .table) (u .rec)) (treeIn listing) c
+        then unless 13 (room listing r u)
+
+    replies : (x y : Check) → x ≡ y → settle x listing q u .reply ≡ settle y listing r u .reply
+    replies pass y h = ap (λ (z : Check). settle z listing r u .reply) h
+    replies (refuse k j m) y h = ap (λ (z : Check). settle z listing r u .reply) h
+
+-- (J) a least number is the only one
 pub least-one : (P : ℕ → Type 0) (m n : ℕ) → Least P m → Least P n → m ≡ n
 least-one P m n a b = elim (test (leb m n)) [
   | nay e ↦ absurd (a .least n (leb-false m n e) (b .holds))
@@ -159,7 +184,7 @@ least-one P m n a b = elim (test (leb m n)) [
   ]
 ]
 
--- (J) so a report is the only one
+-- (K) so a report is the only one
 pub report-one : (listing : Bytes) (s : Store) (c : Call) (x y : Option (ℕ × ℕ)) → IsReport listing s c x → IsReport listing s c y → x ≡ y
 report-one listing s c none none a b = refl
 report-one listing s c none (some y) a b = absurd (a (y .0) 16777216 (b .0 .holds))

@@ -17,7 +17,7 @@ use Rattle.model.specs.Outcome.{Store, Request, outcome}
 abbrev pub inBuffer : ℕ → Store → Store
 inBuffer n s = record { table = take n (padded n (s .table)); rec = s .rec }
 
--- the call c with this limit, and a work buffer of n bytes, of zeros: what they are does not matter
+-- the call c with this limit, and a work buffer of n bytes, all 0; what its bytes are does not matter
 abbrev pub requestOf : Call → (limit n : ℕ) → Request
 requestOf c limit n = record { call = c; limit = limit; work = replicate n 0 }
 
@@ -45,6 +45,6 @@ abbrev pub IsReport : Bytes → Store → Call → Option (ℕ × ℕ) → Type 
 IsReport listing s c (some x) = Least (WithLimit listing s c) (x .0) × Least (WithLength listing s c) (x .1)
 IsReport listing s c none = (limit n : ℕ) → Accepts listing s c limit n → ⊥
 
--- "1, 2 and 3 refuse", in the order of the call itself; there is no work buffer
+-- what refuses a report: 1, 2 and 3, in the order of the call itself; there is no work buffer
 abbrev pub reportChecks : Bytes → Store → Call → Check
 reportChecks listing s c = unless 1 (isTable (s .table) (s .rec)) then unless 2 (isListing listing) then forms c
