@@ -1,27 +1,12 @@
 //! Showing a directory: the cases of the request's definition, every number in its order, and an output that is as it
 //! was where the call is refused. The walk is held against a plain merge of listing and entries that is made here.
+mod paths;
+
 use overlay::{EntryKind, Mkdir, NameList, NodeKind, Overlay, OverlayRef, Record, Refusal, raw};
+use paths::listing;
 use std::collections::BTreeMap;
 
 const NO_LIMIT: u64 = u64::MAX;
-
-/// A listing by its paths, ascending: `x/` a directory, `x@` a link, `x` a file of 5 bytes; mtime bits 0.
-fn listing(paths: &[&str]) -> Vec<u8> {
-    let mut bytes = b"RDL\x01\x00".to_vec();
-    bytes.extend((paths.len() as u32).to_le_bytes());
-    for word in paths {
-        let (path, kind) = match word.strip_suffix('/') {
-            Some(path) => (path, 1),
-            None => word.strip_suffix('@').map_or((*word, 2), |path| (path, 3)),
-        };
-        bytes.extend((path.len() as u16).to_le_bytes());
-        bytes.push(kind);
-        bytes.extend([0; 8]);
-        bytes.extend(if kind == 2 { 5u64 } else { 0 }.to_le_bytes());
-        bytes.extend(path.bytes());
-    }
-    bytes
-}
 
 /// Children of `a` with others between them; two links; an empty directory.
 fn d() -> Vec<u8> {
