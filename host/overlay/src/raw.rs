@@ -41,6 +41,20 @@ mod exported {
             o: *mut u8,
             on: usize,
         ) -> u64;
+        pub fn overlay_least_rename(
+            l: *const u8,
+            ln: usize,
+            t: *const u8,
+            tn: usize,
+            r: *const u64,
+            rn: usize,
+            s: *const u8,
+            sn: usize,
+            d: *const u8,
+            dn: usize,
+            n: *mut u64,
+            nn: usize,
+        ) -> u64;
     }
 
     macro_rules! queries {
@@ -135,6 +149,34 @@ pub fn show(listing: &[u8], table: &[u8], record: &[u64], path: &[u8], output: &
             path.len(),
             output.as_mut_ptr(),
             output.len(),
+        )
+    }
+}
+
+/// What would let a rename through: the least limit and the least length of the table, in two numbers. The value is 1
+/// where there are any, else 0.
+pub fn least_rename(
+    listing: &[u8],
+    table: &[u8],
+    record: &[u64],
+    source: &[u8],
+    destination: &[u8],
+    least: &mut [u64],
+) -> u64 {
+    unsafe {
+        exported::overlay_least_rename(
+            listing.as_ptr(),
+            listing.len(),
+            table.as_ptr(),
+            table.len(),
+            record.as_ptr(),
+            record.len(),
+            source.as_ptr(),
+            source.len(),
+            destination.as_ptr(),
+            destination.len(),
+            least.as_mut_ptr(),
+            least.len(),
         )
     }
 }
