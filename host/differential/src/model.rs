@@ -58,6 +58,11 @@ impl Model {
         self.room
     }
 
+    /// The same table in a buffer of so many bytes.
+    pub fn in_room(&self, room: usize) -> Self {
+        Self { room, ..self.copy() }
+    }
+
     fn listed(&self, path: &str) -> Option<Kind> {
         if path.is_empty() { Some(Kind::Directory) } else { self.listing.get(path).map(|node| node.kind) }
     }

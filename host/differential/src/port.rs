@@ -1,7 +1,8 @@
 //! The port as one side of a comparison: the calls of the library on plain slices.
 //! Every call also checks what the port owes beside its answer: a refused call or a query leaves table, record and work
 //! buffer as they were; an accepted one leaves the work buffer all 0, and a table that agrees with its record. A
-//! directory that is shown is so in an output just long enough too, and not in one that is a byte shorter.
+//! directory that is shown is so in an output just long enough too, and not in one that is a byte shorter. What would
+//! let a rename through is asked before it, and its answer held to that.
 
 use std::rc::Rc;
 
@@ -13,8 +14,13 @@ use crate::side::{Answer, Call, Entries, Entry, Op, Side, charge, encoded, lent,
 const CHANGED: u8 = 251;
 /// Given instead of the answer where the output is not as it has to be left.
 const OUTPUT: u8 = 250;
+/// Given instead of the answer to a rename where the least limit and the least length foretell another.
+const LEAST: u8 = 249;
 /// Given instead of the answer where the work buffer is not as it has to be left.
 const WORK: u8 = 252;
+
+/// The least limit and the least length for a rename, where it is accepted with any; or why they are not told.
+pub type Least = Result<Option<[u64; 2]>, Answer>;
 
 #[derive(Clone)]
 pub struct Port {
@@ -77,6 +83,31 @@ impl Port {
         })
     }
 
+    /// What would let a rename through; none for other calls.
+    pub fn least(&self, call: &Call) -> Option<Least> {
+        let Op::Rename { to } = &call.op else { return None };
+        let (path, to, mut least) = (call.path.as_bytes(), to.as_bytes(), [u64::MAX; 2]);
+        let said = answer(raw::least_rename(&self.listing, &self.table, &self.record, path, to, &mut least));
+        Some(match (said.number, said.value, least) {
+            (0, 1, _) => Ok(Some(least)),
+            (0, 0, [0, 0]) => Ok(None),
+            (1..=3, _, [u64::MAX, u64::MAX]) => Err(said),
+            _ => Err(Answer::refused(LEAST)),
+        })
+    }
+
+    /// Whether a rename may be answered so after this was said of it. No entries here come near 16 MiB, so where there
+    /// is no room there are numbers.
+    fn is_foretold(&self, least: Least, limit: u64, answer: Answer) -> bool {
+        match least {
+            Err(refusal) => answer == refusal,
+            Ok(None) => matches!(answer.number, 4..=10 | 12) || answer.number == 11 && limit < u64::MAX,
+            Ok(Some([least, _])) if limit < least => answer == Answer::refused(11),
+            Ok(Some([_, length])) if (self.table.len() as u64) < length => answer == Answer::refused(13),
+            Ok(Some(_)) => answer == Answer::accepted(0),
+        }
+    }
+
     /// The answer with an output of so many bytes, and the output after it.
     fn show_in(&self, path: &str, room: usize) -> (Answer, Vec<u8>) {
         let mut output = vec![0x77; room];
@@ -111,8 +142,11 @@ impl Port {
 impl Side for Port {
     fn call(&mut self, call: &Call, mtime: u64) -> Answer {
         self.work.fill(0x77);
-        let before = (self.table.clone(), self.record);
+        let (before, least) = ((self.table.clone(), self.record), self.least(call));
         let answer = self.call_only(call, mtime);
+        if least.is_some_and(|least| !self.is_foretold(least, call.limit, answer)) {
+            return Answer::refused(LEAST);
+        }
         let quiet = answer.number != 0 || call.op.only_asks();
         if quiet && (before.0 != self.table || before.1 != self.record) {
             return Answer::refused(CHANGED);

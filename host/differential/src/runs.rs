@@ -39,6 +39,10 @@ pub struct Count {
     pub links: u64,
     /// The paths that were shown by the port and the model alone.
     pub shows_without: u64,
+    /// The renames, by the number of the answer; each was held to what was said to let it through.
+    pub renames: BTreeMap<u8, u64>,
+    /// The least numbers that were said, of moves onto itself and of others, and were those that decide.
+    pub leasts: [u64; 2],
     pub differences: u64,
 }
 
@@ -48,6 +52,9 @@ impl Count {
         self.calls += 1;
         self.asked += u64::from(asked);
         *self.numbers.entry(answer.number).or_default() += 1;
+        if matches!(call.op, Op::Rename { .. }) {
+            *self.renames.entry(answer.number).or_default() += 1;
+        }
         if call.op.is_partial() {
             *self.partial.entry((call.op.name(), answer.number, asked)).or_default() += 1;
         }
@@ -62,7 +69,12 @@ impl Count {
         self.differences += other.differences;
         self.links += other.links;
         self.shows_without += other.shows_without;
-        for (counts, others) in [(&mut self.numbers, &other.numbers), (&mut self.shows, &other.shows)] {
+        for (count, others) in self.leasts.iter_mut().zip(other.leasts) {
+            *count += others;
+        }
+        for (counts, others) in
+            [(&mut self.numbers, &other.numbers), (&mut self.shows, &other.shows), (&mut self.renames, &other.renames)]
+        {
             for (number, count) in others {
                 *counts.entry(*number).or_default() += count;
             }
@@ -122,7 +134,9 @@ impl Place {
 
     /// The call at each of the limits around the one that decides it; the place stays as it is.
     fn probe(&mut self, call: &Call, more: &[u64], count: &mut Count) -> Result<Option<u64>, Difference> {
-        let Some(threshold) = self.world.threshold(call) else {
+        let threshold = self.world.threshold(call);
+        self.hold_least(call, threshold, count)?;
+        let Some(threshold) = threshold else {
             // No limit decides it: the answer is the same at limit 0.
             self.copy().call(&call.at(0), count)?;
             return Ok(None);
@@ -138,6 +152,18 @@ impl Place {
             }
         }
         Ok(Some(threshold))
+    }
+
+    /// What is said to let a rename through, beside the limit that decides it and the length that the model needs.
+    fn hold_least(&self, call: &Call, threshold: Option<u64>, count: &mut Count) -> Result<(), Difference> {
+        let Some(Ok(Some([limit, length]))) = self.world.port.least(call) else { return Ok(()) };
+        if limit != threshold.unwrap_or(0) || !self.world.is_least_length(call, length as usize) {
+            let what = format!("{call}: least are said to be {limit} and {length}, though {threshold:?} decides");
+            let calls = self.calls.iter().chain([call]).cloned().collect();
+            return Err(Difference { what, listing: String::new(), calls });
+        }
+        count.leasts[usize::from(threshold.is_some())] += 1;
+        Ok(())
     }
 
     fn ask(&mut self, path: &str, count: &mut Count) -> Result<(), Difference> {
@@ -403,6 +429,16 @@ fn print_itself(all: &Count) {
     println!("moves onto itself: {sum} accepted here, and all left as it was; {}.", each.join(", "));
 }
 
+/// How many renames were held to what was said to let them through.
+fn print_renames(all: &Count) {
+    let each: Vec<String> = all.renames.iter().map(|(number, count)| format!("{count} with {number}")).collect();
+    let sum: u64 = all.renames.values().sum();
+    println!("renames held to the least limit and the least length said before: {sum}, {}.", each.join(", "));
+    let [onto_itself, others] = all.leasts;
+    println!("least limits said: {others}, each the smallest that the original does not refuse by 11.");
+    println!("least lengths said: {}, each by the model; {onto_itself} of moves onto itself.", others + onto_itself);
+}
+
 /// How many calls of change request #103 were compared, with the original and without it.
 fn print_partial(all: &Count) {
     for name in ["append", "write_at"] {
@@ -445,6 +481,7 @@ pub fn run(long: bool, seed: u64) -> u64 {
     println!("Shown by the port and the model alone: {} paths.", all.shows_without);
     print_partial(&all);
     print_itself(&all);
+    print_renames(&all);
     println!();
     all.differences
 }

@@ -9,7 +9,7 @@ use crate::{
     model::Model,
     monty_fs::{Original, entry_size},
     port::Port,
-    side::{Answer, Call, Entries, Op, Side, charge},
+    side::{Answer, Call, Entries, Op, Side, charge, used},
 };
 
 /// Over what a list of calls runs.
@@ -180,6 +180,14 @@ impl World {
             return threshold_of(&self.model, call, u64::MAX);
         }
         threshold_of(&self.original, call, 1 << 40)
+    }
+
+    /// Whether this is the least length of the table buffer for a rename: the bytes used before fit, and by the model it
+    /// is enough, and one byte less is not.
+    pub fn is_least_length(&self, call: &Call, length: usize) -> bool {
+        let number = |room| self.model.in_room(room).call(&call.at(u64::MAX), UNUSED_MTIME).number;
+        let before = used(&self.model.entries());
+        length >= before && number(length) == 0 && (length == before || number(length - 1) == 13)
     }
 
     /// Limits around those that could decide a call of change request #103: the charge after it, and the charge before
