@@ -193,8 +193,8 @@ uint64_t overlay_rename(const uint8_t *listing, size_t listing_length, uint8_t *
 /* Tells what would let the rename of source to destination through: writes the least limit and the least length of the
  * table with which it is accepted, the table being lengthened by zeros. With every smaller limit, and in every shorter
  * table, the rename is refused; both together, with a work buffer as long as the table, are enough. They are told
- * whether or not the rename would be refused as it is. There is no work buffer, and nothing but the two numbers is changed. The
- * value is 1. For a move onto itself the limit is 0 and the length the record's OVERLAY_RECORD_USED.
+ * whether or not the rename would be refused as it is. There is no work buffer, and nothing but the two numbers is
+ * changed. The value is 1. For a move onto itself the limit is 0 and the length the record's OVERLAY_RECORD_USED.
  * Where no limit and no length would do, the value is 0, and so are both numbers: what stands against it is one of
  * OVERLAY_LINK_OR_ROOT to OVERLAY_BELOW_SOURCE (a link that is met below the source too), OVERLAY_KEY_TOO_LONG, or
  * entries after it of more than OVERLAY_MAX_BUFFER bytes.

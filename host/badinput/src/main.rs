@@ -3,9 +3,9 @@
 //! Every buffer has its exact length and touches a page that may not be touched; listing, path, data and lent bytes
 //! may not be written either. After each call: the number is 0 to 13, 17 or 18; refused, table, record and work buffer
 //! are as they were; accepted, the work buffer is all 0 and the table agrees with its record. It prints how many calls
-//! gave each number. Scripts of calls are run so too, with each byte changed and at random (scripts.rs), files are added
-//! to and written inside (content.rs), kept files are read and written (kept.rs), directories are shown (shown.rs), and
-//! what would let a rename through is asked and tried (least.rs).
+//! gave each number. Scripts of calls are run so too, with each byte changed and at random (scripts.rs), files are
+//! added to and written inside (content.rs), kept files are read and written (kept.rs), directories are shown
+//! (shown.rs), and what would let a rename through is asked and tried (least.rs).
 //!
 //! `badinput` makes over 100,000 calls, `badinput --long` over two million; `--seed N` moves them.
 mod content;

@@ -182,8 +182,8 @@ impl World {
         threshold_of(&self.original, call, 1 << 40)
     }
 
-    /// Whether this is the least length of the table buffer for a rename: the bytes used before fit, and by the model it
-    /// is enough, and one byte less is not.
+    /// Whether this is the least length of the table buffer for a rename: the bytes used before fit, and by the model
+    /// it is enough, and one byte less is not.
     pub fn is_least_length(&self, call: &Call, length: usize) -> bool {
         let number = |room| self.model.in_room(room).call(&call.at(u64::MAX), UNUSED_MTIME).number;
         let before = used(&self.model.entries());

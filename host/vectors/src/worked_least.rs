@@ -1,5 +1,5 @@
-//! The rows of docs/WORKED-CALLS.md that tell what would let a rename through. They have no vectors: each is read from the
-//! page and put to the library, which must answer and write what the row says.
+//! The rows of docs/WORKED-CALLS.md that tell what would let a rename through. They have no vectors: each is read from
+//! the page and put to the library, which must answer and write what the row says.
 use crate::{
     four,
     rows::{UNCHANGED, number, numbers, rows},
