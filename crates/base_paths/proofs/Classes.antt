@@ -1,74 +1,99 @@
--- The table of classes: one computed test compares the class of each of the 256 bytes with its row in RFC 3629's grammar. And by the
--- row, the ranges of the bytes that follow.
-use mathlib.Core.Path.{_≡_, refl, ap, _∙_}
-use mathlib.Core.Bool.{Bool, true}
+-- The classes of bytes: one computed test compares each entry of the code's table with its row in RFC 3629's grammar, a second one
+-- compares the class of each of the 256 bytes. And by the row, the ranges of the bytes that follow.
+use mathlib.Core.Path.{_≡_, refl, ap, subst, sym, _∙_}
+use mathlib.Core.Bool.{Bool, true, cond}
 use mathlib.Core.List.{List, [], _∷_, _++_}
-use Prim.Native.Nat.{ℕ, _<_, _≤_}
+use mathlib.Core.Logic.{_⊎_, inl, inr}
+use Prim.Native.Nat.{ℕ, zero, suc, _+_, _-_, _<_, _≤_}
+use native.Mathlib.Nat.{le-of-suc-le-suc, not-suc-le-zero}
 use native.Mathlib.Omega.{arith}
-use lib.Dec.{eqb}
+use lib.Dec.{eqb, ltb}
 use lib.ListN.{length, getD, replicate}
-use borrow.Author.Tests.{eqb-true, le-leb}
-use Rattle.model.specs.Utf8.{_to_, within, Row, rows, afterIn}
+use borrow.Author.Tests.{eqb-true, lt-ltb, le-ltb}
+use Rattle.model.specs.Utf8.{within, Row, rows, nowhere, afterIn}
 use Rattle.model.proofs.Orders.{yea, nay, test}
 use Rattle.base_paths.specs.Classes.{rowIn, afterRow}
-use Rattle.base_paths.specs.Scan.{ranges}
-use Rattle.base_paths.proofs.Table.{each, at, below}
+use Rattle.base_paths.proofs.Table.{each, from, eachBelow, below}
 
--- the table of the code, in runs of one class
+-- the table of the code, from byte C0 on, in runs of one class
 abbrev fromE0 : List ℕ
 fromE0 = 2 ∷ (replicate 0xC 3 ++ (4 ∷ 5 ∷ 5 ∷ 6 ∷ 7 ∷ 7 ∷ 7 ∷ 8 ∷ replicate 0xB 9))
 
 abbrev pub classes : List ℕ
-classes = replicate 0x80 0 ++ (replicate 0x42 9 ++ (replicate 0x1E 1 ++ fromE0))
+classes = replicate 2 9 ++ (replicate 0x1E 1 ++ fromE0)
 
 abbrev right : ℕ → ℕ → Bool
 right b k = eqb k (rowIn rows b)
 
--- the test
-pub all-right : each right 0 classes ≡ true
+-- the test of the whole table
+pub all-right : each right 0xC0 classes ≡ true
 all-right = refl
 
--- the rule, for every byte
-pub class-row : (b : ℕ) → b < 256 → getD classes b 0 ≡ rowIn rows b
-class-row b h = eqb-true (getD classes b 0) (rowIn rows b) (at right classes all-right b h)
+-- the class of a byte as the code finds it: below the table by comparison
+abbrev pub classOf : ℕ → ℕ
+classOf b = cond (ltb b 0x80) 0 (cond (ltb b 0xC0) 9 (getD classes (b - 0xC0) 0))
 
--- and so its ranges
+abbrev rightByte : ℕ → Bool
+rightByte b = right b (classOf b)
+
+-- the test of all 256 bytes
+pub every-right : eachBelow rightByte 0x100 ≡ true
+every-right = refl
+
+-- the rule, for every byte
+pub class-row : (b : ℕ) → b < 0x100 → classOf b ≡ rowIn rows b
+class-row b h = eqb-true (classOf b) (rowIn rows b) (below rightByte 0x100 every-right b h)
+
+-- and so for each of the code's three answers
+pub ascii-row : (b : ℕ) → b < 0x80 → 0 ≡ rowIn rows b
+ascii-row b h = cc (lt-ltb b 0x80 h, class-row b (omega arith))
+
+pub low-row : (b : ℕ) → 0x80 ≤ b → b < 0xC0 → 9 ≡ rowIn rows b
+low-row b l h = cc (le-ltb b 0x80 l, lt-ltb b 0xC0 h, class-row b (omega arith))
+
+pub table-row : (b : ℕ) → 0xC0 ≤ b → b < 0x100 → getD classes (b - 0xC0) 0 ≡ rowIn rows b
+table-row b l h =
+    let k = b - 0xC0 in
+    let at : 0xC0 + k ≡ b = omega arith in
+    eqb-true (getD classes k 0) (rowIn rows b)
+    (subst (λ (n : ℕ). right n (getD classes k 0) ≡ true) at (from right classes 0xC0 all-right k (omega arith)))
+
 row-le : (rs : List Row) (b : ℕ) → rowIn rs b ≤ length rs
 row-le [] b = omega arith
 row-le (r ∷ rs) b =
     let ih = row-le rs b in
     elim (test (within (r .first) b)) [ yea e ↦ rw e (omega arith) | nay e ↦ rw e (omega arith) ]
 
-pub class-below : (b : ℕ) → b < 256 → getD classes b 0 < 10
-class-below b h = omega (arith, class-row b h, row-le rows b)
+pub row-below : (b k : ℕ) → k ≡ rowIn rows b → k < 10
+row-below b k e = omega (arith, e, row-le rows b)
 
+-- by its row, what follows a byte
 after-row : (rs : List Row) (b : ℕ) → afterRow rs (rowIn rs b) ≡ afterIn rs b
 after-row [] b = refl
 after-row (r ∷ rs) b = let ih = after-row rs b in elim (test (within (r .first) b)) [ yea e ↦ cc | nay e ↦ cc ]
 
-pub class-after : (b : ℕ) → b < 256 → afterRow rows (getD classes b 0) ≡ afterIn rows b
-class-after b h = cc (class-row b h, after-row rows b)
+pub of-class : (b k : ℕ) → k ≡ rowIn rows b → afterRow rows k ≡ afterIn rows b
+of-class b k e = ap (afterRow rows) e ∙ after-row rows b
 
--- the three tables of the code by class: how many bytes follow, and the range of the next
-abbrev needed : List ℕ
-needed = 0 ∷ 1 ∷ 2 ∷ 2 ∷ 2 ∷ 2 ∷ 3 ∷ 3 ∷ 3 ∷ 1 ∷ []
+-- in an arm of the code's match that has the class by itself, what follows it
+pub at-row : (k n : ℕ) → k ≡ n → afterRow rows n ≡ afterRow rows k
+at-row k n e = ap (afterRow rows) (sym e)
 
-abbrev lows : List ℕ
-lows = 0 ∷ 0x80 ∷ 0xA0 ∷ 0x80 ∷ 0x80 ∷ 0x80 ∷ 0x90 ∷ 0x80 ∷ 0x80 ∷ 1 ∷ []
+-- and in the last arm, which has no row
+no-row : (rs : List Row) (k : ℕ) → length rs ≤ k → nowhere ∷ [] ≡ afterRow rs k
+no-row [] k h = refl
+no-row (r ∷ rs) zero h = absurd (not-suc-le-zero h)
+no-row (r ∷ rs) (suc k) h = no-row rs k (le-of-suc-le-suc h)
 
-abbrev highs : List ℕ
-highs = 0 ∷ 0xBF ∷ 0xBF ∷ 0xBF ∷ 0x9F ∷ 0xBF ∷ 0xBF ∷ 0xBF ∷ 0x8F ∷ 0 ∷ []
+first-past : (k : ℕ) → (k ≡ 0 → ⊥) → 1 ≤ k
+first-past k e = omega arith
 
-abbrev OfRow : ℕ → Type 0
-OfRow k = ranges (getD needed k 0) (getD lows k 0 to getD highs k 0) ≡ afterRow rows k
+past : (k n : ℕ) → n ≤ k → (k ≡ n → ⊥) → n + 1 ≤ k
+past k n h e = omega arith
 
-of-row : (k : ℕ) → k < 10 → OfRow k
-of-row = below OfRow 10 (refl, (refl, (refl, (refl, (refl, (refl, (refl, (refl, (refl, (refl, tt))))))))))
-
--- what the tables give for a byte's class follows the byte
-pub of-class : (b k : ℕ) → k ≡ rowIn rows b → k < 10 → ranges (getD needed k 0) (getD lows k 0 to getD highs k 0) ≡ afterIn rows b
-of-class b k e h = of-row k h ∙ ap (afterRow rows) e ∙ after-row rows b
-
--- nothing follows a byte of ASCII
-pub of-ascii : (b : ℕ) → b < 128 → [] ≡ afterIn rows b
-of-ascii b h = rw (le-leb 0 b (omega arith), le-leb b 127 (omega arith))
+pub at-none : (k : ℕ) → (k ≡ 0 → ⊥) → (k ≡ 1 → ⊥) → (k ≡ 2 → ⊥) → ((k ≡ 3) ⊎ (k ≡ 5) → ⊥) → (k ≡ 4 → ⊥)
+    → (k ≡ 6 → ⊥) → (k ≡ 7 → ⊥) → (k ≡ 8 → ⊥) → nowhere ∷ [] ≡ afterRow rows k
+at-none k n0 n1 n2 n35 n4 n6 n7 n8 =
+    let from3 : 3 ≤ k = past k 2 (past k 1 (first-past k n0) n1) n2 in
+    let from6 : 6 ≤ k = past k 5 (past k 4 (past k 3 from3 (λ e. n35 (inl e))) n4) (λ e. n35 (inr e)) in
+    no-row rows k (past k 8 (past k 7 (past k 6 from6 n6) n7) n8)

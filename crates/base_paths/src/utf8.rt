@@ -4,206 +4,13 @@ ghost use mathlib.Core.Path.{_≡_};
 ghost use mathlib.Core.List.{List, _∷_};
 ghost use Prim.Native.Nat.{ℕ, _<_};
 ghost use Rattle.model.specs.Utf8.{rows, afterIn, characters};
-ghost use Rattle.base_paths.specs.Classes.{rowIn};
+ghost use Rattle.base_paths.specs.Classes.{rowIn, afterRow};
 ghost use Rattle.base_paths.specs.Scan.{pending};
 
-// The class of each byte: the number of the row of RFC 3629's grammar that begins with it, in the order UTF8-1, UTF8-2,
-// UTF8-3 (four rows), UTF8-4 (three); 9 where no character begins with it.
-const CLASS: [u8; 256] = [
-    // 00 to 7F: UTF8-1
-    0,
-    0,
-    0,
-    0,
-    0,
-    0,
-    0,
-    0,
-    0,
-    0,
-    0,
-    0,
-    0,
-    0,
-    0,
-    0,
-    0,
-    0,
-    0,
-    0,
-    0,
-    0,
-    0,
-    0,
-    0,
-    0,
-    0,
-    0,
-    0,
-    0,
-    0,
-    0,
-    0,
-    0,
-    0,
-    0,
-    0,
-    0,
-    0,
-    0,
-    0,
-    0,
-    0,
-    0,
-    0,
-    0,
-    0,
-    0,
-    0,
-    0,
-    0,
-    0,
-    0,
-    0,
-    0,
-    0,
-    0,
-    0,
-    0,
-    0,
-    0,
-    0,
-    0,
-    0,
-    0,
-    0,
-    0,
-    0,
-    0,
-    0,
-    0,
-    0,
-    0,
-    0,
-    0,
-    0,
-    0,
-    0,
-    0,
-    0,
-    0,
-    0,
-    0,
-    0,
-    0,
-    0,
-    0,
-    0,
-    0,
-    0,
-    0,
-    0,
-    0,
-    0,
-    0,
-    0,
-    0,
-    0,
-    0,
-    0,
-    0,
-    0,
-    0,
-    0,
-    0,
-    0,
-    0,
-    0,
-    0,
-    0,
-    0,
-    0,
-    0,
-    0,
-    0,
-    0,
-    0,
-    0,
-    0,
-    0,
-    0,
-    0,
-    0,
-    0,
-    0,
-    0,
-    0,
-    0,
-    // 80 to C1: no row
-    9,
-    9,
-    9,
-    9,
-    9,
-    9,
-    9,
-    9,
-    9,
-    9,
-    9,
-    9,
-    9,
-    9,
-    9,
-    9,
-    9,
-    9,
-    9,
-    9,
-    9,
-    9,
-    9,
-    9,
-    9,
-    9,
-    9,
-    9,
-    9,
-    9,
-    9,
-    9,
-    9,
-    9,
-    9,
-    9,
-    9,
-    9,
-    9,
-    9,
-    9,
-    9,
-    9,
-    9,
-    9,
-    9,
-    9,
-    9,
-    9,
-    9,
-    9,
-    9,
-    9,
-    9,
-    9,
-    9,
-    9,
-    9,
-    9,
-    9,
-    9,
-    9,
-    9,
-    9,
+// The class of each byte from C0 to FF: the number of the row of RFC 3629's grammar that begins with it, in the order
+// UTF8-1, UTF8-2, UTF8-3 (four rows), UTF8-4 (three); 9 where no character begins with it.
+const CLASS: [u8; 64] = [
+    // C0 and C1: no row
     9,
     9,
     // C2 to DF: UTF8-2
@@ -281,39 +88,51 @@ pub struct Tail {
     pub high: u8,
 }
 
-// Of each class, how many bytes follow the first, and the range of the next of them. After a byte of class 9 none can.
-const NEED: [u8; 10] = [0, 1, 2, 2, 2, 2, 3, 3, 3, 1];
-
-const LOW: [u8; 10] = [0, 0x80, 0xA0, 0x80, 0x80, 0x80, 0x90, 0x80, 0x80, 1];
-
-const HIGH: [u8; 10] = [0, 0xBF, 0xBF, 0xBF, 0x9F, 0xBF, 0xBF, 0xBF, 0x8F, 0];
-
 // The class of a byte.
 pub fn class_of(b: u8) -> u8
     ensures { λ r. ⌜ r ≡ rowIn rows b ⌝ }
     ensures { λ r. ⌜ r < 10 ⌝ }
 {
-    CLASS[b as usize]
+    // Below the table by comparison. ASCII first: it is most of what paths have.
+    if b < 0x80 {
+        return 0;
+    }
+    if b < 0xC0 {
+        return 9;
+    }
+    let k = (b - 0xC0) as usize;
+    CLASS[k]
+}
+
+fn tail_of(need: u8, low: u8, high: u8) -> Tail
+    ensures { λ r. ⌜ r ≡ record { need = need; low = low; high = high } ⌝ }
+{
+    Tail { need, low, high }
+}
+
+// What must follow a first byte of class k. After one that begins no character nothing can. A match and no tables: each
+// use of a table builds the whole of it.
+fn after_class(k: u8) -> Tail
+    ensures { λ r. ⌜ pending r ≡ afterRow rows k ⌝ }
+{
+    match k {
+        0 => tail_of(0, 0, 0),
+        1 => tail_of(1, 0x80, 0xBF),
+        2 => tail_of(2, 0xA0, 0xBF),
+        3 | 5 => tail_of(2, 0x80, 0xBF),
+        4 => tail_of(2, 0x80, 0x9F),
+        6 => tail_of(3, 0x90, 0xBF),
+        7 => tail_of(3, 0x80, 0xBF),
+        8 => tail_of(3, 0x80, 0x8F),
+        _ => tail_of(1, 1, 0),
+    }
 }
 
 // What must follow the first byte of a character.
 pub fn after_first(b: u8) -> Tail
     ensures { λ r. ⌜ pending r ≡ afterIn rows b ⌝ }
 {
-    // ASCII first: it is most of what paths have, and each use of a table builds the whole of it.
-    if b < 0x80 {
-        return Tail {
-            need: 0,
-            low: 0,
-            high: 0,
-        };
-    }
-    let k = class_of(b) as usize;
-    Tail {
-        need: NEED[k],
-        low: LOW[k],
-        high: HIGH[k],
-    }
+    after_class(class_of(b))
 }
 
 // What is needed after one more byte.
