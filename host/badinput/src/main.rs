@@ -5,13 +5,15 @@
 //! are as they were; accepted, the work buffer is all 0 and the table agrees with its record. It prints how many calls
 //! gave each number. Scripts of calls are run so too, with each byte changed and at random (scripts.rs), files are
 //! added to and written inside (content.rs), kept files are read and written (kept.rs), directories are shown
-//! (shown.rs), and what would let a rename through is asked and tried (least.rs).
+//! (shown.rs), what would let a rename through is asked and tried (least.rs), and short strings are asked for, whether
+//! they are a path (paths.rs).
 //!
 //! `badinput` makes over 100,000 calls, `badinput --long` over two million; `--seed N` moves them.
 mod content;
 mod guarded;
 mod kept;
 mod least;
+mod paths;
 mod plain;
 mod scripts;
 mod shown;
@@ -118,4 +120,5 @@ fn main() {
     kept::run(seed, calls, words.long());
     shown::run(seed, calls, words.long());
     least::run(seed, calls, words.long());
+    paths::run(words.long());
 }

@@ -33,9 +33,14 @@ impl<'a> Rest<'a> {
     }
 }
 
+/// A path in form, the root too.
+pub fn formed(bytes: &[u8]) -> Option<&str> {
+    str::from_utf8(bytes).ok().filter(|path| in_form(path))
+}
+
 /// A path in form that is not the root.
 fn path(bytes: &[u8]) -> Option<&str> {
-    str::from_utf8(bytes).ok().filter(|path| !path.is_empty() && in_form(path))
+    formed(bytes).filter(|path| !path.is_empty())
 }
 
 /// Whether the bytes are a listing.
@@ -160,7 +165,7 @@ impl<'a> Given<'a> {
         let entries = entries(self.table, self.record).filter(|_| self.work >= self.table.len());
         let held = entries.and_then(bodies).ok_or((1, 0))?;
         let listed = Some(self.listing).filter(|bytes| is_listing(bytes)).and_then(records).ok_or((2, 0))?;
-        let path = str::from_utf8(self.path).ok().filter(|path| in_form(path)).ok_or((3, 0))?;
+        let path = formed(self.path).ok_or((3, 0))?;
         Ok(Read { held, listed, path })
     }
 
@@ -307,7 +312,7 @@ fn step<'a>(rest: &mut Rest<'a>, wide: bool) -> Option<Step<'a>> {
 pub fn show(listing: &[u8], table: &[u8], record: &[u64], path: &[u8], room: usize) -> Result<Vec<u8>, (u64, usize)> {
     let held = entries(table, record).and_then(held).ok_or((1, 0))?;
     let listed = Some(listing).filter(|bytes| is_listing(bytes)).and_then(listed).ok_or((2, 0))?;
-    let path = str::from_utf8(path).ok().filter(|path| in_form(path)).ok_or((3, 0))?;
+    let path = formed(path).ok_or((3, 0))?;
     // "A file is 7, a missing path 5, for a path without an entry a link at it or on the way 4"
     let link_on_way = path.match_indices('/').any(|(at, _)| listed.get(&path[..at]) == Some(&3));
     let listed_here = if path.is_empty() { Some(&1) } else { listed.get(path) };

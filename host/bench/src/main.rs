@@ -7,6 +7,7 @@
 mod contents;
 mod kept;
 mod least;
+mod paths;
 mod shows;
 mod walks;
 
@@ -281,6 +282,9 @@ fn main() {
     }
     if word.as_deref() == Some("least") {
         return least::rows();
+    }
+    if word.as_deref() == Some("paths") {
+        return paths::rows();
     }
     if word.as_deref() == Some("content") {
         return contents::rows(&SIZES);

@@ -1,6 +1,6 @@
-//! Replays the vectors of calls.jsonl, worked.jsonl, kept.jsonl, show.jsonl, content.jsonl, itself.jsonl and
-//! least.jsonl against the library: every answer, record, table, work buffer, output, place and least number must be as
-//! they say. The rows of docs/WORKED-CALLS.md must be those of worked.jsonl, and docs/DEFINITION.md may cite no other
+//! Replays the vectors of calls.jsonl, worked.jsonl, kept.jsonl, show.jsonl, content.jsonl, itself.jsonl, least.jsonl
+//! and paths.jsonl against the library: every answer, record, table, work buffer, output, place and least number must be
+//! as they say. The rows of docs/WORKED-CALLS.md must be those of worked.jsonl, and docs/DEFINITION.md may cite no other
 //! row of those calls; the page's rows that write and read kept files, that show directories and that tell what would
 //! let a rename through are put to the library, and the kept files that docs/FORMATS.md shows must be read as it says.
 //! With the name of a file it replays that one alone; with `--rows` it prints the rows of worked.jsonl. It says what it
@@ -10,6 +10,7 @@ mod json;
 mod kept;
 mod least;
 mod page;
+mod paths;
 mod rows;
 mod sha256;
 mod show;
@@ -23,7 +24,7 @@ use overlay::{OverlayMut, Record, Refusal, raw, unpack};
 use std::{collections::BTreeMap, env, fs, process::ExitCode};
 use worked::{Rows, stated};
 
-/// The calls that every file of the repository has.
+/// The calls that every file of the repository but paths.jsonl has.
 const CALLS: [&str; 9] = ["open", "exists", "is_file", "is_dir", "write", "mkdir", "unlink", "rmdir", "rename"];
 
 /// The numbers of the writer and of the reader of kept files, each of which kept.jsonl and the worked rows have.
@@ -40,6 +41,9 @@ const ITSELF: (&str, &[u64]) = ("rename", &[0, 1, 3, 4, 5, 8, 11, 13]);
 
 /// The numbers of telling what would let a rename through that least.jsonl has.
 const LEAST: (&str, &[u64]) = ("least", &[0, 2, 3]);
+
+/// The numbers of strings of bytes, each a path or none, that paths.jsonl has.
+const PATHS: (&str, &[u64]) = ("path", &[0, 3]);
 
 /// A vector's answer as an answer of the library: number, path, length, value.
 fn four(answer: Result<u64, Refusal>) -> [u64; 4] {
@@ -200,6 +204,11 @@ fn replay(line: &str, counts: &mut Counts) -> Result<(), String> {
                 count(call.get("op").text(), call.get("answer").four()[0]);
             }
         }
+        "paths" => {
+            for item in vector.get("items").list() {
+                count(PATHS.0, paths::compare(item)?);
+            }
+        }
         other => return Err(format!("no vector {other}")),
     }
     Ok(())
@@ -246,7 +255,11 @@ fn replay_own(name: &str) -> Result<Counts, String> {
 
 /// A file of the repository that is there for some calls, and has each number that they can give.
 fn replay_numbers(name: &str, calls: &[(&str, &[u64])]) -> Result<(), String> {
-    let counts = replay_own(name)?;
+    has_numbers(name, &replay_own(name)?, calls)
+}
+
+/// Whether a file has each number of some calls.
+fn has_numbers(name: &str, counts: &Counts, calls: &[(&str, &[u64])]) -> Result<(), String> {
     for (call, numbers) in calls {
         let mut each = Vec::new();
         for number in *numbers {
@@ -281,6 +294,7 @@ fn compare() -> Result<(), String> {
             replay_numbers("content.jsonl", &CONTENT)?;
             replay_numbers("itself.jsonl", &[ITSELF])?;
             replay_numbers("least.jsonl", &[LEAST])?;
+            has_numbers("paths.jsonl", &replay_file(&beside("paths.jsonl"))?, &[PATHS])?;
             let rows = worked_rows(&worked)?;
             rows.stand_in(&read(&page)?).map_err(|error| format!("{page}: {error}"))?;
             rows.cited_in(&read(&definition)?).map_err(|error| format!("{definition}: {error}"))?;
