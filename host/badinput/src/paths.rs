@@ -16,16 +16,17 @@ const EDGES: [u8; 30] = [
     0xE1, 0xEC, 0xED, 0xEE, 0xEF, 0xF0, 0xF1, 0xF3, 0xF4, 0xF5, 0xFF,
 ];
 
-/// How many strings of one, two and three bytes are a path. 124 bytes of ASCII may stand in a component: 128 less byte
-/// 0, slash, backslash and colon. One byte: these less the dot. Two: 124 × 124 less two dots, and the 30 × 64
-/// characters of two bytes. Three: 124 × 124 × 124; 123 × 123 on both sides of a slash; a character of two bytes before
-/// or behind a byte of ASCII; and the characters of three, 16 × 64 × 64 less 32 × 64 that would be overlong and as many
-/// surrogates.
-const PATHS: [u64; 3] = [
-    124 - 1,
-    124 * 124 - 1 + 30 * 64,
-    124 * 124 * 124 + 123 * 123 + 2 * 124 * 30 * 64 + 16 * 64 * 64 - 2 * 32 * 64,
-];
+/// The bytes of ASCII that may stand in a component: not byte 0, slash, backslash and colon. The characters of two bytes;
+/// and those of three, without what would be overlong and without the surrogates.
+const ASCII: u64 = 128 - 4;
+const TWO: u64 = 30 * 64;
+const THREE: u64 = 16 * 64 * 64 - 32 * 64 - 32 * 64;
+
+/// How many strings of one, two and three bytes are a path. Of one: ASCII but for a dot. Of two: ASCII but for two dots,
+/// and the characters of two. Of three: ASCII in one component, or but for dots on both sides of a slash; a character of
+/// two before or behind ASCII; and the characters of three.
+const PATHS: [u64; 3] =
+    [ASCII - 1, ASCII * ASCII - 1 + TWO, ASCII * ASCII * ASCII + (ASCII - 1) * (ASCII - 1) + 2 * TWO * ASCII + THREE];
 
 const LISTING: &[u8] = b"RDL\x01\x00\x00\x00\x00\x00";
 
@@ -53,18 +54,19 @@ pub fn run(long: bool) {
     let every: Vec<u8> = (0..=255).collect();
     let (every, edges) = (&every[..], &EDGES[..]);
     let mut memory = Guarded::new(4);
-    let (third, rest): (_, &[_]) =
-        if long { (every, &[every, every, edges, edges]) } else { (edges, &[edges; 4]) };
-    println!("paths: strings of bytes");
-    for (places, exact) in [
-        (&[every][..], true),
-        (&[every; 2], true),
-        (&[third; 3], long),
-        (rest, false),
-    ] {
+    let mut print = |places: &[&[u8]]| {
         let [strings, paths] = asked(&mut memory, places);
         println!("  of {}: {strings}, of these a path {paths}", places.len());
-        assert!(!exact || paths == PATHS[places.len() - 1], "as many as can be worked out");
+        paths
+    };
+    println!("paths: strings of bytes");
+    assert_eq!([print(&[every]), print(&[every; 2])], PATHS[..2], "as many as there are");
+    if long {
+        assert_eq!(print(&[every; 3]), PATHS[2], "as many as there are");
+        print(&[every, every, edges, edges]);
+    } else {
+        print(&[edges; 3]);
+        print(&[edges; 4]);
     }
     println!("each is a path, or refused with 3, as the plain form of a path says");
 }

@@ -23,11 +23,13 @@ mod tests {
     #[test]
     fn strings_are_held_to_the_library() {
         let items = |items: &str| replay(&format!(r#"{{"t":"paths","items":[{items}]}}"#), &mut Counts::new());
-        assert_eq!(items(r#"["",0],["61",0],["c3a9",0],["eda080",3],["c3",3],["",0]"#), Ok(()));
-        for (item, gives) in [("[\"61\",3]", "[0, 0, 0, 0]"), ("[\"eda080\",0]", "[3, 0, 0, 0]"), ("[\"\",3]", "[0, 0, 0, 1]")] {
+        assert_eq!(items(r#"["",0],["61",0],["c3a9",0],["eda080",3],["c3",3]"#), Ok(()));
+        for (item, gives) in
+            [(r#"["61",3]"#, "[0, 0, 0, 0]"), (r#"["c3",0]"#, "[3, 0, 0, 0]"), (r#"["",3]"#, "[0, 0, 0, 1]")]
+        {
             let difference = items(item).unwrap_err();
             assert!(difference.ends_with(&format!("gives {gives}")), "{difference}");
         }
-        assert!(items("[\"61\"]").unwrap_err().ends_with("is no string with its number"));
+        assert!(items(r#"["61"]"#).unwrap_err().ends_with("is no string with its number"));
     }
 }
