@@ -65,7 +65,7 @@ pub fn rows() {
         let component = filled(unit, COMPONENT);
         path(name, format!("{component}/{component}").as_bytes(), 0);
     }
-    path("bytes 80 to BF alone, no UTF-8", &[0x80; 2 * COMPONENT + 1], 3);
+    path("bytes 80 alone, no UTF-8", &[0x80; 2 * COMPONENT + 1], 3);
     println!();
     println!("| listing with names of | bytes | exists, us | ns per byte |");
     println!("|---|---|---|---|");
