@@ -2,7 +2,7 @@
 //! of UTF-8's ranges or of a path's form. The long run has every string of three bytes, and of four bytes all whose last
 //! two are at an edge. Each is put to `exists` over an empty table and an empty listing, before a page that may not be
 //! touched: it is refused with 3, or the answer is no, as the plain form of a path says.
-use overlay::raw;
+use overlay::{EMPTY_LISTING, raw};
 
 use crate::{
     guarded::{Guarded, Side},
@@ -28,8 +28,6 @@ const THREE: u64 = 16 * 64 * 64 - 32 * 64 - 32 * 64;
 const PATHS: [u64; 3] =
     [ASCII - 1, ASCII * ASCII - 1 + TWO, ASCII * ASCII * ASCII + (ASCII - 1) * (ASCII - 1) + 2 * TWO * ASCII + THREE];
 
-const LISTING: &[u8] = b"RDL\x01\x00\x00\x00\x00\x00";
-
 /// Asks for every string that has at each place a byte of the list for that place. How many were asked for, and how many
 /// of them are a path.
 fn asked(memory: &mut Guarded, places: &[&[u8]]) -> [u64; 2] {
@@ -42,7 +40,7 @@ fn asked(memory: &mut Guarded, places: &[&[u8]]) -> [u64; 2] {
             rest /= place.len();
         }
         let is_path = plain::formed(&bytes).is_some();
-        let answer = raw::exists(LISTING, &[], &[0, 0, 0, 40], memory.hold(&bytes, Side::End));
+        let answer = raw::exists(EMPTY_LISTING, &[], &[0, 0, 0, 40], memory.hold(&bytes, Side::End));
         assert_eq!(answer, if is_path { 0 } else { 3 }, "{bytes:02X?}");
         counts = [counts[0] + 1, counts[1] + u64::from(is_path)];
     }

@@ -4,7 +4,7 @@
 use std::hint::black_box;
 
 use differential::listing::{Kind, Tree, bytes};
-use overlay::raw;
+use overlay::{EMPTY_LISTING, raw};
 
 use crate::{short, timed, walks::node};
 
@@ -26,8 +26,6 @@ const LISTING: usize = 256 << 10;
 const ROUNDS: usize = 200;
 const AT_A_TIME: usize = 100;
 
-const EMPTY: &[u8] = b"RDL\x01\x00\x00\x00\x00\x00";
-
 /// As many of the unit as fit, and ASCII behind them up to the length.
 fn filled(unit: &str, length: usize) -> String {
     let times = length / unit.len();
@@ -39,14 +37,14 @@ fn row(name: &str, bytes: usize, took: f64) {
     println!("| {name} | {bytes} | {} | {:.2} |", short(took), 1000.0 * took / bytes as f64);
 }
 
-/// The time of an `exists` over an empty table; the answer must be this one.
+/// Asks over an empty table; the answer must be this one.
 fn exists(listing: &[u8], path: &[u8], answer: u64) {
     let given = raw::exists(black_box(listing), &[], &[0, 0, 0, 40], black_box(path));
     assert_eq!(given, answer, "an answer of this kind");
 }
 
 fn path(name: &str, path: &[u8], answer: u64) {
-    let took = timed(ROUNDS, || (0..AT_A_TIME).for_each(|_| exists(EMPTY, path, answer)));
+    let took = timed(ROUNDS, || (0..AT_A_TIME).for_each(|_| exists(EMPTY_LISTING, path, answer)));
     row(name, path.len(), took / AT_A_TIME as f64);
 }
 

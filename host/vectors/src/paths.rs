@@ -1,15 +1,13 @@
 //! Strings of bytes in the vectors, each with 0 if it is a path and with 3 if it is none.
 use crate::{four, json::Json};
-use overlay::{raw, unpack};
-
-const LISTING: &[u8] = b"RDL\x01\x00\x00\x00\x00\x00";
+use overlay::{EMPTY_LISTING, raw, unpack};
 
 /// Asks over an empty table and an empty listing whether something is visible at the string, and compares: nothing is
 /// but the root. The item's number.
 pub fn compare(item: &Json) -> Result<u64, String> {
     let [path, number] = item.list() else { return Err(format!("{item:?}\nis no string with its number")) };
     let (path, number) = (path.bytes(), number.number());
-    let answer = four(unpack(raw::exists(LISTING, &[], &[0, 0, 0, 40], &path)));
+    let answer = four(unpack(raw::exists(EMPTY_LISTING, &[], &[0, 0, 0, 40], &path)));
     if answer != [number, 0, 0, path.is_empty().into()] {
         return Err(format!("{item:?}\ngives {answer:?}"));
     }
