@@ -1,5 +1,5 @@
-//! How long it takes to see that bytes are a path, by the characters that they have: one path, the longest part of an
-//! `exists` over nothing, and a listing with many names, of which each call checks every one.
+//! How long it takes to see that bytes are a path, by the characters that they have: one path, whose check
+//! is most of an `exists` over nothing, and a listing with many names, of which each call checks every one.
 
 use std::hint::black_box;
 
