@@ -35,12 +35,15 @@ file l e = kept 1 l e
 abbrev formed : ℕ → Bytes → ℕ → Bytes → Bytes
 formed n l m e = head 1 ++ (bytes 4 n ++ (l ++ (bytes 4 m ++ e)))
 
--- an entry that is deleted, and one with a body
+-- an entry that is deleted, and two with a body
 abbrev gone : Bytes
 gone = encode ((path "k", deleted) ∷ [])
 
 abbrev own-k : Bytes
 own-k = encode ((path "k", own 7 (1 ∷ 2 ∷ [])) ∷ [])
+
+abbrev long-k : Bytes
+long-k = encode ((path "k", own 7 (replicate 17 1)) ∷ [])
 
 -- the shortest file, byte by byte
 pub shortest : file bare [] ≡ 79 ∷ 86 ∷ 84 ∷ 1 ∷ 0 ∷ 9 ∷ 0 ∷ 0 ∷ 0 ∷ 82 ∷ 68 ∷ 76 ∷ 1 ∷ 0 ∷ 0 ∷ 0 ∷ 0 ∷ 0 ∷ 0 ∷ 0 ∷ 0 ∷ 0 ∷ []
@@ -76,9 +79,10 @@ writings =
     -- zeros behind the table's entries are not written
     ∷ keeping listing (padded 120 entries) (recordOf 40 there) 211 (accepted 211) (file listing entries)
     ∷ keeping bare [] (recordOf 40 []) 22 (accepted 22) (file bare [])
-    -- 1: another charge; before 2, 16 and 13
-    ∷ keeping listing entries (record { used = 107; count = 4; charge = 1194; «entry_size» = 40 }) 211 (refused 1 0 0) (replicate 211 7)
-    ∷ keeping [] entries (record { used = 107; count = 4; charge = 1194; «entry_size» = 41 }) 0 (refused 1 0 0) []
+    -- 1: another charge, the sum from before #107 among them; before 2, 16 and 13
+    ∷ keeping listing entries (record { used = 107; count = 4; charge = 1207; «entry_size» = 40 }) 211 (refused 1 0 0) (replicate 211 7)
+    ∷ keeping listing entries (record { used = 107; count = 4; charge = 1195; «entry_size» = 40 }) 211 (refused 1 0 0) (replicate 211 7)
+    ∷ keeping [] entries (record { used = 107; count = 4; charge = 1207; «entry_size» = 41 }) 0 (refused 1 0 0) []
     -- 2: a byte behind the listing; before 16 and 13
     ∷ keeping (listing ++ (0 ∷ [])) entries (recordOf 40 there) 212 (refused 2 0 0) (replicate 212 7)
     ∷ keeping [] entries (recordOf 41 there) 0 (refused 2 0 0) []
@@ -123,11 +127,13 @@ took c = readBack (c .file) (c .buffer)
 
 pub readings : List ReadingCase
 readings =
-    -- accepted: where the listing stands, the record with the charge summed, and zeros behind the entries
+    -- accepted: where the listing stands, the record with the charge summed (#107: "Older kept files read with the new
+    -- sums", here of 2 bytes and of 17), and zeros behind the entries
     reads (file listing entries) 107 91 (recordOf 40 there) entries
     ∷ reads (file listing entries) 109 91 (recordOf 40 there) (entries ++ (0 ∷ 0 ∷ []))
     ∷ reads (file bare []) 0 9 (recordOf 40 []) []
-    ∷ reads (file bare own-k) 27 9 (record { used = 27; count = 1; charge = 299; «entry_size» = 40 }) own-k
+    ∷ reads (file bare own-k) 27 9 (record { used = 27; count = 1; charge = 313; «entry_size» = 40 }) own-k
+    ∷ reads (file bare long-k) 42 9 (record { used = 42; count = 1; charge = 329; «entry_size» = 40 }) long-k
     -- an entry that the listing lacks, or that no call makes, is no damage
     ∷ reads (file bare (encode ((path "q/r", deleted) ∷ []))) 27 9 (record { used = 27; count = 1; charge = 299; «entry_size» = 40 }) (encode ((path "q/r", deleted) ∷ []))
     -- 14: nothing, a byte too short, another mark, another version; before 15 and 13

@@ -151,6 +151,17 @@ module _ (listing table : Bytes) (rec : Record) (l : isListing listing ≡ true)
   pub kept-read : IsBytes table → SameRead listing table rec buffer
   kept-read b = kept-read-words (words-read table b (rec .count) 0)
 
+  -- #107: "Older kept files read with the new sums." Whatever charge the record had when the file was written, it has
+  -- the table's now.
+  pub older-read : IsBytes table → (c : ℕ)
+      → readBack (fileOf listing table (record { used = rec .used; count = rec .count; charge = c; «entry_size» = rec .«entry_size» })) buffer
+      ≡ record {
+        reply = accepted 0;
+        content = some (record { «listing_start» = 9; «listing_len» = length listing; «record» = rec });
+        table = padded (length buffer) (encode (tableIn table rec));
+      }
+  older-read b c = kept-read b .answer
+
 -- "each accepted file is what the writer makes of its reading"
 pub record SameWritten (file buffer : Bytes) : Type 0 where
   pub content : Content

@@ -14,7 +14,7 @@ use Rattle.kept_read.specs.Heads.{heads}
 abbrev entry : Bytes
 entry = 0 ∷ 0 ∷ 3 ∷ 0 ∷ 1 ∷ 0 ∷ 0 ∷ 0 ∷ (replicate 16 0 ++ (7 ∷ []))
 
-by-heads : heads 40 entry ≡ Whole (record { used = 25; count = 1; charge = 297; «entry_size» = 40 })
+by-heads : heads 40 entry ≡ Whole (record { used = 25; count = 1; charge = 312; «entry_size» = 40 })
 unfolding fits
 by-heads = refl
 

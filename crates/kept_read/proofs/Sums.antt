@@ -8,7 +8,7 @@ use lib.Dec.{leb, eqb}
 use lib.ListN.{length}
 use Rattle.model.specs.Bytes.{Bytes, numberAt}
 use Rattle.model.specs.Tree.{Table}
-use Rattle.model.specs.Table.{charge, recordOf, entryEnd, entriesAt, tableIn, isTable}
+use Rattle.model.specs.Table.{chargeSum, recordOf, entryEnd, entriesAt, tableIn, isTable}
 use Rattle.model.specs.declared.Record.{Record}
 use Rattle.model.proofs.Orders.{bot, yea, nay, test, eqb-eq, eqb-true, and-true}
 use Rattle.model.proofs.Codec.{decoded}
@@ -63,7 +63,7 @@ own-record E s r h t =
 -- entries that stand are all counted and charged
 all-counted : (E : ℕ) (s : Bytes) (left at n c : ℕ) → Standing s (length (entriesUpTo s left at)) at
     → headsFrom E s left at n c
-    ≡ Whole (filledBy E s (n + length (entriesUpTo s left at)) (c + charge E (entriesUpTo s left at)))
+    ≡ Whole (filledBy E s (n + length (entriesUpTo s left at)) (c + chargeSum E (entriesUpTo s left at)))
 all-counted E s zero at n c st =
     ap₂ (λ (m d : ℕ). Whole (filledBy E s m d)) (omega arith) (omega arith)
 all-counted E s (suc left) at n c st = elim (test (leb (length s) at)) [
@@ -87,7 +87,7 @@ entries-counted E s h =
     let x = and-true (isTable s (summed E s)) (eqb (summed E s .used) (length s)) h in
     let u : length s ≡ summed E s .used = sym (eqb-eq (summed E s .used) (length s) (x .1)) in
     let n : 0 + length t ≡ length t = omega arith in
-    let c : 0 + charge E t ≡ charge E t = omega arith in
+    let c : 0 + chargeSum E t ≡ chargeSum E t = omega arith in
     all-counted E s (length s) 0 0 0 (table-stands s (summed E s) (x .0))
     ∙ (λ i. Whole (record { used = u i; count = n i; charge = c i; «entry_size» = E }))
 

@@ -1,5 +1,6 @@
 -- Computed cases of #105: what a call needs of the limit, and the two numbers for a rename. Above each stands a wrong program that it rules out.
--- The entry size is 40, the listing document 01's L unless said.
+-- The entry size is 40, the listing document 01's L unless said. Charges are those of #107: a body of 1 to 16 bytes
+-- counts as 16.
 use mathlib.Core.List.{List, [], _∷_, _++_, map}
 use mathlib.Core.Path.{_≡_, refl}
 use mathlib.Core.Bool.{Bool, true, false, cond}
@@ -24,6 +25,10 @@ n1 = (path "n", own 7 (1 ∷ [])) ∷ []
 abbrev referred : Table
 referred = (path "a/f", deleted) ∷ (path "b", reference two 5 (path "a/f")) ∷ []
 
+-- `y` a reference to `z`
+abbrev moved-z : Table
+moved-z = (path "y", reference 0 0 (path "z")) ∷ (path "z", deleted) ∷ []
+
 -- `b` with n bytes
 abbrev own-b : ℕ → Table
 own-b n = (path "b", own 7 (replicate n 1)) ∷ []
@@ -35,7 +40,7 @@ linked = dirAt "a" 1 ∷ fileAt "a/f" 2 5 ∷ linkAt "a/l" ∷ []
 pub needs : List ((Tree × Table × Call) × ℕ)
 needs =
     -- the charge before the call, or that of the data alone
-    ((L, [], write (path "n") 8 (1 ∷ [])), 298)
+    ((L, [], write (path "n") 8 (1 ∷ [])), 313)
     ∷ ((L, n1, write (path "n") 8 []), 297)
     -- a refused call needs nothing: 8, 17, 5, 7, 9
     ∷ ((L, n1, write (path "a") 8 []), 0)
@@ -43,11 +48,17 @@ needs =
     ∷ ((L, [], writeInside (path "z") 8 0 (1 ∷ [])), 0)
     ∷ ((L, [], mkdir (path "z/b") true false 8), 0)
     ∷ ((L, [], rmdir (path "a")), 0)
-    -- append's content beside the charge left out: 602 is the charge after
-    ∷ ((L, referred, append (path "b") 8 (6 ∷ []) (1 ∷ 2 ∷ 3 ∷ 4 ∷ 5 ∷ [])), 605)
+    -- append's content beside the charge left out, or rounded up: 612 is the charge after
+    ∷ ((L, referred, append (path "b") 8 (6 ∷ []) (1 ∷ 2 ∷ 3 ∷ 4 ∷ 5 ∷ [])), 618)
+    ∷ ((L, moved-z, append (path "y") 8 (9 ∷ []) []), 611)
     -- it is asked of an own file too
-    ∷ ((L, n1, append (path "n") 8 (2 ∷ []) []), 299)
-    ∷ ((L, n1, writeInside (path "n") 8 3 (9 ∷ [])), 301)
+    ∷ ((L, n1, append (path "n") 8 (2 ∷ []) []), 313)
+    ∷ ((L, n1, writeInside (path "n") 8 3 (9 ∷ [])), 313)
+    -- the growth as it is, or rounded up by itself: 1 byte becomes 18, and 16
+    ∷ ((L, n1, append (path "n") 8 (replicate 17 2) []), 329)
+    ∷ ((L, n1, writeInside (path "n") 8 17 (9 ∷ [])), 329)
+    ∷ ((L, n1, append (path "n") 8 (replicate 15 2) []), 313)
+    ∷ ((L, n1, writeInside (path "n") 8 16 []), 313)
     -- mkdir with parents charges the path alone; a directory that is there needs something
     ∷ ((L, [], mkdir (path "q/r") true false 8), 596)
     ∷ ((L, [], mkdir (path "a") false true 8), 0)
@@ -55,10 +66,12 @@ needs =
     ∷ ((L, n1, rmdir (path "n")), 0)
     -- onto itself something is needed
     ∷ ((L, there, rename (path "b") (path "b")), 0)
-    -- the plan left out; the charge after, 1,195
-    ∷ ((L, there, rename (path "b") (path "a")), 1460)
+    -- the plan left out; the charge after, 1,208
+    ∷ ((L, there, rename (path "b") (path "a")), 1473)
     -- a walk that stops needs nothing, or the charge after is asked behind it
     ∷ ((linked, [], rename (path "a") (path "c")), 521)
+    -- plan or walk rounded up, or beside a charge that is not: 315 charged, 265 planned, 521 walked
+    ∷ ((linked, (path "a/x", own 7 (1 ∷ [])) ∷ [], rename (path "a") (path "c")), 1101)
     ∷ []
 
 abbrev pub needed : (Tree × Table × Call) × ℕ → ℕ
@@ -81,20 +94,23 @@ long n = replicate n 120
 -- a rename, and its least limit and least length
 pub renames : List ((Tree × Table × Path × Path) × Option (ℕ × ℕ))
 renames =
-    ((L, [], path "a", path "b"), some (1195, 107))
-    ∷ ((L, [], path "z", path "y"), some (595, 51))
+    ((L, [], path "a", path "b"), some (1208, 107))
+    ∷ ((L, [], path "z", path "y"), some (610, 51))
+    -- a listed path of 16 bytes charged 32, of 17 charged 17; the length rounded up
+    ∷ ((fileAt "0123456789abcdef" 2 5 ∷ [], [], path "0123456789abcdef", path "y"), some (625, 81))
+    ∷ ((fileAt "0123456789abcdefg" 2 5 ∷ [], [], path "0123456789abcdefg", path "y"), some (642, 83))
     -- onto itself as onto another path; none there
     ∷ ((L, [], path "a", path "a"), some (0, 0))
     ∷ ((L, there, path "b", path "b"), some (0, 107))
     ∷ ((L, [], path "l", path "l"), none)
     ∷ ((L, [], path "q", path "q"), none)
     -- the length after without the length before, which is 52
-    ∷ ((L, own-b 27, path "z", path "b"), some (595, 52))
-    -- never below the present charge, which is 1,297
-    ∷ ((L, own-b 1000, path "z", path "b"), some (595, 1025))
+    ∷ ((L, own-b 27, path "z", path "b"), some (610, 52))
+    -- never below the present charge, which is 1,305
+    ∷ ((L, own-b 1000, path "z", path "b"), some (610, 1025))
     -- the plan left out
-    ∷ ((L, there, path "b", path "a"), some (1460, 107))
-    ∷ ((L, there, path "b", path "c"), some (1791, 159))
+    ∷ ((L, there, path "b", path "a"), some (1473, 107))
+    ∷ ((L, there, path "b", path "c"), some (1804, 159))
     -- the walk left out, or its nodes counted as directories
     ∷ (
       (

@@ -18,10 +18,9 @@ use Rattle.model.specs.Checks.{Check, pass, unlimited}
 use Rattle.model.specs.Rename.{Stop, atLink, Walk, stopped, walkFrom, walked, planned, ifDirectory, planAndWalk, directoryMemory}
 use Rattle.model.specs.declared.Record.{Record}
 use Rattle.model.proofs.Orders.{bot, yea, nay, test, eqb-eq}
-use Rattle.model.proofs.Codec.{decoded, charge-is}
+use Rattle.model.proofs.Codec.{decoded, bounds, charge-is}
 use Rattle.model.proofs.Formed.{Listing, listing-fine}
 use Rattle.base_fields.proofs.Pieces.{bytes-of}
-use Rattle.table_insert.proofs.Inserts.{bounds}
 use Rattle.least_walk.specs.Total.{costs, anyStops, reached}
 use Rattle.least_walk.proofs.Sums.{walk-total, walk-stops-at}
 use Rattle.least_need.specs.Need.{walkNeed, listedNeed, directoryNeed}

@@ -24,7 +24,7 @@ use Rattle.model.proofs.Orders.{bot, yea, nay, test}
 use Rattle.model.proofs.Words.{IsBytes}
 use Rattle.model.proofs.Invariant.{then-pass, unless-pass}
 use Rattle.model.proofs.Passed.{two-elsewhere, elsewhere-two, types-passed}
-use Rattle.table_insert.proofs.Inserts.{bounds}
+use Rattle.model.proofs.Codec.{bounds}
 use Rattle.check_judged.specs.declared.Judged.{Judged}
 use Rattle.check_judged.specs.declared.Judged.the-variants as judge
 use Rattle.check_judged.specs.Judged.{asCheck, checkOf, refuses}

@@ -1,5 +1,7 @@
 -- The cases of document 01, "Corners in overlay.rs and overlay_state.rs", that are marked (P): one table, one theorem, computed. Two have the
--- answer that #104 gives them.
+-- answer that #104 gives them. Charges and limits are those of #107: "A body's length is now charged rounded up to a
+-- multiple of 16; 0 stays 0. `b/f` and the write of two bytes in 01 become 315, the first case's total 1,208 and the
+-- way back needs a limit of 1,473."
 -- Each compares the whole answer (number, path, length), the charge and all entries after the call.
 use mathlib.Core.List.{List, [], _∷_, map}
 use mathlib.Core.Path.{_≡_, refl}
@@ -21,6 +23,7 @@ abbrev pub L : Tree
 L = dirAt "a" one ∷ fileAt "a/f" two 5 ∷ linkAt "l" ∷ fileAt "z" 0 0 ∷ []
 
 -- "Entries: `a` deleted 297, `a/f` deleted 299, `b` directory 297, `b/f` reference to `a/f` 302; charge 1,195."
+-- With #107 `b/f` is 315 and the charge 1,208.
 abbrev pub there : Table
 there = (path "a", deleted) ∷ (path "a/f", deleted) ∷ (path "b", directory one) ∷ (path "b/f", reference two 5 (path "a/f")) ∷ []
 
@@ -35,10 +38,10 @@ ample = 99_999
 pub cases : List Case
 cases =
     -- rename
-    from L (renaming 1195 "a" "b") [] (accepted 0) 1195 there
-    ∷ from L (renaming 1194 "a" "b") [] (refused 11 0 0) 0 []
-    ∷ from L (renaming 1195 "a" "b") (renaming 1460 "b" "a" ∷ []) (accepted 0) 1195 back
-    ∷ from L (renaming 1195 "a" "b") (renaming 1459 "b" "a" ∷ []) (refused 11 0 0) 1195 there
+    from L (renaming 1208 "a" "b") [] (accepted 0) 1208 there
+    ∷ from L (renaming 1207 "a" "b") [] (refused 11 0 0) 0 []
+    ∷ from L (renaming 1208 "a" "b") (renaming 1473 "b" "a" ∷ []) (accepted 0) 1208 back
+    ∷ from L (renaming 1208 "a" "b") (renaming 1472 "b" "a" ∷ []) (refused 11 0 0) 1208 there
     -- #104: "Cases `a` to `a` and `z` to `z` of 01 change"
     ∷ from L (renaming 0 "z" "z") [] (accepted 0) 0 []
     ∷ from L (renaming 0 "a" "a") [] (accepted 0) 0 []
@@ -60,7 +63,7 @@ cases =
     -- mkdir, write, queries
     ∷ from L (making ample "z/n") [] (refused 5 0 3) 0 []
     ∷ from L (makingAll ample "z/n") [] (refused 7 0 1) 0 []
-    ∷ from L (writing 301 "a/f" (1 ∷ 2 ∷ [])) [] (accepted 2) 301 ((path "a/f", own 7 (1 ∷ 2 ∷ [])) ∷ [])
+    ∷ from L (writing 315 "a/f" (1 ∷ 2 ∷ [])) [] (accepted 2) 315 ((path "a/f", own 7 (1 ∷ 2 ∷ [])) ∷ [])
     ∷ from L (query exists "l") [] (accepted 0) 0 []
     ∷ []
 

@@ -15,7 +15,7 @@ use Rattle.model.specs.Path.{Path, isPath, isRoot, short, component, com
 use Rattle.model.specs.Utf8.{utf8}
 use Rattle.model.specs.Map.{ascends}
 use Rattle.model.specs.Tree.{Entry, own, reference, directory, deleted, Table}
-use Rattle.model.specs.Table.{typeOf, mtimeOf, sizeOf, bodyOf, entryBytes, encode, padded, charge, recordOf, keyAt, bodyAt, entryOf, entryAt, entryEnd}
+use Rattle.model.specs.Table.{typeOf, mtimeOf, sizeOf, bodyOf, entryBytes, encode, padded, bodyCharge, chargeSum, capped, charge, recordOf, keyAt, bodyAt, entryOf, entryAt, entryEnd}
 use Rattle.model.specs.Table.{entriesAt, tableIn, formedBody, formedEntry, sameRecord, sized, isTable}
 use Rattle.model.specs.declared.Record.{Record}
 use Rattle.model.specs.Runs.{Word}
@@ -84,9 +84,42 @@ decoded s r h =
     let l : length s ≡ length (encode t) + (length s - length (encode t)) = ap length e ∙ length-padded (length s) (encode t) in
     record { bytes = e; rec = same-record-is r q (w .1); size = z .0; size-most = m .0; length-most = m .1; ascending = z .1; formed = y .1; fits = omega arith }
 
+-- the charge
+
+-- a table's bytes are at least 24 for an entry, and its sum is at most 256 + 4,096 for each byte
+pub bounds : (E : ℕ) (t : Table) → E ≤ 4096 → (24 * length t ≤ length (encode t)) × (chargeSum E t ≤ 4352 * length (encode t))
+bounds E [] h = (omega arith, omega arith)
+bounds E (x ∷ xs) h =
+    let i = bounds E xs h in
+    let l = entry-length (x .0) (x .1) in
+    let a = length-append (entryBytes (x .0) (x .1)) (encode xs) in
+    let i0 = i .0 in
+    let i1 = i .1 in
+    (omega arith, omega arith)
+
+-- a sum of 64 bits is not cut
+pub exact : (n : ℕ) → n ≤ 0xFFFF_FFFF_FFFF_FFFF → capped n ≡ n
+exact n h = omega arith
+
+-- nor is that of a table of at most 16 MiB
+pub charge-exact : (E n : ℕ) (t : Table) → sized E n ≡ true → length (encode t) ≤ n → charge E t ≡ chargeSum E t
+charge-exact E n t z l =
+    let m = sized-is E n z in
+    let m0 = m .0 in
+    let m1 = m .1 in
+    let b = bounds E t m0 .1 in
+    exact (chargeSum E t) (omega arith)
+
+-- "A rounded length or sum that would pass 2^64 − 1 counts as 2^64 − 1": with the body's length and each sum on the way cut, the charge is the same
+pub cut-on-the-way : (E : ℕ) (k : Path) (e : Entry) (t : Table)
+    → charge E ((k, e) ∷ t) ≡ capped (capped (256 + length k + E + capped (bodyCharge (length (bodyOf e)))) + charge E t)
+cut-on-the-way E k e t = omega arith
+
 -- the record's charge is the table's
 pub charge-is : (s : Bytes) (r : Record) → isTable s r ≡ true → r .charge ≡ charge (r .«entry_size») (tableIn s r)
-charge-is s r h = ap (λ (q : Record). q .charge) (decoded s r h .rec)
+charge-is s r h =
+    let d = decoded s r h in
+    ap (λ (q : Record). q .charge) (d .rec) ∙ sym (charge-exact (r .«entry_size») (length s) (tableIn s r) (d .size) (d .fits))
 
 -- the numbers that a table's bytes can hold: mtimes are any of 64 bits, and `formedBody` bounds the sizes
 

@@ -29,7 +29,7 @@ beside = dirAt "a" 1 ∷ fileAt "a-b" 2 3 ∷ fileAt "a0" 6 7 ∷ []
 pub belows : List Case
 belows =
     -- takes `a-b` or `a0` to be below `a` in the listing
-    from near (renaming 1195 "a" "c") [] (accepted 0) 1195
+    from near (renaming 1208 "a" "c") [] (accepted 0) 1208
     ((path "a", deleted) ∷ (path "a/x", deleted) ∷ (path "c", directory 1)
     ∷ (path "c/x", reference 4 5 (path "a/x")) ∷ [])
     -- takes them to be below `a` in the table; keeps the entries in the order of a tree's walk, `a/x` before `a-b`
@@ -61,7 +61,7 @@ deletions =
     (accepted 0) 1192
     ((path "a", directory one) ∷ (path "a/f", deleted) ∷ (path "b", deleted) ∷ (path "b/f", deleted) ∷ [])
     -- reads the listing through a deleted destination (9, or `d/g` seen again), or forgets what was deleted below it
-    ∷ from pair (unlinking ample "d/g") (removing ample "d" ∷ renaming 1494 "a" "d" ∷ []) (accepted 0) 1494
+    ∷ from pair (unlinking ample "d/g") (removing ample "d" ∷ renaming 1507 "a" "d" ∷ []) (accepted 0) 1507
     ((path "a", deleted) ∷ (path "a/f", deleted) ∷ (path "d", directory one)
     ∷ (path "d/f", reference two 5 (path "a/f")) ∷ (path "d/g", deleted) ∷ [])
     -- takes a deleted ancestor for a directory that is there, or refuses at it
@@ -116,7 +116,7 @@ shorter = (path "b", directory 7) ∷ (path "b/x", own 7 []) ∷ (path "ccc", de
 pub walks : List Case
 walks =
     -- walks one level only
-    from deep (renaming 1799 "a" "c") [] (accepted 0) 1799
+    from deep (renaming 1810 "a" "c") [] (accepted 0) 1810
     ((path "a", deleted) ∷ (path "a/b", deleted) ∷ (path "a/b/f", deleted)
     ∷ (path "c", directory 1) ∷ (path "c/b", directory 2) ∷ (path "c/b/f", reference 3 4 (path "a/b/f")) ∷ [])
     -- leaves a link behind, or takes it along
@@ -151,7 +151,7 @@ walks =
     ∷ begun linked 40 400 ((path "a/b", directory 9) ∷ []) (renaming ample "a" "c") [] (accepted 0) 1192
     ((path "a", deleted) ∷ (path "a/b", deleted) ∷ (path "c", directory 1) ∷ (path "c/b", directory 9) ∷ [])
     -- does not walk where the source has an entry, though it is a listed directory
-    ∷ begun L 40 400 ((path "a", directory 9) ∷ []) (renaming ample "a" "b") [] (accepted 0) 1195
+    ∷ begun L 40 400 ((path "a", directory 9) ∷ []) (renaming ample "a" "b") [] (accepted 0) 1208
     ((path "a", deleted) ∷ (path "a/f", deleted) ∷ (path "b", directory 9)
     ∷ (path "b/f", reference two 5 (path "a/f")) ∷ [])
     ∷ begun linked 40 400 ((path "a", directory 9) ∷ []) (renaming ample "a" "c") [] (refused 4 0 1) 297
@@ -210,7 +210,7 @@ orders =
     ∷ from L (renaming ample "z/n" "q/n") [] (refused 5 1 3) 0 []
     ∷ from L (renaming ample "z/n" "b") [] (refused 5 0 3) 0 []
     -- 9 for a destination that shows nothing
-    ∷ begun L 40 400 ((path "b/x/y", own 7 []) ∷ []) (renaming ample "a" "b") [] (accepted 0) 1496
+    ∷ begun L 40 400 ((path "b/x/y", own 7 []) ∷ []) (renaming ample "a" "b") [] (accepted 0) 1509
     ((path "a", deleted) ∷ (path "a/f", deleted) ∷ (path "b", directory one)
     ∷ (path "b/f", reference two 5 (path "a/f")) ∷ (path "b/x/y", own 7 []) ∷ [])
     -- "not empty" as anything below, where no child is visible
@@ -225,7 +225,7 @@ orders =
     ∷ from L (renaming ample "z" "a") [] (refused 8 1 1) 0 []
     -- keeps the destination's mtime
     ∷ from L (writing ample "b" (1 ∷ [])) (renaming ample "z" "b" ∷ [])
-    (accepted 0) 595 ((path "b", reference 0 0 (path "z")) ∷ (path "z", deleted) ∷ [])
+    (accepted 0) 610 ((path "b", reference 0 0 (path "z")) ∷ (path "z", deleted) ∷ [])
     -- 7 or 8 for an absent source and a file
     ∷ from L (renaming ample "q" "z") [] (refused 5 0 1) 0 []
     -- the source's parents before a link at the destination, or before the destination's root
@@ -320,10 +320,10 @@ itselves =
     ∷ poor (renaming 0 "a/f" "a/f") (accepted 0)
     ∷ from L (making ample "d") (renaming 0 "d" "d" ∷ []) (accepted 0) 297 ((path "d", directory 7) ∷ [])
     -- moves what was moved once more: its deleted entries, its references, its charge
-    ∷ from L (renaming ample "a" "b") (renaming 0 "b" "b" ∷ []) (accepted 0) 1195 there
-    ∷ from L (renaming ample "a" "b") (renaming 0 "b/f" "b/f" ∷ []) (accepted 0) 1195 there
+    ∷ from L (renaming ample "a" "b") (renaming 0 "b" "b" ∷ []) (accepted 0) 1208 there
+    ∷ from L (renaming ample "a" "b") (renaming 0 "b/f" "b/f" ∷ []) (accepted 0) 1208 there
     -- 13, where the entries fill the buffer
-    ∷ begun L 40 107 there (renaming 0 "b" "b") [] (accepted 0) 1195 there
+    ∷ begun L 40 107 there (renaming 0 "b" "b") [] (accepted 0) 1208 there
     ∷ begun L 40 0 [] (renaming 0 "a" "a") [] (accepted 0) 0 []
     -- 4 at a link in the walk, or 9 by what is below
     ∷ from hooked (renaming 0 "a" "a") [] (accepted 0) 0 []
@@ -340,11 +340,11 @@ itselves =
     -- accepted though nothing is there, or what was there is deleted
     ∷ poor (renaming 0 "n" "n") (refused 5 0 1)
     ∷ from L (unlinking ample "z") (renaming 0 "z" "z" ∷ []) (refused 5 0 1) 297 ((path "z", deleted) ∷ [])
-    ∷ from L (renaming ample "a" "b") (renaming 0 "a" "a" ∷ []) (refused 5 0 1) 1195 there
+    ∷ from L (renaming ample "a" "b") (renaming 0 "a" "a" ∷ []) (refused 5 0 1) 1208 there
     ∷ kept [] ((path "b", deleted) ∷ []) (renaming ample "b" "b") (refused 5 0 1) 297
     -- taken for a move onto itself by its beginning, its length or its parent
-    ∷ from L (renaming 1195 "a" "aa") [] (refused 11 0 0) 0 []
-    ∷ from L (renaming 595 "z" "y") [] (accepted 0) 595
+    ∷ from L (renaming 1209 "a" "aa") [] (refused 11 0 0) 0 []
+    ∷ from L (renaming 610 "z" "y") [] (accepted 0) 610
     ((path "y", reference 0 0 (path "z")) ∷ (path "z", deleted) ∷ [])
     ∷ from L (renaming ample "a" "a/a") [] (refused 10 0 1) 0 []
     ∷ []
@@ -357,10 +357,12 @@ smalls =
     ∷ from L (writing ample "a" []) [] (refused 8 0 1) 0 []
     ∷ from L (writing ample "" []) [] (refused 8 0 0) 0 []
     ∷ from L (writing ample "z" (1 ∷ 2 ∷ 3 ∷ 4 ∷ 5 ∷ [])) (writing ample "z" (6 ∷ 7 ∷ []) ∷ [])
-    (accepted 2) 299 ((path "z", own 7 (6 ∷ 7 ∷ [])) ∷ [])
+    (accepted 2) 313 ((path "z", own 7 (6 ∷ 7 ∷ [])) ∷ [])
     -- 11 only where the charge grows
-    ∷ from L (writing ample "z" (1 ∷ 2 ∷ 3 ∷ 4 ∷ 5 ∷ [])) (writing 298 "z" (6 ∷ 7 ∷ []) ∷ [])
-    (refused 11 0 0) 302 ((path "z", own 7 (1 ∷ 2 ∷ 3 ∷ 4 ∷ 5 ∷ [])) ∷ [])
+    ∷ from L (writing ample "z" (1 ∷ 2 ∷ 3 ∷ 4 ∷ 5 ∷ [])) (writing 312 "z" (6 ∷ 7 ∷ []) ∷ [])
+    (refused 11 0 0) 313 ((path "z", own 7 (1 ∷ 2 ∷ 3 ∷ 4 ∷ 5 ∷ [])) ∷ [])
+    ∷ from L (writing ample "z" (replicate 17 1)) (writing 312 "z" (6 ∷ 7 ∷ []) ∷ [])
+    (refused 11 0 0) 329 ((path "z", own 7 (replicate 17 1)) ∷ [])
     -- mkdir with parents: making listed parents again, leaves parents out, gives them mtime 0; charges only the last;
     -- implies exist_ok
     ∷ from L (makingAll ample "a/n/m") []
@@ -389,6 +391,59 @@ smalls =
     ∷ begun L 4096 400 [] (unlinking 4352 "z") [] (refused 11 0 0) 0 []
     ∷ []
 
+-- a content of n bytes
+abbrev ones : ℕ → Entry
+ones n = own 7 (replicate n 1)
+
+-- a listed file, moved to `y`
+abbrev file-to-y : String → ℕ → Reply → ℕ → Table → Case
+file-to-y p limit r k t = from (fileAt p 2 3 ∷ []) (renaming limit p "y") [] r k t
+
+-- #107: "A body's length is now charged rounded up to a multiple of 16; 0 stays 0."
+pub bodies : List Case
+bodies =
+    -- no byte is charged 16
+    from L (writing 297 "n" []) [] (accepted 0) 297 ((path "n", own 7 []) ∷ [])
+    -- 1 byte is charged 1, or nothing
+    ∷ from L (writing 313 "n" (1 ∷ [])) [] (accepted 1) 313 ((path "n", ones 1) ∷ [])
+    ∷ from L (writing 312 "n" (1 ∷ [])) [] (refused 11 0 0) 0 []
+    -- the other side of document 01's write of two bytes
+    ∷ from L (writing 314 "a/f" (1 ∷ 2 ∷ [])) [] (refused 11 0 0) 0 []
+    -- 16 bytes are charged 32
+    ∷ from L (writing 313 "n" (replicate 16 1)) [] (accepted 16) 313 ((path "n", ones 16) ∷ [])
+    ∷ from L (writing 312 "n" (replicate 16 1)) [] (refused 11 0 0) 0 []
+    -- 17 bytes are charged 16, or 17
+    ∷ from L (writing 329 "n" (replicate 17 1)) [] (accepted 17) 329 ((path "n", ones 17) ∷ [])
+    ∷ from L (writing 328 "n" (replicate 17 1)) [] (refused 11 0 0) 0 []
+    -- more than 16 bytes are charged 32, whatever their number
+    ∷ from L (writing 345 "n" (replicate 33 1)) [] (accepted 33) 345 ((path "n", ones 33) ∷ [])
+    ∷ from L (writing 344 "n" (replicate 33 1)) [] (refused 11 0 0) 0 []
+    -- a content is rounded, but not a listed path; or the key is too: a path of 16 bytes, 312 + 313, and of 17, 313 + 329
+    ∷ file-to-y "0123456789abcdef" 625 (accepted 0) 625
+    ((path "0123456789abcdef", deleted) ∷ (path "y", reference 2 3 (path "0123456789abcdef")) ∷ [])
+    ∷ file-to-y "0123456789abcdef" 624 (refused 11 0 0) 0 []
+    ∷ file-to-y "0123456789abcdefg" 642 (accepted 0) 642
+    ((path "0123456789abcdefg", deleted) ∷ (path "y", reference 2 3 (path "0123456789abcdefg")) ∷ [])
+    ∷ file-to-y "0123456789abcdefg" 641 (refused 11 0 0) 0 []
+    -- the bodies' sum is rounded, or E with the body
+    ∷ from L (writing ample "m" (1 ∷ [])) (writing 626 "n" (1 ∷ []) ∷ []) (accepted 1) 626
+    ((path "m", ones 1) ∷ (path "n", ones 1) ∷ [])
+    ∷ from L (writing ample "m" (1 ∷ [])) (writing 625 "n" (1 ∷ []) ∷ []) (refused 11 0 0) 313 ((path "m", ones 1) ∷ [])
+    ∷ begun L 1 400 [] (writing 274 "n" (1 ∷ [])) [] (accepted 1) 274 ((path "n", ones 1) ∷ [])
+    ∷ begun L 1 400 [] (writing 273 "n" (1 ∷ [])) [] (refused 11 0 0) 0 []
+    -- a shorter content keeps the charge of the longer one
+    ∷ from L (writing ample "n" (replicate 17 1)) (writing 313 "n" (replicate 16 1) ∷ []) (accepted 16) 313
+    ((path "n", ones 16) ∷ [])
+    -- a rounded body takes as many bytes of the table buffer
+    ∷ begun L 40 42 [] (writing 329 "n" (replicate 17 1)) [] (accepted 17) 329 ((path "n", ones 17) ∷ [])
+    ∷ begun L 40 41 [] (writing 329 "n" (replicate 17 1)) [] (refused 13 0 0) 0 []
+    -- plan or walk is rounded, or stands beside a charge that is not: 315 charged, 265 planned, 524 walked
+    ∷ from linked (writing ample "a/x" (1 ∷ [])) (renaming 1104 "a" "c" ∷ []) (refused 4 0 1) 315
+    ((path "a/x", ones 1) ∷ [])
+    ∷ from linked (writing ample "a/x" (1 ∷ [])) (renaming 1103 "a" "c" ∷ []) (refused 11 0 0) 315
+    ((path "a/x", ones 1) ∷ [])
+    ∷ []
+
 pub queries : List Case
 queries =
     -- all answered no, all yes; a link followed; the deleted seen; the root not known
@@ -404,7 +459,7 @@ queries =
     ∷ from L (query isDir "z") [] (accepted 0) 0 []
     ∷ from L (query isDir "l") [] (accepted 0) 0 []
     ∷ from L (unlinking ample "z") (query exists "z" ∷ []) (accepted 0) 297 ((path "z", deleted) ∷ [])
-    ∷ from L (renaming ample "a" "b") (query isFile "b/f" ∷ []) (accepted 1) 1195 there
+    ∷ from L (renaming ample "a" "b") (query isFile "b/f" ∷ []) (accepted 1) 1208 there
     ∷ []
 
 -- two directories; a key of 511 bytes below one of them, and one of 32 components
@@ -439,22 +494,24 @@ sizes =
     ∷ begun plots 4096 1200 (holds longRest) (renaming 10_000 "a" "bbb") [] (refused 11 0 0) 4863 (holds longRest)
     ∷ begun plots 40 535 (holds longRest) (renaming ample "a" "bbb") [] (refused 12 0 0) 807 (holds longRest)
     -- 13 off by one
-    ∷ begun L 40 107 [] (renaming ample "a" "b") [] (accepted 0) 1195 there
+    ∷ begun L 40 107 [] (renaming ample "a" "b") [] (accepted 0) 1208 there
     ∷ begun L 40 106 [] (renaming ample "a" "b") [] (refused 13 0 0) 0 []
     -- 13 before 11
-    ∷ begun L 40 106 [] (renaming 1194 "a" "b") [] (refused 11 0 0) 0 []
+    ∷ begun L 40 106 [] (renaming 1207 "a" "b") [] (refused 11 0 0) 0 []
     -- freed bytes not used again
     ∷ begun L 40 36 [] (writing ample "z" (1 ∷ 2 ∷ 3 ∷ 4 ∷ 5 ∷ 6 ∷ 7 ∷ 8 ∷ 9 ∷ 10 ∷ []))
-    (writing ample "z" (1 ∷ 2 ∷ 3 ∷ 4 ∷ 5 ∷ 6 ∷ 7 ∷ 8 ∷ 9 ∷ 10 ∷ 11 ∷ []) ∷ []) (accepted 11) 308
+    (writing ample "z" (1 ∷ 2 ∷ 3 ∷ 4 ∷ 5 ∷ 6 ∷ 7 ∷ 8 ∷ 9 ∷ 10 ∷ 11 ∷ []) ∷ []) (accepted 11) 313
     ((path "z", own 7 (1 ∷ 2 ∷ 3 ∷ 4 ∷ 5 ∷ 6 ∷ 7 ∷ 8 ∷ 9 ∷ 10 ∷ 11 ∷ [])) ∷ [])
     ∷ begun L 40 35 [] (writing ample "z" (1 ∷ 2 ∷ 3 ∷ 4 ∷ 5 ∷ 6 ∷ 7 ∷ 8 ∷ 9 ∷ 10 ∷ 11 ∷ [])) [] (refused 13 0 0) 0 []
     ∷ []
 
 pub corners : List Case
-corners = belows ++ deletions ++ walks ++ links ++ orders ++ parents ++ limits ++ itselves ++ smalls ++ queries ++ sizes
+corners =
+    belows ++ deletions ++ walks ++ links ++ orders ++ parents ++ limits ++ itselves ++ smalls ++ bodies ++ queries
+    ++ sizes
 
 pub corners-hold : map computed corners ≡ map stated corners
-unfolding corners belows deletions walks links orders parents limits itselves smalls queries sizes
+unfolding corners belows deletions walks links orders parents limits itselves smalls bodies queries sizes
 corners-hold = refl {a = map stated corners}
 
 -- #112's fifth rule is needed. Over `deep`, a table whose one entry is a directory at `a/b` keeps the other four; the

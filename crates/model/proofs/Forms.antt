@@ -166,8 +166,8 @@ tables =
     ∷ held removed 25 1 297 40 true
     ∷ held (bytes 2 1 ++ (bytes 2 4 ++ replicate 20 0)) 25 1 297 40 false
     -- each kind, and kinds 0, 5 and 257
-    ∷ held (raw 1 2 7 0 (path "z") (1 ∷ 2 ∷ [])) 27 1 299 40 true
-    ∷ held (raw 2 1 7 5 (path "z") (path "a")) 26 1 298 40 true
+    ∷ held (raw 1 2 7 0 (path "z") (1 ∷ 2 ∷ [])) 27 1 313 40 true
+    ∷ held (raw 2 1 7 5 (path "z") (path "a")) 26 1 313 40 true
     ∷ held (raw 3 0 7 0 (path "z") []) 25 1 297 40 true
     ∷ held (raw 4 0 0 0 (path "z") []) 25 1 297 40 true
     ∷ held (raw 0 0 0 0 (path "z") []) 25 1 297 40 false
@@ -177,10 +177,19 @@ tables =
     ∷ held (raw 1 0 0 1 (path "z") []) 25 1 297 40 false
     ∷ held (raw 3 0 0 1 (path "z") []) 25 1 297 40 false
     ∷ held (raw 4 0 0 1 (path "z") []) 25 1 297 40 false
-    ∷ held (raw 2 1 7 0x8000_0000_0000_0000 (path "z") (path "a")) 26 1 298 40 false
+    ∷ held (raw 2 1 7 0x8000_0000_0000_0000 (path "z") (path "a")) 26 1 313 40 false
     ∷ held (raw 4 0 1 0 (path "z") []) 25 1 297 40 false
-    ∷ held (raw 3 1 0 0 (path "z") (1 ∷ [])) 26 1 298 40 false
-    ∷ held (raw 4 1 0 0 (path "z") (1 ∷ [])) 26 1 298 40 false
+    ∷ held (raw 3 1 0 0 (path "z") (1 ∷ [])) 26 1 313 40 false
+    ∷ held (raw 4 1 0 0 (path "z") (1 ∷ [])) 26 1 313 40 false
+    -- #107: the old sum, of a content and of a listed path; a body of 16 bytes charged 32, and of 17 charged 16; the
+    -- whole entry rounded up
+    ∷ held (raw 1 2 7 0 (path "z") (1 ∷ 2 ∷ [])) 27 1 299 40 false
+    ∷ held (raw 2 1 7 5 (path "z") (path "a")) 26 1 298 40 false
+    ∷ held (raw 1 16 7 0 (path "z") (replicate 16 1)) 41 1 313 40 true
+    ∷ held (raw 1 16 7 0 (path "z") (replicate 16 1)) 41 1 329 40 false
+    ∷ held (raw 1 17 7 0 (path "z") (replicate 17 1)) 42 1 329 40 true
+    ∷ held (raw 1 17 7 0 (path "z") (replicate 17 1)) 42 1 313 40 false
+    ∷ held (raw 1 2 7 0 (path "z") (1 ∷ 2 ∷ [])) 27 1 304 40 false
     -- a body longer than the buffer; a key, and a listed path, that is empty or out of form
     ∷ held (raw 1 0xFFFF_FFFF 0 0 (path "z") []) 25 1 297 40 false
     ∷ kept ((path "", deleted) ∷ []) false

@@ -28,5 +28,6 @@ pub mod Resumed
 pub mod Built
 pub mod Unchanged
 pub mod Counted
+pub mod Cut
 pub mod Demand3
 pub mod Chained

@@ -12,7 +12,7 @@ use Rattle.model.specs.Bytes.{Bytes}
 use Rattle.model.specs.Map.{lookup}
 use Rattle.model.specs.Tree.{Table, shown}
 use Rattle.model.specs.Listing.{isListing, treeIn}
-use Rattle.model.specs.Table.{encode, padded, charge, recordOf, sized, isTable}
+use Rattle.model.specs.Table.{encode, padded, recordOf, sized, isTable}
 use Rattle.model.specs.declared.Record.{Record}
 use Rattle.model.specs.Checks.{Check, pass, refuse, _then_, unless, limited, unlimited}
 use Rattle.model.specs.Calls.{forms, rules, valueOf}
@@ -25,7 +25,7 @@ use Rattle.model.specs.Runs.{State, fed, step, after, begin, movedTo, Wo
 use Rattle.model.specs.Runs.{AcceptedByRules, RefusedWithCause, LeavesOthers, WithinLimit, DoesAsPosix, DoesAsSaid}
 use Rattle.model.proofs.Orders.{bot}
 use Rattle.model.proofs.Words.{IsBytes}
-use Rattle.model.proofs.Codec.{decoded, encoded, moved-table, opened-table}
+use Rattle.model.proofs.Codec.{decoded, charge-exact, encoded, moved-table, opened-table}
 use Rattle.model.proofs.Invariant.{then-pass, unless-pass}
 use Rattle.model.proofs.Agree.{Sound, sound-empty, accepts, allows, keeps, Caused, passed, because}
 use Rattle.model.proofs.Effects.{stays, in-limit, posix}
@@ -203,7 +203,8 @@ module _ (listing : Bytes) (E : ℕ) where
         go (refuse n w j) e h d = absurd (not-refused v n w j (sym h))
         go pass e h d = let p = has-passed q (x .store) e in
             elim (in-limit (x .store .rec .«entry_size») (q .limit) (entriesOf (x .store)) (treeIn listing) (q .call) (p .rule)) [
-              | inl z ↦ z
+              | inl z ↦ let d = decoded (x .store .table) (x .store .rec) (r .table) in
+                  subst (λ (n : ℕ). n ≤ q .limit) (charge-exact (x .store .rec .«entry_size») (length (x .store .table)) (tableAfter listing q (x .store)) (d .size) (p .fits)) z
               | inr z ↦ absurd (d (ap (λ (t : Table). padded (length (x .store .table)) (encode t)) z ∙ sym (decoded (x .store .table) (x .store .rec) (r .table) .bytes)))
             ]
 

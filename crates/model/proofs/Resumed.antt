@@ -17,11 +17,10 @@ use Rattle.model.specs.Outcome.{Store, Request}
 use Rattle.model.specs.Plain.{laid, visibleTree}
 use Rattle.model.specs.Rules.{Rules}
 use Rattle.model.specs.Runs.{State, after, resume, entriesOf, Word, WordedCalls, RunFrom}
-use Rattle.model.specs.declared.Record.{Record}
 use Rattle.model.proofs.Orders.{yea, nay, test, Split, split}
 use Rattle.model.proofs.Maps.{upd, lookup-put, lookup-del, Ascending, ascending-put, ascending-del, ascends-is, lookup-low}
 use Rattle.model.proofs.Words.{Worded, Words, IsBytes}
-use Rattle.model.proofs.Codec.{decoded}
+use Rattle.model.proofs.Codec.{decoded, charge-is}
 use Rattle.model.proofs.Rules.{rules-inv, inv-rules}
 use Rattle.model.proofs.Formed.{is-fine, listing-fine, bytes-drop, number-below}
 use Rattle.model.proofs.Reached.{Reached, reached-after, all-do}
@@ -77,7 +76,7 @@ module _ (listing : Bytes) (bytes : IsBytes listing) where
         each = all-do listing E bytes calls x words start;
         in-the-end = record {
           well-formed = end .table;
-          charge-afresh = ap (λ (r : Record). r .charge) (decoded (s .table) (s .rec) (end .table) .rec)
+          charge-afresh = charge-is (s .table) (s .rec) (end .table)
               ∙ ap (λ (e : ℕ). charge e (entriesOf s)) (end .size-kept ∙ sym (start .size-kept));
           same-tree = λ h p n. ap (λ (f : View). f p) (end .sound h .tree);
         };

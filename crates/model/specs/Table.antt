@@ -1,7 +1,7 @@
 -- Document 01, "The table and its charge": the table's bytes, its record and its charge.
 use mathlib.Core.Bool.{Bool, true, cond, _&&_}
 use mathlib.Core.List.{[], _∷_, _++_}
-use Prim.Native.Nat.{ℕ, zero, suc, _+_, _-_}
+use Prim.Native.Nat.{ℕ, zero, suc, _+_, _*_, _/_, _-_, min}
 use lib.Dec.{leb, ltb, eqb}
 use lib.ListN.{length, take, drop, replicate}
 use Rattle.model.specs.Bytes.{Bytes, every, numberAt, bytes, same}
@@ -57,22 +57,31 @@ encode (x ∷ xs) = entryBytes (x .0) (x .1) ++ encode xs
 abbrev pub padded : ℕ → Bytes → Bytes
 padded n s = s ++ replicate (n - length s) 0
 
--- what a body is charged, for its length: a definition of its own, since it is the part of the charge that can change
+-- #107: "A body's length is now charged rounded up to a multiple of 16; 0 stays 0."
 abbrev pub bodyCharge : ℕ → ℕ
-bodyCharge n = n
+bodyCharge n = 16 * ((n + 15) / 16)
 
 -- "An entry's charge: 256 + key length + E + body length."
 abbrev pub entryCharge : ℕ → Path → Entry → ℕ
 entryCharge E k e = 256 + length k + E + bodyCharge (length (bodyOf e))
 
 -- "A table's charge is the sum."
-abbrev pub charge : ℕ → Table → ℕ
-charge E [] = 0
-charge E (x ∷ xs) = entryCharge E (x .0) (x .1) + charge E xs
+abbrev pub chargeSum : ℕ → Table → ℕ
+chargeSum E [] = 0
+chargeSum E (x ∷ xs) = entryCharge E (x .0) (x .1) + chargeSum E xs
 
--- "The record by value holds bytes used, count, charge and E"
+-- #107: "A rounded length or sum that would pass 2^64 − 1 counts as 2^64 − 1": cut once, at the end, since a cut on the
+-- way there changes nothing (`cut-on-the-way`)
+abbrev pub capped : ℕ → ℕ
+capped n = min n 0xFFFF_FFFF_FFFF_FFFF
+
+abbrev pub charge : ℕ → Table → ℕ
+charge E t = capped (chargeSum E t)
+
+-- "The record by value holds bytes used, count, charge and E": the sum itself, which for a table is never cut
+-- (`charge-exact`)
 abbrev pub recordOf : ℕ → Table → Record
-recordOf E t = record { used = length (encode t); count = length t; charge = charge E t; «entry_size» = E }
+recordOf E t = record { used = length (encode t); count = length t; charge = chargeSum E t; «entry_size» = E }
 
 -- reading an entry that starts at `at`: its key, itself, and where it ends
 abbrev pub keyAt : Bytes → ℕ → Path

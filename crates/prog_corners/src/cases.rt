@@ -1,6 +1,6 @@
-// Document 01's cases for the calls but rename, and the corners beside them, as texts for `test_cases`. What each must
-// print is worked out by hand and stands in the program's stdout; items of one function share listings and buffers
-// where they can.
+// Document 01's cases for the calls but rename, with the charges of #107, and the corners beside them, as texts for
+// `test_cases`. What each must print is worked out by hand and stands in the program's stdout; items of one function
+// share listings and buffers where they can.
 use crate::scenes;
 
 fn queries() {
@@ -43,8 +43,8 @@ fn writes() {
         exists  - L - ----- a/f|\
         is_file - L - ----- a/f|\
         # write, at the limit and one below|\
-        write   2 L - 00300 a/f|\
-        write   2 L - 00301 a/f|\
+        write   2 L - 00314 a/f|\
+        write   2 L - 00315 a/f|\
         # write of fewer bytes, of none, at a new path and over a deleted one|\
         write   5 L - ----- a/f|\
         write   1 L - ----- a/f|\
@@ -84,10 +84,48 @@ fn writes_refused() {
         write   1 L - ----- a/f|\
         write   1 L - ----- a|\
         # 11 where the charge shrinks|\
-        write   5 L - ----- a/f|\
+        write  17 L - ----- a/f|\
         write   0 L - ----- z|\
-        write   4 L - 00599 a/f|\
-        write   4 L - 00600 a/f|",
+        write  16 L - 00611 a/f|\
+        write  16 L - 00612 a/f|",
+    );
+}
+
+// #107: a body is charged rounded up to a multiple of 16.
+fn bodies() {
+    scenes::over_l(
+        1024,
+        1024,
+        40,
+        b"# bodies of 0, 1, 16, 17, 32 and again 16 bytes, at the limit and one below|\
+        write   0 L - 00296 n|\
+        write   0 L - 00297 n|\
+        write   1 L - 00312 n|\
+        write   1 L - 00313 n|\
+        write  16 L - 00312 n|\
+        write  16 L - 00313 n|\
+        write  17 L - 00328 n|\
+        write  17 L - 00329 n|\
+        write  32 L - 00328 n|\
+        write  32 L - 00329 n|\
+        write  16 L - 00312 n|\
+        write  16 L - 00313 n|\
+        # the bodies are rounded one by one, not their sum|\
+        write   1 L - ----- a/f|\
+        write   1 L - 00627 n|\
+        write   1 L - 00628 n|\
+        unlink  - L - 00611 n|\
+        unlink  - L - 00612 n|",
+    );
+    scenes::over_l(
+        41,
+        41,
+        40,
+        b"# the bytes that an entry takes are not rounded: a table of 41 bytes|\
+        write  17 L - ----- n|\
+        write  16 L - ----- n|\
+        write  17 L - 00328 n|\
+        write  17 L - 00329 n|",
     );
 }
 
@@ -449,8 +487,8 @@ fn rooms() {
         b"# table of 29 bytes|\
         write   3 L - ----- a/f|\
         write   2 L - ----- a/f|\
-        write   3 L - 00301 a/f|\
-        write   3 L - 00302 a/f|\
+        write   3 L - 00314 a/f|\
+        write   3 L - 00315 a/f|\
         unlink  - L - ----- a/f|\
         unlink  - L - ----- z|",
     );
@@ -560,6 +598,7 @@ pub fn run() {
     queries();
     writes();
     writes_refused();
+    bodies();
     mkdirs();
     mkdirs_made();
     mkdirs_with_parents();

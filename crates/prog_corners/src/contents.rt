@@ -1,5 +1,5 @@
-// The cases of #103, adding to a file and writing inside it, and the corners beside them, as texts for `test_cases`.
-// What each must print is worked out by hand from #103 and stands in the program's stdout.
+// The cases of #103, adding to a file and writing inside it, with the charges of #107, and the corners beside them, as
+// texts for `test_cases`. What each must print is worked out by hand from both and stands in the program's stdout.
 use crate::scenes;
 
 fn appends() {
@@ -9,24 +9,24 @@ fn appends() {
         40,
         b"# append behind an own file's content, at the limit and one below|\
         write   2 L - ----- n|\
-        append  1 L - 00299 n|\
-        append  1 L - 00300 n|\
+        append  1 L - 00312 n|\
+        append  1 L - 00313 n|\
         +|\
-        append  3 L - 00303 n|\
+        append  3 L - 00313 n|\
         +|\
         is_file - L - ----- n|\
         # append of nothing sets the mtime, and asks for the limit|\
         write   1 L - ----- n|\
-        append  0 L - 00297 n|\
-        append  0 L - 00298 n|\
+        append  0 L - 00312 n|\
+        append  0 L - 00313 n|\
         +|\
         # append makes a file where nothing is, and over a deleted one|\
-        append  1 L - 00297 n|\
-        append  1 L - 00298 n|\
-        append  0 L - 00595 q|\
+        append  1 L - 00312 n|\
+        append  1 L - 00313 n|\
+        append  0 L - 00610 q|\
         unlink  - L - ----- z|\
-        append  1 L - 00892 z|\
-        append  1 L - 00893 z|\
+        append  1 L - 00922 z|\
+        append  1 L - 00923 z|\
         +|",
     );
 }
@@ -37,16 +37,16 @@ fn appends_lent() {
         1024,
         40,
         b"# append to a listed file: its bytes are lent|\
-        append  1 L - 00304 a/f 12345|\
-        append  1 L - 00305 a/f 12345|\
+        append  1 L - 00314 a/f 12345|\
+        append  1 L - 00315 a/f 12345|\
         +|\
         append  1 L - ----- a/f 12345|\
-        append  1 L - 00306 a/f|\
+        append  1 L - 00315 a/f|\
         +|\
         # append of nothing makes a listed file an own one|\
-        append  0 L - 00303 a/f 12345|\
-        append  0 L - 00304 a/f 12345|\
-        append  0 L - 00601 z|\
+        append  0 L - 00314 a/f 12345|\
+        append  0 L - 00315 a/f 12345|\
+        append  0 L - 00612 z|\
         +|",
     );
 }
@@ -60,14 +60,75 @@ fn appends_moved() {
         rename  - L - ----- a/f b|\
         append  1 L - ----- b|\
         append  1 L - ----- b 1234|\
-        append  1 L - 00604 b 12345|\
-        append  1 L - 00605 b 12345|\
+        append  1 L - 00617 b 12345|\
+        append  1 L - 00618 b 12345|\
         +|\
         # append to a moved file of size 0, where the charge falls|\
         rename  - L - ----- z y|\
-        append  0 L - 00594 y|\
-        append  0 L - 00595 y|\
+        append  0 L - 00609 y|\
+        append  0 L - 00610 y|\
         +|",
+    );
+}
+
+// #107: what is added within the multiple of 16 that is charged already costs nothing.
+fn sixteens() {
+    scenes::over_l(
+        1024,
+        1024,
+        40,
+        b"# append within sixteen bytes is accepted at the charge; the 17th and the 33rd byte cost sixteen|\
+        write   1 L - ----- n|\
+        append  9 L - 00312 n|\
+        append  9 L - 00313 n|\
+        append  6 L - 00313 n|\
+        append  1 L - 00328 n|\
+        append  1 L - 00329 n|\
+        +|\
+        append 15 L - 00328 n|\
+        append 15 L - 00329 n|\
+        append  1 L - 00344 n|\
+        append  1 L - 00345 n|\
+        # the same for writing inside, also over a gap|\
+        write   0 L - ----- n|\
+        inside  1 L - 00312 n 0|\
+        inside  1 L - 00313 n 0|\
+        inside  7 L - 00312 n 9|\
+        inside  7 L - 00313 n 9|\
+        +|\
+        inside  8 L - 00328 n 9|\
+        inside  8 L - 00329 n 9|\
+        +|\
+        inside  0 L - 00328 n 9|\
+        inside  0 L - 00329 n 9|\
+        # the same for a gap alone|\
+        write   0 L - ----- n|\
+        inside  0 L - 00312 n 9|\
+        inside  0 L - 00313 n 9|\
+        +|",
+    );
+}
+
+// #107: only charges are rounded; the bytes that have to be free beside the charge are not.
+fn sixteens_lent() {
+    scenes::over_l(
+        1024,
+        1024,
+        40,
+        b"# append to a listed file: the whole content is rounded|\
+        append 11 L - 00314 a/f 12345|\
+        append 11 L - 00315 a/f 12345|\
+        append  1 L - 00330 a/f|\
+        append  1 L - 00331 a/f|\
+        # append of one byte to a moved file: it has to be free beside the charge, which stays|\
+        rename  - L - ----- z y|\
+        append  1 L - 00610 y|\
+        append  1 L - 00611 y|\
+        +|\
+        # append of 17 bytes to a moved file: they have to be free beside the charge as it is|\
+        rename  - L - ----- z y|\
+        append 17 L - 00626 y|\
+        append 17 L - 00627 y|",
     );
 }
 
@@ -123,19 +184,19 @@ fn insides() {
         40,
         b"# writing inside an own file, at the limit and one below|\
         write   4 L - ----- n|\
-        inside  1 L - 00300 n 1|\
-        inside  1 L - 00301 n 1|\
+        inside  1 L - 00312 n 1|\
+        inside  1 L - 00313 n 1|\
         +|\
         inside  3 L - ----- n 0|\
         +|\
         # writing inside from the end on, and over it|\
         write   2 L - ----- n|\
-        inside  1 L - 00299 n 2|\
-        inside  1 L - 00300 n 2|\
+        inside  1 L - 00312 n 2|\
+        inside  1 L - 00313 n 2|\
         +|\
-        inside  3 L - 00301 n 1|\
+        inside  3 L - 00313 n 1|\
         +|\
-        inside  4 L - 00301 n 0|\
+        inside  4 L - 00313 n 0|\
         +|",
     );
 }
@@ -147,19 +208,19 @@ fn gaps() {
         40,
         b"# a gap before the offset is filled with zeros, also without data|\
         write   1 L - ----- n|\
-        inside  1 L - 00300 n 3|\
-        inside  1 L - 00301 n 3|\
+        inside  1 L - 00312 n 3|\
+        inside  1 L - 00313 n 3|\
         +|\
-        inside  0 L - 00302 n 6|\
-        inside  0 L - 00303 n 6|\
+        inside  0 L - 00312 n 6|\
+        inside  0 L - 00313 n 6|\
         +|\
         write   0 L - ----- n|\
-        inside  0 L - 00300 n 3|\
+        inside  0 L - 00313 n 3|\
         +|\
         # no data within the file sets the mtime, and asks for the limit|\
         write   2 L - ----- n|\
-        inside  0 L - 00298 n 1|\
-        inside  0 L - 00299 n 1|\
+        inside  0 L - 00312 n 1|\
+        inside  0 L - 00313 n 1|\
         +|",
     );
 }
@@ -206,30 +267,67 @@ fn ranges() {
     );
 }
 
+// #107: a charge that would pass 2^64 - 1 counts as 2^64 - 1.
+fn sums_cut() {
+    scenes::over_l(
+        1024,
+        1024,
+        40,
+        b"# a charge that would pass 2^64 - 1: 13 at that limit, 11 below it; limits and offsets from 2^64 - 1 \
+        downwards|\
+        write   0 L - ----- n|\
+        inside  0 L - max-1 n -0|\
+        inside  0 L - max-0 n -0|\
+        inside  1 L - max-1 n -1|\
+        inside  1 L - max-0 n -1|\
+        inside  8 L - max-1 n -8|\
+        inside  8 L - max-0 n -8|\
+        inside  0 L - max-1 n -9|\
+        inside  0 L - max-0 n -9|\
+        inside  1 L - max-0 n -0|\
+        inside  9 L - max-0 n -8|\
+        inside  1 L - max-0 n 0|\
+        append  1 L - max-0 n|\
+        +|",
+    );
+}
+
 fn rooms() {
     scenes::over_l(
         27,
         27,
         40,
         b"# append and writing inside in a table of 27 bytes|\
-        append  3 L - 00299 n|\
-        append  3 L - 00300 n|\
+        append  3 L - 00312 n|\
+        append  3 L - 00313 n|\
         append  2 L - ----- n|\
-        append  1 L - 00299 n|\
-        append  1 L - 00300 n|\
-        inside  0 L - 00299 n 3|\
-        inside  0 L - 00300 n 3|\
-        inside  2 L - 00299 n 0|",
+        append  1 L - 00312 n|\
+        append  1 L - 00313 n|\
+        inside  0 L - 00312 n 3|\
+        inside  0 L - 00313 n 3|\
+        inside  2 L - 00313 n 0|",
     );
     scenes::over_l(
         28,
         28,
         40,
         b"# the same in 28 bytes|\
-        append  3 L - 00300 n|\
+        append  3 L - 00313 n|\
         write   0 L - ----- n|\
-        inside  0 L - 00300 n 3|\
+        inside  0 L - 00313 n 3|\
         inside  1 L - ----- n 3|",
+    );
+    scenes::over_l(
+        41,
+        41,
+        40,
+        b"# append and writing inside in a table of 41 bytes, where the charge grows|\
+        write  16 L - ----- n|\
+        append  1 L - 00328 n|\
+        append  1 L - 00329 n|\
+        inside  8 L - 00328 n 9|\
+        inside  8 L - 00329 n 9|\
+        inside  7 L - 00313 n 9|",
     );
 }
 
@@ -291,12 +389,15 @@ pub fn run() {
     appends();
     appends_lent();
     appends_moved();
+    sixteens();
+    sixteens_lent();
     lent_counts();
     appends_refused();
     insides();
     gaps();
     insides_refused();
     ranges();
+    sums_cut();
     rooms();
     order_of_refusals();
     lists_of_calls();

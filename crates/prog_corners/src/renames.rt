@@ -1,6 +1,6 @@
-// Document 01's cases for rename, and the corners beside them, as texts for `test_cases`. The two paths of a rename
-// stand apart by a space. What each must print is worked out by hand and stands in the program's stdout; items of one
-// function share listings and buffers where they can.
+// Document 01's cases for rename with the charges of #107, and the corners beside them, as texts for `test_cases`. The
+// two paths of a rename stand apart by a space. What each must print is worked out by hand and stands in the program's
+// stdout; items of one function share listings and buffers where they can.
 use crate::scenes;
 
 // Two directories; and a directory with a directory and a file, whose names have 255 and 253 bytes.
@@ -31,15 +31,15 @@ fn directories() {
         1024,
         40,
         b"# rename of a directory, at the limit and one below, and back|\
-        rename  - L - 01194 a b|\
-        rename  - L - 01195 a b|\
+        rename  - L - 01207 a b|\
+        rename  - L - 01208 a b|\
         +|\
         exists  - L - ----- a|\
         exists  - L - ----- a/f|\
         is_dir  - L - ----- b|\
         is_file - L - ----- b/f|\
-        rename  - L - 01459 b a|\
-        rename  - L - 01460 b a|\
+        rename  - L - 01472 b a|\
+        rename  - L - 01473 b a|\
         +|\
         is_dir  - L - ----- a|\
         is_file - L - ----- a/f|\
@@ -49,11 +49,11 @@ fn directories() {
         mkdir   - L - ----- b|\
         write   2 L - ----- b/f|\
         mkdir   - L - ----- b/g|\
-        rename  - L - 01791 b c|\
-        rename  - L - 01792 b c|\
+        rename  - L - 01805 b c|\
+        rename  - L - 01806 b c|\
         +|\
-        rename  - L - 02321 c b|\
-        rename  - L - 02322 c b|\
+        rename  - L - 02335 c b|\
+        rename  - L - 02336 c b|\
         rename  - L - ----- b/g c|\
         rename  - L - ----- c b|\
         rename  - L - ----- b b/g/x|\
@@ -67,13 +67,13 @@ fn files() {
         1024,
         40,
         b"# rename of a file, and back|\
-        rename  - L - 00594 z y|\
-        rename  - L - 00595 z y|\
+        rename  - L - 00609 z y|\
+        rename  - L - 00610 z y|\
         +|\
         is_file - L - ----- y|\
         exists  - L - ----- z|\
-        rename  - L - 00594 y z|\
-        rename  - L - 00595 y z|\
+        rename  - L - 00609 y z|\
+        rename  - L - 00610 y z|\
         +|\
         # rename of a file onto a file; mtime and content are the source's|\
         write   1 L - ----- b|\
@@ -88,6 +88,26 @@ fn files() {
         write   0 L - ----- c|\
         rename  - L - 00593 c b|\
         rename  - L - 00594 c b|\
+        +|",
+    );
+}
+
+// #107: a reference's body is the listed path, and is charged rounded up to a multiple of 16.
+fn listed_paths() {
+    test_cases::run(
+        b"RDL\x01\x00\x02\x00\x00\x00\x10\x00\x02\x00\x00\x00\x00\x00\x00\x00\x00\x00\x00\x00\x00\x00\x00\x00\x00\
+        0123456789abcdef\x11\x00\x02\x00\x00\x00\x00\x00\x00\x00\x00\x00\x00\x00\x00\x00\x00\x00\x000123456789abcdefg",
+        b"RDL\x01\x00\x00\x00\x00\x00",
+        1024,
+        1024,
+        40,
+        b"# a reference to a path of 16 bytes; L is 0123456789abcdef 0123456789abcdefg|\
+        rename  - L - 00624 0123456789abcdef b|\
+        rename  - L - 00625 0123456789abcdef b|\
+        +|\
+        # a reference to a path of 17 bytes; L is 0123456789abcdef 0123456789abcdefg|\
+        rename  - L - 00641 0123456789abcdefg b|\
+        rename  - L - 00642 0123456789abcdefg b|\
         +|",
     );
 }
@@ -272,8 +292,8 @@ fn rooms() {
         40,
         b"# rename in a table of 106 bytes|\
         rename  - L - ----- a b|\
-        rename  - L - 01194 a b|\
-        rename  - L - 01195 a b|",
+        rename  - L - 01207 a b|\
+        rename  - L - 01208 a b|",
     );
     scenes::over_l(
         51,
@@ -313,8 +333,8 @@ fn beside() {
         1024,
         40,
         b"# a-b and a0 stay where a moves; L is a/ a-b a/x a0|\
-        rename  - L - 01194 a c|\
-        rename  - L - 01195 a c|\
+        rename  - L - 01207 a c|\
+        rename  - L - 01208 a c|\
         +|\
         is_file - L - ----- a-b|\
         is_file - L - ----- a0|\
@@ -387,14 +407,14 @@ fn onto_directories() {
         rename  - L - ----- a d|\
         unlink  - L - ----- d/g|\
         rmdir   - L - ----- d|\
-        rename  - L - 01493 a d|\
-        rename  - L - 01494 a d|\
+        rename  - L - 01506 a d|\
+        rename  - L - 01507 a d|\
         +|\
         exists  - L - ----- d/g|\
         # rename onto a directory that is empty; L is a/ a/f d/ d/g|\
         unlink  - L - ----- d/g|\
-        rename  - L - 01493 a d|\
-        rename  - L - 01494 a d|\
+        rename  - L - 01506 a d|\
+        rename  - L - 01507 a d|\
         +|",
     );
 }
@@ -410,8 +430,8 @@ fn levels() {
         40,
         b"# a directory in a directory; L is a/ a/b/ a/b/f|\
         rename  - L - ----- a a/b|\
-        rename  - L - 01798 a c|\
-        rename  - L - 01799 a c|\
+        rename  - L - 01809 a c|\
+        rename  - L - 01810 a c|\
         +|\
         is_dir  - L - ----- c/b|\
         is_file - L - ----- c/b/f|\
@@ -560,8 +580,8 @@ fn long_keys() {
         rename  - L - ----- a bb|\
         # the same where it is listed|\
         rename  - M - ----- a bbb|\
-        rename  - M - 03827 a bb|\
-        rename  - M - 03828 a bb|",
+        rename  - M - 03828 a bb|\
+        rename  - M - 03829 a bb|",
     );
 }
 
@@ -582,7 +602,7 @@ fn long_keys_in_order() {
         2195,
         40,
         b"# 11 before 12 before 13; a table of 2195 bytes|\
-        rename  - M - 03827 a bb|\
+        rename  - M - 03828 a bb|\
         rename  - M - ----- a bb|\
         rename  - M - ----- a bbb|",
     );
@@ -590,8 +610,8 @@ fn long_keys_in_order() {
         2196,
         4096,
         b"# 11 before 12; a table of 2196 bytes, E 4096|\
-        rename  - M - 28166 a bbb|\
         rename  - M - 28167 a bbb|\
+        rename  - M - 28168 a bbb|\
         rename  - M - ----- a bb|\
         # the same with an own file|\
         write   0 M - ----- a/xxxxxxxxxxxxxxxxxxxxxxxxxxxxxxxxxxxxxxxxxxxxxxxxxxxxxxxxxxxxxxxxxxxxxxxxxxxxxxxxxxxxxxxx\
@@ -663,6 +683,7 @@ fn a_list_of_calls() {
 pub fn run() {
     directories();
     files();
+    listed_paths();
     itself();
     refused();
     own_entries();

@@ -2,7 +2,9 @@
 // row by row and byte by byte. Usage: prog_sample SAMPLE. The file has less than 1 MiB; table, work buffer and report
 // have 64 KiB each. Nothing is assumed of its bytes. The file: mark `TSS1`, the number of lists (32 bits), then the
 // lists up to the end. A list: the lengths (32 bits each) of a listing, a script, the report and the entries that the
-// original left; then these four, one behind the other, in the forms of docs/FORMATS.md.
+// original left; then these four, one behind the other, in the forms of docs/FORMATS.md. The charges in the report are
+// sums by #107 over the original's entries, and the limits in the script are translated to it from those at which the
+// original was asked (host/README.md, "The sample").
 ghost use mathlib.Core.Path.{_≡_};
 ghost use Prim.Native.Nat.{_+_, _≤_, _<_};
 ghost use lib.ListN.{length};
@@ -62,7 +64,7 @@ fn differs(list: u64, how: &[u8]) -> bool {
     true
 }
 
-// Whether an answer, or the charge after it, is not the original's: the report does not begin with its rows.
+// Whether an answer, or the charge after it, is not the sample's: the report does not begin with its rows.
 fn answer_differs(list: u64, report: &[u8], rows: &[u8]) -> bool {
     let same = base_fields::shared(report, rows);
     if rows.len() <= same {

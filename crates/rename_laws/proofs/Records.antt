@@ -9,7 +9,7 @@ use lib.ListN.{length}
 use Rattle.model.specs.Path.{Path}
 use Rattle.model.specs.Map.{Map, lookup, put, puts}
 use Rattle.model.specs.Tree.{Table}
-use Rattle.model.specs.Table.{bodyOf, encode, entryCharge, charge}
+use Rattle.model.specs.Table.{bodyOf, encode, entryCharge, chargeSum}
 use Rattle.model.proofs.Orders.{Lt-≢, Cmp, cmp, Split, split, is-none, is-some, opt, bot, same-no, same-refl}
 use Rattle.model.proofs.Maps.{Ascending, lookup-puts, lookup-low, ascending-puts}
 use Rattle.table_measure.proofs.Passes.{bytes-cons}
@@ -88,7 +88,7 @@ count-total [] = refl
 count-total (x ∷ xs) = let i = count-total xs in omega arith
 
 -- and its charge
-pub charge-total : (E : ℕ) (t : Table) → charge E t ≡ total (entryCharge E) t
+pub charge-total : (E : ℕ) (t : Table) → chargeSum E t ≡ total (entryCharge E) t
 charge-total E [] = refl
 charge-total E (x ∷ xs) = let i = charge-total E xs in omega arith
 
@@ -106,7 +106,7 @@ module _ (m d t : Table) (h : Ascending t) (a : Apart d m) where
       rw (count-total (puts m (puts d t)), count-total t, count-total (puts d t), count-total (puts m t)) f
 
   -- the charge likewise
-  pub apart-charge : (E : ℕ) → charge E (puts m (puts d t)) + charge E t ≡ charge E (puts d t) + charge E (puts m t)
+  pub apart-charge : (E : ℕ) → chargeSum E (puts m (puts d t)) + chargeSum E t ≡ chargeSum E (puts d t) + chargeSum E (puts m t)
   apart-charge E =
       let f = apart-total (entryCharge E) m d t h a in
       rw (charge-total E (puts m (puts d t)), charge-total E t, charge-total E (puts d t), charge-total E (puts m t)) f

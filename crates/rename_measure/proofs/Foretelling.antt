@@ -14,15 +14,14 @@ use Rattle.model.specs.Path.{Path, isPath, components, short}
 use Rattle.model.specs.Map.{lookup, put, puts, only, each, keys, rekey, mapped}
 use Rattle.model.specs.Tree.{Entry, deleted, Table, Tree, shown, aDirectory, aFile, kind}
 use Rattle.model.specs.Listing.{ListingRecord, records, ruled, placed, formedRecord, treeFrom, treeIn, isListing}
-use Rattle.model.specs.Table.{bodyOf, encode, entryCharge, charge, formedBody, formedEntry, recordOf, tableIn, isTable}
+use Rattle.model.specs.Table.{bodyOf, encode, entryCharge, chargeSum, formedBody, formedEntry, recordOf, tableIn, isTable}
 use Rattle.model.specs.Rename.{asEntry, uncovered, along, carried, moved}
 use Rattle.model.specs.declared.Record.{Record}
 use Rattle.model.proofs.Orders.{bot, and-true, yea, nay, test, Split, split}
 use Rattle.model.proofs.Maps.{Ascending, ascends-is}
 use Rattle.model.proofs.Maps.{lookup-puts, lookup-only, lookup-mapped, lookup-keys, lookup-low, ascending-puts}
-use Rattle.model.proofs.Codec.{decoded, path-short}
+use Rattle.model.proofs.Codec.{decoded, bounds, path-short}
 use Rattle.model.proofs.Listings.{checked}
-use Rattle.table_insert.proofs.Inserts.{bounds}
 use Rattle.rename_carried.specs.Streams.{carriedBelow}
 use Rattle.rename_laws.proofs.Records.{Apart, weight, total-put, apart-used, apart-count, apart-charge, charge-total}
 use Rattle.rename_laws.proofs.Moves.{inside-carried, ascending-carried, ascending-rekey, carried-directory}
@@ -71,7 +70,7 @@ far-deleted t c k h g = let p = lookup-puts (each deleted (keys c)) t k in let e
 
 -- an entry put adds its charge, and takes that of what stood there
 charge-put : (E : ℕ) (k : Path) (v : Entry) (t : Table) → Ascending t
-    → charge E (put k v t) + weight (entryCharge E) k (lookup t k) ≡ charge E t + entryCharge E k v
+    → chargeSum E (put k v t) + weight (entryCharge E) k (lookup t k) ≡ chargeSum E t + entryCharge E k v
 charge-put E k v t h =
     let p = total-put (entryCharge E) k v t h in
     let a = charge-total E (put k v t) in
@@ -80,7 +79,7 @@ charge-put E k v t h =
 
 -- far keys are in no table: they add their charge alone
 pub charge-far : (E : ℕ) (m t : Table) → Ascending m → Ascending t → ((k : Path) → near k ≡ false → lookup t k ≡ none)
-    → charge E (puts m t) ≡ charge E (puts (only near m) t) + charge E (only far m)
+    → chargeSum E (puts m t) ≡ chargeSum E (puts (only near m) t) + chargeSum E (only far m)
 charge-far E [] t h g f = omega arith
 charge-far E (x ∷ xs) t h g f =
     let k = x .0 in
@@ -97,8 +96,8 @@ charge-far E (x ∷ xs) t h g f =
           let ww = ap (weight (entryCharge E) k) same-there in
           let c1 : only near (x ∷ xs) ≡ x ∷ only near xs = rw n in
           let c2 : only far (x ∷ xs) ≡ only far xs = rw n in
-          let d1 = ap (λ (y : Table). charge E (puts y t)) c1 in
-          let d2 = ap (charge E) c2 in
+          let d1 = ap (λ (y : Table). chargeSum E (puts y t)) c1 in
+          let d2 = ap (chargeSum E) c2 in
           omega arith
       | nay n ↦
           let l = lookup-low k xs (h .0) (h .1) in
@@ -107,8 +106,8 @@ charge-far E (x ∷ xs) t h g f =
           let ww = ap (weight (entryCharge E) k) gone in
           let c1 : only near (x ∷ xs) ≡ only near xs = rw n in
           let c2 : only far (x ∷ xs) ≡ x ∷ only far xs = rw n in
-          let d1 = ap (λ (y : Table). charge E (puts y t)) c1 in
-          let d2 = ap (charge E) c2 in
+          let d1 = ap (λ (y : Table). chargeSum E (puts y t)) c1 in
+          let d2 = ap (chargeSum E) c2 in
           omega arith
     ]
 
@@ -136,12 +135,12 @@ module _ (E : ℕ) (t : Table) (l : Tree) (a b : Path) (x : Table) (w : moved t 
   abbrev M : Table
   M = rekey a b (carried t l a)
 
-  pub foretold : (r : Projected) (extra : ℕ) → r .rec ≡ recordOf E (puts (only near M) x) → extra ≡ charge E (only far M)
-      → r .charge ≡ r .rec .charge + extra → r .long ≡ not (every short (keys M)) → Foretold E t l a b r
-  foretold r extra e x′ c o =
+  pub foretold : (r : Projected) (extra : ℕ) → r .rec ≡ recordOf E (puts (only near M) x) → extra ≡ chargeSum E (only far M)
+      → r .charge ≡ r .rec .charge + extra → r .charge ≤ 0xFFFF_FFFF_FFFF_FFFF → r .long ≡ not (every short (keys M)) → Foretold E t l a b r
+  foretold r extra e x′ c n o =
       let cf = charge-far E M x (ascending-rekey a b (carried t l a) (ascending-carried t l a lu)) up f in
-      let rc : r .rec .charge ≡ charge E (puts (only near M) x) = ap (λ (y : Record). y .charge) e in
-      let mc = ap (charge E) w in
+      let rc : r .rec .charge ≡ chargeSum E (puts (only near M) x) = ap (λ (y : Record). y .charge) e in
+      let mc = ap (chargeSum E) w in
       record {
         charge = omega arith;
         long = o;
@@ -177,7 +176,7 @@ small-put s r h k v kl vl o e =
     let b1 = b .1 in
     let u : o .used ≡ length (encode (put k v (tableIn s r))) = ap (λ (y : Record). y .used) e in
     let n : o .count ≡ length (put k v (tableIn s r)) = ap (λ (y : Record). y .count) e in
-    let c : o .charge ≡ charge E (put k v (tableIn s r)) = ap (λ (y : Record). y .charge) e in
+    let c : o .charge ≡ chargeSum E (put k v (tableIn s r)) = ap (λ (y : Record). y .charge) e in
     (omega arith, omega arith, omega arith)
 
 pub small-body : (s : Bytes) (r : Record) → isTable s r ≡ true → (k : Path) (n : ℕ) → length k ≤ 512 → n ≤ 16777216 → (o : Record)
@@ -196,7 +195,7 @@ one-moved E t a b e l o h x y =
     let c2 : only far ((b, e) ∷ []) ≡ [] = rw n in
     subst (λ (z : Table). Moved E t z (record { rec = o; extra = 0; long = not x })) (sym top) (record {
       rec = h ∙ ap (λ (z : Table). recordOf E (puts z t)) (sym c1);
-      extra = ap (charge E) (sym c2);
+      extra = ap (chargeSum E) (sym c2);
       long = ap not (y ∙ and-one (short b));
     })
   where
@@ -260,12 +259,12 @@ module _ (s g : Bytes) (r : Record) (h : isTable s r ≡ true) (i : isListing g 
         let v : m .rec .count ≡ length (puts N T) = ap (λ (o : Record). o .count) (w .rec) in
         omega arith
 
-    charge-is : charge E (puts N (puts D T)) + r .charge ≡ d .charge + m .rec .charge
+    charge-is : chargeSum E (puts N (puts D T)) + r .charge ≡ d .charge + m .rec .charge
     charge-is =
         let x = apart-charge N D T table-up apart E in
-        let y : r .charge ≡ charge E T = ap (λ (o : Record). o .charge) (decoded s r h .rec) in
-        let z : d .charge ≡ charge E (puts D T) = ap (λ (o : Record). o .charge) de in
-        let v : m .rec .charge ≡ charge E (puts N T) = ap (λ (o : Record). o .charge) (w .rec) in
+        let y : r .charge ≡ chargeSum E T = ap (λ (o : Record). o .charge) (decoded s r h .rec) in
+        let z : d .charge ≡ chargeSum E (puts D T) = ap (λ (o : Record). o .charge) de in
+        let v : m .rec .charge ≡ chargeSum E (puts N T) = ap (λ (o : Record). o .charge) (w .rec) in
         omega arith
 
     pub enough : (r .used ≤ d .used + m .rec .used) × (r .count ≤ d .count + m .rec .count) × (r .charge ≤ d .charge + m .rec .charge)
@@ -278,14 +277,14 @@ module _ (s g : Bytes) (r : Record) (h : isTable s r ≡ true) (i : isListing g 
         let z = charge-is in
         let u : d .used + m .rec .used - r .used ≡ length (encode (puts N (puts D T))) = omega arith in
         let n : d .count + m .rec .count - r .count ≡ length (puts N (puts D T)) = omega arith in
-        let c : d .charge + m .rec .charge - r .charge ≡ charge E (puts N (puts D T)) = omega arith in
+        let c : d .charge + m .rec .charge - r .charge ≡ chargeSum E (puts N (puts D T)) = omega arith in
         rw (u, n, c)
 
-    pub together-foretold : (y : Projected) → y ≡ combined r d m → Foretold E T L a b y
-    together-foretold y e =
+    pub together-foretold : (y : Projected) → y ≡ combined r d m → y .charge ≤ 0xFFFF_FFFF_FFFF_FFFF → Foretold E T L a b y
+    together-foretold y e n =
         subst (λ (z : Projected). Foretold E T L a b z) (sym e)
         (foretold E T L a b (puts D T) refl (ascending-puts D T table-up) tree-up far-gone (combined r d m) (m .extra) sums-are (w .extra) refl
-        (w .long))
+        (subst (λ (z : Projected). z .charge ≤ 0xFFFF_FFFF_FFFF_FFFF) e n) (w .long))
 
 -- what the code measures, by the source's kind
 module _ (s g : Bytes) (r : Record) (h : isTable s r ≡ true) (i : isListing g ≡ true) (a : Path) (w : Bool) (x : Source (tableIn s r)

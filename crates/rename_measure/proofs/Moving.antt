@@ -10,7 +10,7 @@ use Rattle.model.specs.Bytes.{Bytes, every}
 use Rattle.model.specs.Path.{Path, below, short}
 use Rattle.model.specs.Map.{Map, puts, only, keys, rekey}
 use Rattle.model.specs.Tree.{Entry, Table, Tree}
-use Rattle.model.specs.Table.{bodyOf, charge, tableIn, isTable}
+use Rattle.model.specs.Table.{bodyOf, chargeSum, tableIn, isTable}
 use Rattle.model.specs.Rename.{newKey}
 use Rattle.model.specs.declared.Record.{Record}
 use Rattle.model.proofs.Orders.{Lt, yea, nay, test, below-rest, rest-self}
@@ -67,8 +67,8 @@ pub record Moving (own part s : Bytes) (a b : Path) (e : Entry) (r : Record) (co
       (puts (only near (rekey a b ((a, e) ∷ ahead (tableIn s r) a own part from))) (tableIn s r))
       (only near (rekey a b (ahead (tableIn s r) a own part u))) (x .place) (x .rec) most
   pub room : most + 16778240 * remaining u ≤ 33555456 + 16778240 * (count + records)
-  pub extra : x .extra + charge (r .«entry_size») (only far (rekey a b (ahead (tableIn s r) a own part u)))
-      ≡ charge (r .«entry_size») (only far (rekey a b ((a, e) ∷ ahead (tableIn s r) a own part from)))
+  pub extra : x .extra + chargeSum (r .«entry_size») (only far (rekey a b (ahead (tableIn s r) a own part u)))
+      ≡ chargeSum (r .«entry_size») (only far (rekey a b ((a, e) ∷ ahead (tableIn s r) a own part from)))
   pub extra-room : x .extra + 16783360 * remaining u ≤ 16783360 * (count + records)
   pub long : (x .long || not (every short (keys (rekey a b (ahead (tableIn s r) a own part u)))))
       ≡ not (every short (keys (rekey a b ((a, e) ∷ ahead (tableIn s r) a own part from))))
@@ -106,7 +106,7 @@ module _ (own part s : Bytes) (a b : Path) (e : Entry) (r : Record) (count recor
       (putting-begun s r ((b, e) ∷ only near (to-come from)) q h asc′ refl) in
       let ex : x .extra ≡ 0 = z .0 in
       let no : far b ≡ false = ap not fits in
-      let ch = ap (charge E) (ap (only far) top ∙ only-no far b e (to-come from) no) in
+      let ch = ap (chargeSum E) (ap (only far) top ∙ only-no far b e (to-come from) no) in
       record {
         streaming = w;
         carrying = c;
@@ -148,7 +148,7 @@ module _ (own part s : Bytes) (a b : Path) (e : Entry) (r : Record) (count recor
         let none : to-come u ≡ [] = ap (rekey a b) (nothing-ahead own part T a u z) in
         let p : Putting s E (puts (only near all) T) [] (x .place) (x .rec) (m .most) =
         subst (λ (y : Table). Putting s E (puts (only near all) T) (only near y) (x .place) (x .rec) (m .most)) none (m .putting) in
-        let ch = ap (λ (y : Table). charge E (only far y)) none in
+        let ch = ap (λ (y : Table). chargeSum E (only far y)) none in
         let ex = m .extra in
         subst (λ (y : Table). Moved E T (rekey a b ((a, e) ∷ y)) (record {
           rec = record { used = x .rec .used; count = x .rec .count; charge = x .rec .charge; «entry_size» = E };
@@ -202,7 +202,7 @@ module _ (own part s : Bytes) (a b : Path) (e : Entry) (r : Record) (count recor
           let xr = m .extra-room in
           let k = d .kept t in
           let ex = m .extra in
-          let ch = ap (charge E) (ap (only far) next-moved ∙ only-no far key (item .1) (to-come v) (ap not t)) in
+          let ch = ap (chargeSum E) (ap (only far) next-moved ∙ only-no far key (item .1) (to-come v) (ap not t)) in
           record {
             streaming = w;
             carrying = c T (treeAt part records 0) (m .carrying) .0;
@@ -235,7 +235,7 @@ module _ (own part s : Bytes) (a b : Path) (e : Entry) (r : Record) (count recor
           let sm = m .putting .size in
           let k = d .charged t in
           let ex = m .extra in
-          let ch = ap (charge E) (ap (only far) next-moved ∙ only-yes far key (item .1) (to-come v) (ap not t)) in
+          let ch = ap (chargeSum E) (ap (only far) next-moved ∙ only-yes far key (item .1) (to-come v) (ap not t)) in
           record {
             streaming = w;
             carrying = c T (treeAt part records 0) (m .carrying) .0;

@@ -16,13 +16,12 @@ use Rattle.model.specs.Table.{bodyOf, entriesAt, keyAt, entryAt}
 use Rattle.model.specs.Rename.{asEntry, uncovered}
 use Rattle.model.proofs.Orders.{and-true, yea, nay, test, below-Lt}
 use Rattle.model.proofs.Maps.{Above, above-puts, above-mapped, ascends-is, is-ascends}
-use Rattle.model.proofs.Codec.{entry-length}
+use Rattle.model.proofs.Codec.{entry-length, bounds}
 use Rattle.model.proofs.Rules.{below-length}
 use Rattle.listing_records.specs.Place.{treeAt}
 use Rattle.listing_records.proofs.Places.{first-record}
 use Rattle.table_entries.specs.Place.{Standing}
 use Rattle.table_entries.proofs.Entries.{stands-here, count-is, standing-length}
-use Rattle.table_insert.proofs.Inserts.{bounds}
 use Rattle.rename_uncovered.specs.Ahead.{fitting, toCome}
 use Rattle.rename_carried.specs.Streams.{ahead, remaining, Streaming, Next, itemAt}
 use Rattle.rename_carried.specs.declared.Stream.{Stream}

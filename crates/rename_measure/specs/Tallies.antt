@@ -10,7 +10,7 @@ use Rattle.model.specs.Bytes.{Bytes, every, before}
 use Rattle.model.specs.Path.{Path, short}
 use Rattle.model.specs.Map.{lookup, put, puts, only, keys, rekey, mapped}
 use Rattle.model.specs.Tree.{Entry, Table, Tree, shown, aDirectory, aFile, kind}
-use Rattle.model.specs.Table.{bodyOf, charge, recordOf}
+use Rattle.model.specs.Table.{bodyOf, chargeSum, charge, recordOf}
 use Rattle.model.specs.Rename.{asEntry, uncovered, carried, moved}
 use Rattle.model.specs.declared.Record.{Record}
 use Rattle.table_charge.specs.Charge.{chargeBy}
@@ -40,7 +40,7 @@ pub record Counted (s : Bytes) (k : Path) (m : ℕ) (x y : Tally) : Type 0 where
 -- r has all of M counted, over the table t
 pub record Moved (E : ℕ) (t M : Table) (r : Moves) : Type 0 where
   pub rec : r .rec ≡ recordOf E (puts (only near M) t)
-  pub extra : r .extra ≡ charge E (only far M)
+  pub extra : r .extra ≡ chargeSum E (only far M)
   pub long : r .long ≡ not (every short (keys M))
 
 -- numbers that can be added

@@ -9,7 +9,7 @@ use Rattle.model.specs.Bytes.{Bytes, order, same, before}
 use Rattle.model.specs.Path.{Path}
 use Rattle.model.specs.Map.{Map, lookup, put}
 use Rattle.model.specs.Tree.{Table}
-use Rattle.model.specs.Table.{entryBytes, encode, charge}
+use Rattle.model.specs.Table.{entryBytes, encode, chargeSum}
 use Rattle.model.proofs.Orders.{Lt, Lt-irrefl, Lt-trans, Lt-≢, Cmp, cmp, Split, split, test, yea, nay, bot}
 use Rattle.model.proofs.Maps.{Ascending, above-trans, lookup-low}
 use Rattle.table_entries.specs.Cut.{upTo, since, behind, firstIf}
@@ -83,6 +83,6 @@ pub encode-append : (a b : Table) → encode (a ++ b) ≡ encode a ++ encode b
 encode-append [] b = refl
 encode-append (x ∷ xs) b = ap (λ (l : Bytes). entryBytes (x .0) (x .1) ++ l) (encode-append xs b) ∙ sym (append-assoc (entryBytes (x .0) (x .1)) (encode xs) (encode b))
 
-pub charge-append : (E : ℕ) (a b : Table) → charge E (a ++ b) ≡ charge E a + charge E b
+pub charge-append : (E : ℕ) (a b : Table) → chargeSum E (a ++ b) ≡ chargeSum E a + chargeSum E b
 charge-append E [] b = omega arith
 charge-append E (x ∷ xs) b = let h = charge-append E xs b in omega (arith, h)

@@ -2,7 +2,7 @@
 use mathlib.Core.Path.{_≡_, ap, sym, subst, _∙_}
 use mathlib.Core.List.{[], _∷_}
 use mathlib.Core.Bool.{true}
-use Prim.Native.Nat.{ℕ, _+_, _-_, _*_, _<_, _≤_}
+use Prim.Native.Nat.{ℕ, _+_, _-_, _<_, _≤_}
 use native.Mathlib.Omega.{arith}
 use lib.Dec.{leb}
 use lib.ListN.{length, replicate, length-append}
@@ -11,10 +11,10 @@ use Rattle.model.specs.Bytes.{Bytes}
 use Rattle.model.specs.Path.{Path}
 use Rattle.model.specs.Map.{put}
 use Rattle.model.specs.Tree.{Entry, Table}
-use Rattle.model.specs.Table.{bodyOf, entryBytes, encode, charge, recordOf, entryOf, entriesAt, tableIn, isTable}
+use Rattle.model.specs.Table.{bodyOf, entryBytes, encode, chargeSum, capped, recordOf, entryOf, entriesAt, tableIn, isTable}
 use Rattle.model.specs.declared.Record.{Record}
 use Rattle.model.proofs.Orders.{test, yea, nay, bot}
-use Rattle.model.proofs.Codec.{decoded, entry-length}
+use Rattle.model.proofs.Codec.{decoded, bounds, entry-length}
 use Rattle.table_entries.specs.declared.Place.{Place}
 use Rattle.table_entries.specs.Place.{endOf}
 use Rattle.table_entries.specs.Cut.{upTo, behind}
@@ -27,17 +27,6 @@ use Rattle.table_insert.specs.Insert.{judged, insertion, isDone, ifDone}
 use Rattle.table_insert.specs.declared.Inserted.{Inserted}
 use Rattle.table_insert.specs.declared.Inserted.the-variants.{Done, MemoryUsageLimitExceeded, NoRoom}
 
--- a table in form is small: its bytes are at least 24 for an entry, and its charge is at most 256 + 4,096 for each byte
-pub bounds : (E : ℕ) (t : Table) → E ≤ 4096 → (24 * length t ≤ length (encode t)) × (charge E t ≤ 4352 * length (encode t))
-bounds E [] h = (omega arith, omega arith)
-bounds E (x ∷ xs) h =
-    let i = bounds E xs h in
-    let l = entry-length (x .0) (x .1) in
-    let a = length-append (entryBytes (x .0) (x .1)) (encode xs) in
-    let i0 = i .0 in
-    let i1 = i .1 in
-    (omega arith, omega arith)
-
 pub counts-all : (s : Bytes) (r : Record) → isTable s r ≡ true → Counts s (r .count) 0 r
 counts-all s r h =
     let d = decoded s r h in
@@ -49,7 +38,7 @@ counts-all s r h =
     let b1 = b .1 in
     let u : r .used ≡ length (encode (tableIn s r)) = ap (λ (q : Record). q .used) e in
     let n : r .count ≡ length (tableIn s r) = ap (λ (q : Record). q .count) e in
-    let c : r .charge ≡ charge (r .«entry_size») (tableIn s r) = ap (λ (q : Record). q .charge) e in
+    let c : r .charge ≡ chargeSum (r .«entry_size») (tableIn s r) = ap (λ (q : Record). q .charge) e in
     let f = d .fits in
     record {
       stand = table-stands s r h;
@@ -115,19 +104,19 @@ pub zeros-as-long : (w w₁ w₂ : Bytes) → w₂ ≡ replicate (length w₁) 0
 zeros-as-long w w₁ w₂ e l = e ∙ ap (λ (n : ℕ). replicate n 0) l
 
 -- the three answers, by the two tests
-pub over-limit : (r : Record) (limit n : ℕ) → limit < r .charge → MemoryUsageLimitExceeded ≡ judged r limit n
-over-limit r limit n h = rw (lt-leb (r .charge) limit h)
+pub over-limit : (r : Record) (limit n : ℕ) → limit < capped (r .charge) → MemoryUsageLimitExceeded ≡ judged r limit n
+over-limit r limit n h = rw (lt-leb (capped (r .charge)) limit h)
 
-pub no-room : (r : Record) (limit n : ℕ) → r .charge ≤ limit → n < r .used → NoRoom ≡ judged r limit n
-no-room r limit n h g = rw (le-leb (r .charge) limit h, lt-leb (r .used) n g)
+pub no-room : (r : Record) (limit n : ℕ) → capped (r .charge) ≤ limit → n < r .used → NoRoom ≡ judged r limit n
+no-room r limit n h g = rw (le-leb (capped (r .charge)) limit h, lt-leb (r .used) n g)
 
-pub in-both : (r : Record) (limit n : ℕ) → r .charge ≤ limit → r .used ≤ n → Done r ≡ judged r limit n
-in-both r limit n h g = rw (le-leb (r .charge) limit h, le-leb (r .used) n g)
+pub in-both : (r : Record) (limit n : ℕ) → capped (r .charge) ≤ limit → r .used ≤ n → Done r ≡ judged r limit n
+in-both r limit n h g = rw (le-leb (capped (r .charge)) limit h, le-leb (r .used) n g)
 
 -- it is done only in the room that there is
 pub done-fits : (r : Record) (limit n : ℕ) → isDone (judged r limit n) ≡ true → r .used ≤ n
 done-fits r limit n h =
-    elim (test (leb (r .charge) limit)) [
+    elim (test (leb (capped (r .charge)) limit)) [
       | yea a ↦ elim (test (leb (r .used) n)) [ yea b ↦ leb-true (r .used) n b | nay b ↦ absurd (bot (cc)) ]
       | nay a ↦ absurd (bot (cc))
     ]

@@ -9,7 +9,7 @@ use Rattle.model.specs.Bytes.{Bytes, every, same, before}
 use Rattle.model.specs.Path.{Path}
 use Rattle.model.specs.Map.{put}
 use Rattle.model.specs.Tree.{Entry, Table}
-use Rattle.model.specs.Table.{bodyOf, entryBytes, encode, charge, recordOf, entriesAt, tableIn, isTable}
+use Rattle.model.specs.Table.{bodyOf, entryBytes, encode, chargeSum, recordOf, entriesAt, tableIn, isTable}
 use Rattle.model.specs.declared.Record.{Record}
 use Rattle.model.proofs.Orders.{Lt-irrefl, Lt-trans, Lt-≢, Cmp, cmp, test, yea, nay, and-true}
 use Rattle.model.proofs.Codec.{decoded, entry-length, same-is}
@@ -111,8 +111,8 @@ module _ (E : ℕ) where
   pub bytes-cons : (k : Path) (e : Entry) (t : Table) → bytesOf ((k, e) ∷ t) ≡ 24 + length k + length (bodyOf e) + bytesOf t
   bytes-cons k e t = length-append (entryBytes k e) (encode t) ∙ ap (λ (n : ℕ). n + bytesOf t) (entry-length k e)
 
-  pub charge-cons : (k : Path) (e : Entry) (t : Table) → charge E ((k, e) ∷ t) ≡ chargeBy E (length k) (length (bodyOf e)) + charge E t
-  charge-cons k e t = ap (λ (n : ℕ). n + charge E t) (charge-by E k e)
+  pub charge-cons : (k : Path) (e : Entry) (t : Table) → chargeSum E ((k, e) ∷ t) ≡ chargeBy E (length k) (length (bodyOf e)) + chargeSum E t
+  charge-cons k e t = ap (λ (n : ℕ). n + chargeSum E t) (charge-by E k e)
 
   -- v put at q, in the place of what `since` begins with, if that has the key q
   module _ (t done b : Table) (q : Path) (v : Entry) (w : t ≡ done ++ b) (p : put q v t ≡ done ++ put q v b) where
@@ -141,19 +141,19 @@ module _ (E : ℕ) where
         ∙ length-append done (upTo q b ++ ((q, v) ∷ behind q b))
         ∙ ap (λ (n : ℕ). length done + n) (length-append (upTo q b) ((q, v) ∷ behind q b) ∙ ap (λ (n : ℕ). length (upTo q b) + n) (omega arith))
 
-    charge-cut : charge E t ≡ charge E done + (charge E (upTo q b) + charge E (since q b))
+    charge-cut : chargeSum E t ≡ chargeSum E done + (chargeSum E (upTo q b) + chargeSum E (since q b))
     charge-cut =
-        ap (charge E) cut ∙ charge-append E done (upTo q b ++ since q b) ∙ ap (λ (n : ℕ). charge E done + n) (charge-append E (upTo q b) (since q b))
+        ap (chargeSum E) cut ∙ charge-append E done (upTo q b ++ since q b) ∙ ap (λ (n : ℕ). chargeSum E done + n) (charge-append E (upTo q b) (since q b))
 
-    charge-put : charge E (put q v t)
-        ≡ charge E done + (charge E (upTo q b) + (chargeBy E (length q) (length (bodyOf v)) + charge E (behind q b)))
+    charge-put : chargeSum E (put q v t)
+        ≡ chargeSum E done + (chargeSum E (upTo q b) + (chargeBy E (length q) (length (bodyOf v)) + chargeSum E (behind q b)))
     charge-put =
-        ap (charge E) put-there
+        ap (chargeSum E) put-there
         ∙ charge-append E done (upTo q b ++ ((q, v) ∷ behind q b))
-        ∙ ap (λ (n : ℕ). charge E done + n)
-        (charge-append E (upTo q b) ((q, v) ∷ behind q b) ∙ ap (λ (n : ℕ). charge E (upTo q b) + n) (charge-cons q v (behind q b)))
+        ∙ ap (λ (n : ℕ). chargeSum E done + n)
+        (charge-append E (upTo q b) ((q, v) ∷ behind q b) ∙ ap (λ (n : ℕ). chargeSum E (upTo q b) + n) (charge-cons q v (behind q b)))
 
-    same-record : (u n c : ℕ) → u ≡ bytesOf (put q v t) → n ≡ length (put q v t) → c ≡ charge E (put q v t)
+    same-record : (u n c : ℕ) → u ≡ bytesOf (put q v t) → n ≡ length (put q v t) → c ≡ chargeSum E (put q v t)
         → _≡_ {A = Record} (record { used = u; count = n; charge = c; «entry_size» = E }) (recordOf E (put q v t))
     same-record u n c a d e = λ i. record { used = a i; count = d i; charge = e i; «entry_size» = E }
 
@@ -162,7 +162,7 @@ module _ (E : ℕ) where
     added-is m f l =
         let bb = ap bytesOf f in
         let nn = ap length f in
-        let cc′ = ap (charge E) f in
+        let cc′ = ap (chargeSum E) f in
         let b1 = bytes-cut in
         let b2 = bytes-put in
         let n1 = count-cut in
@@ -178,7 +178,7 @@ module _ (E : ℕ) where
         let k = ap length (same-is x q h) in
         let bb = ap bytesOf f ∙ bytes-cons x e (behind q b) in
         let nn = ap length f in
-        let cc′ = ap (charge E) f ∙ charge-cons x e (behind q b) in
+        let cc′ = ap (chargeSum E) f ∙ charge-cons x e (behind q b) in
         let b1 = bytes-cut in
         let b2 = bytes-put in
         let n1 = count-cut in
@@ -191,7 +191,7 @@ module _ (E : ℕ) where
     pub in-bytes : bytesOf (since q b) ≤ bytesOf t
     in-bytes = let h = bytes-cut in omega arith
 
-    pub in-charge : charge E (since q b) ≤ charge E t
+    pub in-charge : chargeSum E (since q b) ≤ chargeSum E t
     in-charge = let h = charge-cut in omega arith
 
   -- another entry put at q in the place of v₀: only the body counts

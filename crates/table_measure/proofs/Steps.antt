@@ -9,7 +9,7 @@ use Rattle.model.specs.Bytes.{Bytes, numberAt, same, before}
 use Rattle.model.specs.Path.{Path}
 use Rattle.model.specs.Map.{put}
 use Rattle.model.specs.Tree.{Entry, Table}
-use Rattle.model.specs.Table.{bodyOf, entryBytes, encode, bodyCharge, charge, keyAt, entryAt, entryEnd, entriesAt}
+use Rattle.model.specs.Table.{bodyOf, entryBytes, encode, bodyCharge, chargeSum, keyAt, entryAt, entryEnd, entriesAt}
 use Rattle.model.specs.declared.Record.{Record}
 use Rattle.model.proofs.Orders.{bot}
 use Rattle.model.proofs.Codec.{entry-length}
@@ -72,9 +72,9 @@ module _ (s : Bytes) (q : Path) (n at m to : ℕ) (r : Record) (c : Counts s n a
       let y = ap (λ (t : Table). length (encode t)) first ∙ length-append (entryBytes (keyAt s to) (entryAt s to)) (encode (entriesAt s (m - 1) (entryEnd s to))) in
       let z = entry-length (keyAt s to) (entryAt s to) in
       let g = st .body-length in
-      let i = ap (charge (r .«entry_size»)) (up-since q b) in
+      let i = ap (chargeSum (r .«entry_size»)) (up-since q b) in
       let j = charge-append (r .«entry_size») (upTo q b) (since q b) in
-      let k = ap (charge (r .«entry_size»)) first in
+      let k = ap (chargeSum (r .«entry_size»)) first in
       let a = c .bytes in
       let d = c .charged in
       (omega arith, omega arith)

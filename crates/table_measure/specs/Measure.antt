@@ -7,7 +7,7 @@ use lib.ListN.{length}
 use Rattle.model.specs.Bytes.{Bytes, every, same, before}
 use Rattle.model.specs.Path.{Path}
 use Rattle.model.specs.Tree.{Table}
-use Rattle.model.specs.Table.{encode, bodyCharge, charge, recordOf, entriesAt}
+use Rattle.model.specs.Table.{encode, bodyCharge, chargeSum, recordOf, entriesAt}
 use Rattle.model.specs.declared.Record.{Record}
 use Rattle.table_charge.specs.Charge.{chargeBy}
 use Rattle.table_entries.specs.Place.{Standing}
@@ -51,7 +51,7 @@ pub record Measured (s : Bytes) (t : Table) (k : Path) (left at E : ℕ) (r : Re
 pub record Counts (s : Bytes) (left at : ℕ) (r : Record) : Type 0 where
   pub stand : Standing s left at
   pub bytes : length (encode (entriesAt s left at)) ≤ r .used
-  pub charged : charge (r .«entry_size») (entriesAt s left at) ≤ r .charge
+  pub charged : chargeSum (r .«entry_size») (entriesAt s left at) ≤ r .charge
   pub used-small : r .used ≤ 0x4000_0000_0000_0000
   pub count-small : r .count ≤ 0x4000_0000_0000_0000
   pub charge-small : r .charge ≤ 0x4000_0000_0000_0000

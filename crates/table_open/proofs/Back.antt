@@ -12,7 +12,7 @@ use Rattle.model.specs.Bytes.{Bytes, every, numberAt, bytes}
 use Rattle.model.specs.Path.{Path, isPath}
 use Rattle.model.specs.Map.{ascends}
 use Rattle.model.specs.Tree.{Entry}
-use Rattle.model.specs.Table.{typeOf, mtimeOf, sizeOf, bodyOf, entryBytes, encode, charge, keyAt, bodyAt, entryAt, entryEnd, entriesAt, formedEntry}
+use Rattle.model.specs.Table.{typeOf, mtimeOf, sizeOf, bodyOf, entryBytes, encode, chargeSum, keyAt, bodyAt, entryAt, entryEnd, entriesAt, formedEntry}
 use Rattle.model.specs.declared.Record.{Record}
 use Rattle.model.proofs.Words.{IsBytes}
 use Rattle.model.proofs.Orders.{eqb-eq, and-true}
@@ -107,7 +107,7 @@ pub record Passed (s : Bytes) (r : Record) (n at : ℕ) (p : Path) (c : ℕ) : T
   pub up : ascends p (entriesAt s n at) ≡ true
   pub formed : every formedEntry (entriesAt s n at) ≡ true
   pub used : at + length (encode (entriesAt s n at)) ≡ r .used
-  pub charged : c + charge (r .«entry_size») (entriesAt s n at) ≡ r .charge
+  pub charged : c + chargeSum (r .«entry_size») (entriesAt s n at) ≡ r .charge
   pub within : r .used ≤ length s
   pub nothing : zeros (drop (r .used) s) ≡ true
 

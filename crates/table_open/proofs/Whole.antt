@@ -12,7 +12,7 @@ use Rattle.model.specs.Bytes.{Bytes, every, numberAt, same, before}
 use Rattle.model.specs.Path.{Path}
 use Rattle.model.specs.Map.{ascends}
 use Rattle.model.specs.Tree.{Table}
-use Rattle.model.specs.Table.{entryBytes, encode, padded, charge, recordOf, keyAt, bodyAt, entryAt, entryEnd, entriesAt, tableIn}
+use Rattle.model.specs.Table.{entryBytes, encode, padded, chargeSum, recordOf, keyAt, bodyAt, entryAt, entryEnd, entriesAt, tableIn}
 use Rattle.model.specs.Table.{formedEntry, sameRecord, sized, isTable}
 use Rattle.model.specs.declared.Record.{Record}
 use Rattle.model.proofs.Words.{IsBytes}
@@ -44,12 +44,12 @@ pass-table s bs r h =
     let a = and-true (sized (r .«entry_size») (length s)) (run s r (r .count) 0 [] 0) h in
     let d = passed s bs r (r .count) 0 [] 0 (omega arith) (a .1) in
     let u : length (encode t) ≡ r .used = let u = d .used in omega arith in
-    let c : charge (r .«entry_size») t ≡ r .charge = let c = d .charged in omega arith in
+    let c : chargeSum (r .«entry_size») t ≡ r .charge = let c = d .charged in omega arith in
     let z : drop (r .used) s ≡ replicate (length s - length (encode t)) 0
     = zeros-behind s (r .used) (d .nothing) ∙ ap (λ (n : ℕ). replicate (length s - n) 0) (sym u) in
     let e : s ≡ padded (length s) (encode t) = d .bytes ∙ ap (λ (x : Bytes). encode t ++ x) z in
     let q : recordOf (r .«entry_size») t ≡ r
-    = record-is r (length (encode t)) (length t) (charge (r .«entry_size») t) u (count-is s (r .count) 0) c in
+    = record-is r (length (encode t)) (length t) (chargeSum (r .«entry_size») t) u (count-is s (r .count) 0) c in
     all-five (sized (r .«entry_size») (length s)) (ascends [] t) (every formedEntry t) (same s (padded (length s) (encode t)))
     (sameRecord r (recordOf (r .«entry_size») t))
     (a .0) (d .up) (d .formed) (ap (same s) (sym e) ∙ same-refl s) (ap (sameRecord r) q ∙ same-record r)
@@ -73,7 +73,7 @@ entry-ordered s n at p w b = record {
 -- entries that stand, and a record that agrees with them, pass
 module _ (s : Bytes) (r : Record) (z : zeros (drop (r .used) s) ≡ true) where
   runs : (n at : ℕ) (p : Path) (c : ℕ) → Standing s n at → ascends p (entriesAt s n at) ≡ true
-      → at + length (encode (entriesAt s n at)) ≡ r .used → c + charge (r .«entry_size») (entriesAt s n at) ≡ r .charge
+      → at + length (encode (entriesAt s n at)) ≡ r .used → c + chargeSum (r .«entry_size») (entriesAt s n at) ≡ r .charge
       → run s r n at p c ≡ true
   runs zero at p c st up u v =
       let e : at ≡ r .used = omega arith in
@@ -96,7 +96,7 @@ table-passes s r h =
     let t : Table = tableIn s r in
     let d = decoded s r h in
     let u : r .used ≡ length (encode t) = ap (λ (q : Record). q .used) (d .rec) in
-    let c : r .charge ≡ charge (r .«entry_size») t = ap (λ (q : Record). q .charge) (d .rec) in
+    let c : r .charge ≡ chargeSum (r .«entry_size») t = ap (λ (q : Record). q .charge) (d .rec) in
     let pad : Bytes = replicate (length s - length (encode t)) 0 in
     let b : drop (length (encode t)) s ≡ pad = ap (drop (length (encode t))) (d .bytes) ∙ drop-append-seam (encode t) pad in
     let z : zeros (drop (r .used) s) ≡ true

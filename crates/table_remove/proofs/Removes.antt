@@ -9,7 +9,7 @@ use Rattle.model.specs.Bytes.{Bytes, numberAt, same, before}
 use Rattle.model.specs.Path.{Path}
 use Rattle.model.specs.Map.{del}
 use Rattle.model.specs.Tree.{Entry, Table}
-use Rattle.model.specs.Table.{bodyOf, encode, charge, recordOf, keyAt, entryAt, entriesAt, tableIn, isTable}
+use Rattle.model.specs.Table.{bodyOf, encode, chargeSum, recordOf, keyAt, entryAt, entriesAt, tableIn, isTable}
 use Rattle.model.specs.declared.Record.{Record}
 use Rattle.model.proofs.Orders.{Lt, Lt-irrefl, Lt-trans, Lt-≢, Cmp, cmp, same-no, same-refl, test, yea, nay}
 use Rattle.model.proofs.Maps.{Above, Ascending, above-trans, ascends-is}
@@ -81,8 +81,8 @@ module _ (E : ℕ) (t : Table) (k : Path) where
   count-cut : length t ≡ length (upTo k t) + length (since k t)
   count-cut = ap length (sym (up-since k t)) ∙ length-append (upTo k t) (since k t)
 
-  charge-cut : charge E t ≡ charge E (upTo k t) + charge E (since k t)
-  charge-cut = ap (charge E) (sym (up-since k t)) ∙ charge-append E (upTo k t) (since k t)
+  charge-cut : chargeSum E t ≡ chargeSum E (upTo k t) + chargeSum E (since k t)
+  charge-cut = ap (chargeSum E) (sym (up-since k t)) ∙ charge-append E (upTo k t) (since k t)
 
   module _ (up : Ascending t) where
     bytes-del : bytesOf (del k t) ≡ bytesOf (upTo k t) + bytesOf (behind k t)
@@ -91,10 +91,10 @@ module _ (E : ℕ) (t : Table) (k : Path) where
     count-del : length (del k t) ≡ length (upTo k t) + length (behind k t)
     count-del = ap length (del-cut k t up) ∙ length-append (upTo k t) (behind k t)
 
-    charge-del : charge E (del k t) ≡ charge E (upTo k t) + charge E (behind k t)
-    charge-del = ap (charge E) (del-cut k t up) ∙ charge-append E (upTo k t) (behind k t)
+    charge-del : chargeSum E (del k t) ≡ chargeSum E (upTo k t) + chargeSum E (behind k t)
+    charge-del = ap (chargeSum E) (del-cut k t up) ∙ charge-append E (upTo k t) (behind k t)
 
-    same-record : (u m c : ℕ) → u ≡ bytesOf (del k t) → m ≡ length (del k t) → c ≡ charge E (del k t)
+    same-record : (u m c : ℕ) → u ≡ bytesOf (del k t) → m ≡ length (del k t) → c ≡ chargeSum E (del k t)
         → _≡_ {A = Record} (record { used = u; count = m; charge = c; «entry_size» = E }) (recordOf E (del k t))
     same-record u m c a d e = λ i. record { used = a i; count = d i; charge = e i; «entry_size» = E }
 
@@ -104,12 +104,12 @@ module _ (E : ℕ) (t : Table) (k : Path) where
 
   -- the entry e stands there
   module _ (x : Path) (e : Entry) (key : x ≡ k) (f : since k t ≡ (x, e) ∷ behind k t) where
-    held : (24 + length k + length (bodyOf e) ≤ bytesOf t) × (1 ≤ length t) × (chargeBy E (length k) (length (bodyOf e)) ≤ charge E t)
+    held : (24 + length k + length (bodyOf e) ≤ bytesOf t) × (1 ≤ length t) × (chargeBy E (length k) (length (bodyOf e)) ≤ chargeSum E t)
     held =
         let l = ap length key in
         let b = ap bytesOf f ∙ bytes-cons E x e (behind k t) in
         let m = ap length f in
-        let c = ap (charge E) f ∙ charge-cons E x e (behind k t) in
+        let c = ap (chargeSum E) f ∙ charge-cons E x e (behind k t) in
         let b1 = bytes-cut in
         let m1 = count-cut in
         let c1 = charge-cut in
@@ -120,7 +120,7 @@ module _ (E : ℕ) (t : Table) (k : Path) where
         let l = ap length key in
         let b = ap bytesOf f ∙ bytes-cons E x e (behind k t) in
         let m = ap length f in
-        let c = ap (charge E) f ∙ charge-cons E x e (behind k t) in
+        let c = ap (chargeSum E) f ∙ charge-cons E x e (behind k t) in
         let b1 = bytes-cut in
         let m1 = count-cut in
         let c1 = charge-cut in
@@ -182,7 +182,7 @@ module _ (s : Bytes) (r : Record) (k : Path) (left at : ℕ) (h : isTable s r �
           let g : (24 + length k + m ≤ r .used) × (1 ≤ r .count) × (chargeBy (r .«entry_size») (length k) m ≤ r .charge) =
           subst (λ (q : Record). (24 + length k + m ≤ q .used) × (1 ≤ q .count) × (chargeBy (r .«entry_size») (length k) m ≤ q .charge)) (sym e)
           (subst
-          (λ (n : ℕ). (24 + length k + n ≤ bytesOf all) × (1 ≤ length all) × (chargeBy (r .«entry_size») (length k) n ≤ charge (r .«entry_size») all))
+          (λ (n : ℕ). (24 + length k + n ≤ bytesOf all) × (1 ≤ length all) × (chargeBy (r .«entry_size») (length k) n ≤ chargeSum (r .«entry_size») all))
           (sym is-body) c) in
           let g0 = g .0 in
           let d = decoded s r h in

@@ -52,7 +52,8 @@ fn sum_within(x: u64, y: u64, bound: u64) -> bool
 }
 
 // What inserting an entry with a body of `len` bytes will answer, for any `len`: the limit first, then the room. The
-// record is measured without the body, so that no sum with its length is made before it is known to be within a bound.
+// record is measured without the body: a charge that would pass 2^64 − 1 counts as that, and no sum of bytes is made
+// before it is known to be within the room.
 fn judge_length(
     table: &[u8],
     rec: model::Record,
@@ -67,7 +68,8 @@ fn judge_length(
 {
     let bare = table_insert::projected_record(table, rec, key, 0);
     let charged = table_charge::body_charge(len);
-    if !sum_within(bare.charge, charged, limit) {
+    let charge = table_charge::saturating_add(bare.charge, charged);
+    if limit < charge {
         return table_insert::Inserted::MemoryUsageLimitExceeded;
     }
     if !sum_within(bare.used, len, table.len() as u64) {
@@ -76,7 +78,7 @@ fn judge_length(
     table_insert::Inserted::Done(model::Record {
         used: bare.used + len,
         count: bare.count,
-        charge: bare.charge + charged,
+        charge: charge,
         entry_size: bare.entry_size,
     })
 }

@@ -1,10 +1,10 @@
 // Cases as a text, whose items each end before a bar. An item that begins with # is a title, and the table is opened
 // anew; `+` prints the entries; `!` changes the table's last byte from 0 to 1 and back. Every other item is a call, in
-// columns: its name; from 8 its data's size, or p, e or b for mkdir's flags; from 10 the listing: L the first, M the
-// second, X the first without its last byte; from 12 what the record has wrong: u its used, e its E; from 14 the limit,
-// or dashes; from 20 the path. Behind the path and a space stand a rename's destination, the bytes that an append is
-// lent, or the offset of `inside`, which writes inside a file: a digit, or a dash and a digit, which is taken from
-// 2^64 - 1.
+// columns: its name; up to 8 its data's size, which is at most 32, or p, e or b for mkdir's flags; from 10 the listing:
+// L the first, M the second, X the first without its last byte; from 12 what the record has wrong: u its used, e its E;
+// from 14 the limit: five digits, or dashes for a million, or `max-` and a digit, which is taken from 2^64 - 1; from 20
+// the path. Behind the path and a space stand a rename's destination, the bytes that an append is lent, or the offset
+// of `inside`, which writes inside a file: a digit, or a dash and a digit, which is taken from 2^64 - 1.
 ghost use Prim.Native.Nat.{_≤_};
 ghost use lib.ListN.{length};
 use crate::tell;
@@ -53,8 +53,12 @@ fn digit(s: &[u8], i: usize) -> u64
 }
 
 fn limit(s: &[u8]) -> u64 {
-    if byte_at(s, 14) == b'-' {
+    let letter = byte_at(s, 14);
+    if letter == b'-' {
         return 1_000_000;
+    }
+    if letter == b'm' {
+        return 0xFFFF_FFFF_FFFF_FFFF - digit(s, 18);
     }
     let high = 100 * digit(s, 14) + 10 * digit(s, 15) + digit(s, 16);
     100 * high + 10 * digit(s, 17) + digit(s, 18)
@@ -222,15 +226,23 @@ fn change_by(
     third: &[u8],
 ) -> Record {
     let letter = byte_at(s, 0);
-    let n = digit(s, 8) as usize;
+    let n = (10 * digit(s, 7) + digit(s, 8)) as usize;
     if letter == b'r' {
         return change(listing, table, old, work, rec, s, path, third, third);
     }
     if letter == b'w' {
-        let sevens = data(b"\x07\x07\x07\x07\x07\x07\x07\x07\x07", n);
+        let sevens = data(
+            b"\x07\x07\x07\x07\x07\x07\x07\x07\x07\x07\x07\x07\x07\x07\x07\x07\
+            \x07\x07\x07\x07\x07\x07\x07\x07\x07\x07\x07\x07\x07\x07\x07\x07",
+            n,
+        );
         return change(listing, table, old, work, rec, s, path, sevens, third);
     }
-    let counting = data(b"\x01\x02\x03\x04\x05\x06\x07\x08\x09", n);
+    let counting = data(
+        b"\x01\x02\x03\x04\x05\x06\x07\x08\x09\x0A\x0B\x0C\x0D\x0E\x0F\x10\
+        \x11\x12\x13\x14\x15\x16\x17\x18\x19\x1A\x1B\x1C\x1D\x1E\x1F\x20",
+        n,
+    );
     change(listing, table, old, work, rec, s, path, counting, third)
 }
 

@@ -1,4 +1,5 @@
--- `projected_move` meets its contract: deletions and moves together.
+-- `projected_move` meets its contract: deletions and moves together. Their charge has 64 bits and is not cut.
+use native.Mathlib.Omega.{arith}
 use borrow.Author.Needs.{needs}
 use Rattle.rename_measure.proofs.Sources.{length-small}
 use Rattle.rename_measure.proofs.Foretelling.{enough, together-foretold}
@@ -40,7 +41,7 @@ returns c =
     let g = c .before .all-deletions in
     let m = c .before .before .all-moves in
     together-foretold (a .table .now) (a .listing .now) (a .rec) (p .1 .0) (p .0) (a .source .now) (a .destination .now) (p .1 .1 .1 .1 .1 .1)
-    (g .result) (m .result) (g .ensures .0) (m .ensures .0) (t .result) (t .ensures)
+    (g .result) (m .result) (g .ensures .0) (m .ensures .0) (t .result) (t .ensures) (omega (arith, t .ok))
 
 pub projected-move-spec : {M : Type 1} → statement M
 projected-move-spec =

@@ -1,5 +1,8 @@
--- `with_body` meets its contract: the record with the other body, by its fields.
-use mathlib.Core.Path.{refl}
+-- `with_body` meets its contract: the record with the other body, by its fields; neither body's charge is cut.
+use mathlib.Core.Path.{refl, _∙_}
+use native.Mathlib.Omega.{arith}
+use Rattle.model.specs.Table.{bodyCharge}
+use Rattle.model.proofs.Codec.{exact}
 use borrow.Author.Needs.{needs}
 use Rattle.table_measure.proofs.with_body.Statement.{statement}
 use Rattle.table_measure.proofs.with_body.Tie as tie
@@ -25,7 +28,13 @@ sub-t9 c = search needs
 returns : tie.Need-returns
 returns c =
     let was = c .before .before in
-    rw (was .before .body-charge .ensures, was .body-charge2 .ensures) refl
+    let now = was .before in
+    let e = now .before in
+    let a = e .args in
+    rw (
+      now .body-charge .ensures ∙ exact (bodyCharge (a .m)) (omega (arith, e .pre .0 .2)),
+      was .body-charge2 .ensures ∙ exact (bodyCharge (a .old)) (omega (arith, e .pre .0 .0, e .pre .1 .0)),
+    ) refl
 
 pub with-body-spec : {M : Type 1} → statement M
 with-body-spec =
