@@ -88,7 +88,9 @@ static void run_scripts(struct plan *plan) {
         differences++;
 }
 
-/* Adds to the listed file `a/f`, whose five bytes are lent, and writes inside what has become an own file. */
+/* Adds to the listed file `a/f`, whose five bytes are lent, and writes inside what has become an own file. That is
+ * charged 256 + 3 + 40 + 16 as long as it has 1 to 16 bytes, so that it grows from 8 to 11 at the limit 315, and a 17th
+ * byte needs 331. */
 static void change_content(void) {
     static const char content[] = "track 12\0\0!";
     static struct plan plan;
@@ -107,13 +109,25 @@ static void change_content(void) {
     expect("write inside a/f",
            overlay_write_file_at(LISTING, LENT(&plan), PATH("a/f"), PATH("1"), 6, one_second, no_limit),
            OVERLAY_ACCEPTED, 1);
-    expect("write behind a gap of two",
-           overlay_write_file_at(LISTING, LENT(&plan), PATH("a/f"), PATH("!"), 10, one_second, no_limit),
+    expect("write behind a gap, at 314",
+           overlay_write_file_at(LISTING, LENT(&plan), PATH("a/f"), PATH("!"), 10, one_second, 314),
+           OVERLAY_LIMIT, 0);
+    expect("write behind a gap, at 315",
+           overlay_write_file_at(LISTING, LENT(&plan), PATH("a/f"), PATH("!"), 10, one_second, 315),
            OVERLAY_ACCEPTED, 1);
+    expect("write a 17th byte, at 330",
+           overlay_write_file_at(LISTING, LENT(&plan), PATH("a/f"), PATH("!"), 16, one_second, 330),
+           OVERLAY_LIMIT, 0);
     expect("write at 2^64 - 1",
            overlay_write_file_at(LISTING, LENT(&plan), PATH("a/f"), PATH("!"), UINT64_MAX, one_second, no_limit),
            OVERLAY_RANGE_TOO_LARGE, 0);
-    if (plan.record[OVERLAY_RECORD_USED] != head + sizeof content - 1 ||
+    expect("a gap up to 2^64 - 1",
+           overlay_write_file_at(LISTING, LENT(&plan), PATH("a/f"), NULL, 0, UINT64_MAX, one_second, no_limit),
+           OVERLAY_NO_ROOM, 0);
+    expect("a gap, a limit below that",
+           overlay_write_file_at(LISTING, LENT(&plan), PATH("a/f"), NULL, 0, UINT64_MAX, one_second, no_limit - 1),
+           OVERLAY_LIMIT, 0);
+    if (plan.record[OVERLAY_RECORD_USED] != head + sizeof content - 1 || plan.record[OVERLAY_RECORD_CHARGE] != 315 ||
         memcmp(plan.table + head, content, sizeof content - 1) != 0)
         differences++;
 }
@@ -136,19 +150,19 @@ static void expect_least(const struct plan *plan, const char *source, const char
 }
 
 /* Asks what moving `a` to `b/c/a` needs, moves it, and asks what moving it back needs.
- * The table holds b (charge 297, 25 bytes), b/c (299, 27) and b/c/g (306, 34): 902 in 86 bytes. The move adds a (297,
- * 25) and a/f (299, 27) as deleted, b/c/a (301, 29), and b/c/a/f (306, 34) as a reference to a/f: 2,105 in 201 bytes.
- * Its walk asks for less, 902 + 3 + 518. Moving it back changes neither sum; it plans 2 * 7 + 3 + 256 for the key
- * b/c/a/f, beside the charge. */
+ * The table holds b (charge 297, 25 bytes), b/c (299, 27) and b/c/g (317, 34), whose 5 bytes are charged as 16: 913 in
+ * 86 bytes. The move adds a (297, 25) and a/f (299, 27) as deleted, b/c/a (301, 29), and b/c/a/f (319, 34) as a
+ * reference to a/f, whose 3 bytes are charged as 16: 2,129 in 201 bytes. Its walk asks for less, 913 + 3 + 518. Moving
+ * it back changes neither sum; it plans 2 * 7 + 3 + 256 for the key b/c/a/f, beside the charge. */
 static void move_with_the_least(struct plan *plan) {
     uint64_t least[OVERLAY_LEAST_LENGTH] = {8, 9};
 
-    expect_least(plan, "a", "b/c/a", 1, 2105, 201);
-    expect("rename a b/c/a at 2104", overlay_rename(LISTING, LENT(plan), PATH("a"), PATH("b/c/a"), 2104),
+    expect_least(plan, "a", "b/c/a", 1, 2129, 201);
+    expect("rename a b/c/a at 2128", overlay_rename(LISTING, LENT(plan), PATH("a"), PATH("b/c/a"), 2128),
            OVERLAY_LIMIT, 0);
-    expect("rename a b/c/a at 2105", overlay_rename(LISTING, LENT(plan), PATH("a"), PATH("b/c/a"), 2105),
+    expect("rename a b/c/a at 2129", overlay_rename(LISTING, LENT(plan), PATH("a"), PATH("b/c/a"), 2129),
            OVERLAY_ACCEPTED, 0);
-    expect_least(plan, "b/c/a", "a", 1, 2378, 201);
+    expect_least(plan, "b/c/a", "a", 1, 2402, 201);
     expect_least(plan, "b/c/a", "b/c/a", 1, 0, 201);
     expect_least(plan, "b", "b/c/b", 0, 0, 0);
     expect("least for .. a", overlay_least_rename(LISTING, TABLE(plan), PATH(".."), PATH("a"), LEAST),

@@ -27,9 +27,14 @@
  * (16 bits), kind (16 bits: 1 own file, 2 reference to a listed file, 3 directory, 4 deleted), body length (32 bits),
  * mtime bits (64), size (64), key, body.
  *
+ * THE CHARGE of a table, which a limit is compared with, is the sum over its entries of 256 + key length + entry size +
+ * body length rounded up to a multiple of 16; a body of no bytes is charged none. Only charges are rounded: a body
+ * takes as many bytes in the table as it has. A rounded length or a sum that would pass 2^64 - 1 counts as 2^64 - 1.
+ *
  * THE KEPT FILE holds a listing and the entries of a table of entry size 40 over it: the mark "OVT", a 16-bit version
  * 1, the length of the listing (32 bits), the listing, the length of the entries (32 bits), the entries, and no byte
- * more. The entry size and the charge are not in it.
+ * more. The entry size and the charge are not in it: the charge is summed when it is read, so that a file that was
+ * written when bodies were charged without rounding reads with the sum above.
  *
  * A PATH is not ended by a 0 byte. It is empty (the root), or components joined by single '/': UTF-8, at most 512
  * bytes and 32 components, a component of 1 to 255 bytes, not "." or "..", without byte 0, backslash or colon.
@@ -50,7 +55,8 @@ extern "C" {
 #define OVERLAY_RECORD_LENGTH 4
 #define OVERLAY_RECORD_USED 0       /* the bytes of the entries */
 #define OVERLAY_RECORD_COUNT 1      /* the number of entries */
-#define OVERLAY_RECORD_CHARGE 2     /* the sum over the entries of 256 + key length + entry size + body length */
+#define OVERLAY_RECORD_CHARGE 2     /* the sum over the entries of 256 + key length + entry size + body length rounded
+                                       up to a multiple of 16 */
 #define OVERLAY_RECORD_ENTRY_SIZE 3 /* what was given when the table was opened */
 
 #define OVERLAY_MAX_BUFFER 16777216 /* the bytes of the longest table, and of the longest listing */
@@ -144,7 +150,8 @@ uint64_t overlay_write_bytes(const uint8_t *listing, size_t listing_length, uint
  * Refused with OVERLAY_MALFORMED_TABLE, OVERLAY_MALFORMED_LISTING, OVERLAY_MALFORMED_PATH, as a write is by what is
  * visible at the path and above it, then with OVERLAY_LENT_COUNT, OVERLAY_LIMIT or OVERLAY_NO_ROOM, the first of them
  * that holds. Where no own file is at the path, OVERLAY_LIMIT is also given if the charge before the call and the whole
- * new content together exceed the limit; this decides only at a reference, whose entry the call replaces. */
+ * new content, whose length is not rounded here, together exceed the limit; this decides only at a reference, whose
+ * entry the call replaces. */
 uint64_t overlay_append_bytes(const uint8_t *listing, size_t listing_length, uint8_t *table, size_t table_length,
                               uint64_t *record, size_t record_length, uint8_t *work, size_t work_length,
                               const uint8_t *path, size_t path_length, const uint8_t *data, size_t data_length,
@@ -155,7 +162,8 @@ uint64_t overlay_append_bytes(const uint8_t *listing, size_t listing_length, uin
  * end and the offset is filled with zeros, also where there is no data. The value is the data's length.
  * Refused with OVERLAY_MALFORMED_TABLE, OVERLAY_MALFORMED_LISTING, OVERLAY_MALFORMED_PATH, OVERLAY_NOT_FOUND (the path
  * has no own file: a listed file, a reference and a directory too), OVERLAY_RANGE_TOO_LARGE, OVERLAY_LIMIT or
- * OVERLAY_NO_ROOM, the first of them that holds. */
+ * OVERLAY_NO_ROOM, the first of them that holds. A charge that would pass 2^64 - 1 is within the limit 2^64 - 1, where
+ * OVERLAY_NO_ROOM is given, and within no other. */
 uint64_t overlay_write_file_at(const uint8_t *listing, size_t listing_length, uint8_t *table, size_t table_length,
                                uint64_t *record, size_t record_length, uint8_t *work, size_t work_length,
                                const uint8_t *path, size_t path_length, const uint8_t *data, size_t data_length,

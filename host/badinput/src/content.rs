@@ -74,8 +74,10 @@ impl Lent {
     /// Limits around those that could decide.
     fn limits(&self) -> Vec<u64> {
         let before = self.record.get(2).copied().unwrap_or(0);
-        let free = Lent { limit: u64::MAX, ..self.clone() }.plain();
-        let after = free.map_or(before, |(_, record)| record[2]);
+        // The charge after it, also where the table is too short.
+        let mut free = Lent { limit: u64::MAX, work: self.work.saturating_add(64), ..self.clone() };
+        free.table.resize(self.table.len() + 64, 0);
+        let after = free.plain().map_or(before, |(_, record)| record[2]);
         let bytes = if let Asked::Append { bytes } = &self.asked { bytes.len() } else { 0 };
         let whole = before.saturating_add((bytes + self.data.len()) as u64);
         let near = [before, after, whole].into_iter().flat_map(|limit| [limit.saturating_sub(1), limit]);
@@ -109,6 +111,26 @@ fn small() -> Lent {
         entry(b"q", 4, b"", 0, 0),
     ];
     Lent::new(listing::bytes(&tree), &entries.concat(), 6)
+}
+
+/// Bodies on both sides of the multiples of 16 that are charged (#107), own ones and listed paths, with room to grow.
+fn sixteens() -> Lent {
+    let mut tree = tree("0123456789abcdef 0123456789abcdefg z");
+    for (node, size) in tree.values_mut().zip([1, 0, 7]) {
+        node.size = size;
+    }
+    let entries = [
+        entry(b"a", 1, &[7; 32], 7, 0),
+        entry(b"a-b", 2, b"0123456789abcdef", 7, 1),
+        entry(b"a0", 2, b"0123456789abcdefg", 7, 0),
+        entry(b"d", 3, b"", 7, 0),
+        entry(b"d/n", 1, &[7; 15], 7, 0),
+        entry(b"g", 1, &[7; 17], 7, 0),
+        entry(b"l", 1, b"", 7, 0),
+        entry(b"n", 1, &[7; 16], 7, 0),
+        entry(b"q", 4, b"", 0, 0),
+    ];
+    Lent::new(listing::bytes(&tree), &entries.concat(), 20)
 }
 
 /// A table that no call builds: entries over links and below them, below files, and below nothing.
@@ -187,10 +209,10 @@ impl Contents {
     /// and at the edges, each at the limits that could decide.
     fn whole(&mut self, base: &Lent) {
         for path in paths() {
-            for data in [&b""[..], b"k", b"three"] {
+            for data in [&b""[..], b"k", b"three", b"sixteen bytes..."] {
                 let lent = Lent { path: path.clone().into(), data: data.to_vec(), ..base.clone() };
                 let appends = (0..10).map(|count| Asked::Append { bytes: vec![b'L'; count] });
-                let near = (0..16).chain([1 << 24, 1 << 32, 1 << 63]).chain((0..8).map(|below| u64::MAX - below));
+                let near = (0..18).chain([1 << 24, 1 << 32, 1 << 63]).chain((0..8).map(|below| u64::MAX - below));
                 let asked: Vec<Asked> = appends.chain(near.map(|offset| Asked::WriteAt { offset })).collect();
                 for asked in asked {
                     self.at_limits(&Lent { asked, ..lent.clone() });
@@ -325,11 +347,11 @@ impl Contents {
     }
 }
 
-/// Makes both calls on two bases with every change to them, and then on at least so many inputs that were made, and
+/// Makes both calls on three bases with every change to them, and then on at least so many inputs that were made, and
 /// prints how many gave each number. Each byte of a base gets every other value only in the long run.
 pub fn run(seed: u64, calls: u64, long: bool) {
     let mut contents = Contents::new(seed, 8192);
-    for base in [small(), elsewhere()] {
+    for base in [small(), sixteens(), elsewhere()] {
         contents.whole(&base);
         contents.changed(&base, |lent| &mut lent.listing, long);
         contents.changed(&base, |lent| &mut lent.table, long);

@@ -87,7 +87,7 @@ fn built(random: &mut Random) -> Input {
 /// An entry that is in form, but for one thing at times.
 fn made_entry(key: &str, random: &mut Random) -> Vec<u8> {
     let kind = 1 + random.below(4) as u16;
-    let length = random.below(6);
+    let length = random.below(36);
     let (mut key, mut body) = (key.as_bytes().to_vec(), Vec::new());
     match kind {
         1 => body = random.bytes(length),
@@ -384,7 +384,8 @@ impl Kept {
                 self.read(&file, room, 4, 2);
             }
         }
-        let record = [MAX_BUFFER as u64, 1, 256 + MAX_BUFFER as u64 - 24 + KEPT_ENTRY_SIZE, KEPT_ENTRY_SIZE];
+        let body = (MAX_BUFFER as u64 - 25).next_multiple_of(16);
+        let record = [MAX_BUFFER as u64, 1, 256 + 1 + KEPT_ENTRY_SIZE + body, KEPT_ENTRY_SIZE];
         for room in [KEPT_OVERHEAD + small.listing.len() + MAX_BUFFER - 1, MAX_BUFFER + (1 << 20)] {
             self.write(&small.listing, &one(MAX_BUFFER), &record, room);
         }

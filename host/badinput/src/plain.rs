@@ -1,6 +1,7 @@
 //! A plain reader and a plain writer of kept files, a plain showing of directories, a plain append and a plain writing
-//! inside, and the form of a script, from the words of change requests #101 to #103 and the forms of a listing, a table
-//! and a script alone. Nothing of the library is called: they are the opinion that its answers are held against.
+//! inside, and the form of a script, from the words of change requests #101 to #103 and #107 and the forms of a
+//! listing, a table and a script alone. Nothing of the library is called: they are the opinion that its answers are
+//! held against.
 use std::{
     borrow::Cow,
     collections::{BTreeMap, BTreeSet},
@@ -78,9 +79,25 @@ fn records(bytes: &[u8]) -> Option<BTreeMap<&str, (u64, i64)>> {
     rest.0.is_empty().then_some(records)
 }
 
+/// "A body's length is now charged rounded up to a multiple of 16; 0 stays 0."
+fn charged(body_length: u128) -> u128 {
+    body_length.div_ceil(16) * 16
+}
+
+/// "A rounded length or sum that would pass 2^64 − 1 counts as 2^64 − 1"
+fn cut(sum: u128) -> u64 {
+    sum.min(u64::MAX.into()) as u64
+}
+
+/// The charge by the rule before #107, of entries in form: no body is rounded.
+pub fn unrounded(entries: &[u8], entry_size: u64) -> Option<u64> {
+    let charge = |(key, entry): (&str, Held)| 256 + (key.len() + entry.body.len()) as u64 + entry_size;
+    Some(bodies(entries)?.into_iter().map(charge).sum())
+}
+
 /// The record of a table whose entries are these bytes, where they are entries in form and end with the bytes.
 pub fn record_of(entries: &[u8], entry_size: u64) -> Option<[u64; 4]> {
-    let (mut rest, mut last, mut count, mut charge) = (Rest(entries), "", 0, 0);
+    let (mut rest, mut last, mut count, mut charge) = (Rest(entries), "", 0, 0u128);
     while !rest.0.is_empty() {
         let (key_length, kind, body_length) = (rest.number(2)?, rest.number(2)?, rest.number(4)?);
         let (mtime, size) = (rest.number(8)?, rest.number(8)? as i64);
@@ -95,9 +112,10 @@ pub fn record_of(entries: &[u8], entry_size: u64) -> Option<[u64; 4]> {
         if !formed || last >= key {
             return None;
         }
-        (last, count, charge) = (key, count + 1, charge + 256 + key_length + entry_size + body_length);
+        (last, count) = (key, count + 1);
+        charge += u128::from(256 + key_length) + u128::from(entry_size) + charged(body_length.into());
     }
-    Some([entries.len() as u64, count, charge, entry_size])
+    Some([entries.len() as u64, count, cut(charge), entry_size])
 }
 
 /// The entries of a table that agrees with its record.
@@ -171,14 +189,13 @@ impl<'a> Given<'a> {
 
     /// The table with this content as the path's own file, of so many bytes; refused by 11 and 13.
     fn put(&self, read: &Read, length: u128, content: impl FnOnce() -> Vec<u8>) -> Result<After, Refused> {
-        let key = read.path.len() as u64;
-        let old = read.held.get(read.path).map(|entry| entry.body.len() as u64);
-        let [head, base] = [24 + key, 256 + key + self.record[3]].map(|new| old.map_or(0, |body| new + body));
-        let sum = |before: u64, old: u64, new: u64| u128::from(before - old + new) + length;
-        if sum(self.record[2], base, 256 + key + self.record[3]) > self.limit.into() {
+        let (key, entry_size) = (read.path.len() as u128, u128::from(self.record[3]));
+        let old = read.held.get(read.path).map(|entry| entry.body.len() as u128);
+        let (bytes, charge) = (|body| 24 + key + body, |body| 256 + key + entry_size + charged(body));
+        if cut(u128::from(self.record[2]) - old.map_or(0, charge) + charge(length)) > self.limit {
             return Err((11, 0));
         }
-        if sum(self.record[0], head, 24 + key) > self.table.len() as u128 {
+        if u128::from(self.record[0]) - old.map_or(0, bytes) + bytes(length) > self.table.len() as u128 {
             return Err((13, 0));
         }
         let mut held = read.held.clone();
@@ -247,7 +264,8 @@ pub fn append(given: &Given, lent: &[u8]) -> Result<After, Refused> {
         return Err((17, 0));
     }
     let content = [read.own().unwrap_or(lent), given.data].concat();
-    // "The memory checks are those two functions' own": the whole content beside the charge, but for an own file.
+    // "The memory checks are those two functions' own": the whole content beside the charge, but for an own file. It is
+    // no charge, and is not rounded.
     if read.own().is_none() && given.record[2] + content.len() as u64 > given.limit {
         return Err((11, 0));
     }
@@ -433,6 +451,18 @@ fn the_request_read_by_hand() {
     assert_eq!(write(listing, &deleted, &[25, 1, 298, 41], 0), Err(16));
     assert_eq!(write(b"RDL", &deleted, &[25, 1, 298, 41], 0), Err(2));
     assert_eq!(write(b"RDL", &deleted, &[25, 1, 298, 40], 0), Err(1));
+    // Bodies of 0, 1, 16 and 17 bytes; what was written before they were rounded is read with the new sum, which has no
+    // part in the file, and a record with the old one is malformed.
+    for (length, charge) in [(0, 297), (1, 313), (16, 313), (17, 329)] {
+        let own = [&[1, 0, 1, 0, length, 0, 0, 0][..], &[0; 16], b"n", &vec![7; length.into()]].concat();
+        let (used, whole) = (25 + u64::from(length), file(listing, &own));
+        assert_eq!(read(&whole, own.len(), 4, 2).map(|content| content.record).ok(), Some([used, 1, charge, 40]));
+        assert_eq!(write(listing, &own, &[used, 1, charge, 40], whole.len()), Ok(whole.clone()));
+        let old = 297 + u64::from(length);
+        assert_eq!(unrounded(&own, 40), Some(old));
+        let refused = (old != charge).then_some(1);
+        assert_eq!(write(listing, &own, &[used, 1, old, 40], whole.len()).err(), refused);
+    }
 }
 
 #[test]
@@ -481,11 +511,11 @@ fn contents_changed_by_hand() {
         let lengths = [key.len() as u8, 0, kind, 0, body.len() as u8, 0, 0, 0];
         [&lengths[..], &[0; 8], &[size, 0, 0, 0, 0, 0, 0, 0], key.as_bytes(), body.as_bytes()].concat()
     };
-    // 24 + 1 + 3, 25, 24 + 1 + 1 and 25 bytes, with 4 more; the charge is 300 + 297 + 298 + 297.
+    // 24 + 1 + 3, 25, 24 + 1 + 1 and 25 bytes, with 4 more; the charge is 313 + 297 + 313 + 297.
     let table = [entry("n", 1, 0, "abc"), entry("q", 4, 0, ""), entry("r", 2, 5, "f"), entry("s", 3, 0, "")].concat();
     let table = [&table[..], &[0; 4]].concat();
     let numbers = record_of(&table[..104], 40).expect("entries in form");
-    assert_eq!(numbers, [104, 4, 1192, 40]);
+    assert_eq!(numbers, [104, 4, 1220, 40]);
     let given = |path: &'static str, data: &'static str, limit| Given {
         listing: &listing,
         table: &table,
@@ -503,15 +533,20 @@ fn contents_changed_by_hand() {
         let held = bodies(&table[..record[0] as usize]).expect("entries in form")[key].clone();
         (String::from_utf8(held.body.into_owned()).expect("text"), held.mtime, record[2])
     };
-    assert_eq!(content(appended("n", "xy", "", 1194), "n"), ("abcxy".into(), 9, 1194));
-    assert_eq!(content(appended("q", "x", "", 1193), "q"), ("x".into(), 9, 1193));
-    assert_eq!(content(appended("r", "", "12345", 1197), "r"), ("12345".into(), 9, 1196));
+    assert_eq!(content(appended("n", "xy", "", 1220), "n"), ("abcxy".into(), 9, 1220));
+    assert_eq!(content(appended("q", "x", "", 1236), "q"), ("x".into(), 9, 1236));
+    // The whole content beside the charge is 1225; the charge after it 1220.
+    assert_eq!(content(appended("r", "", "12345", 1225), "r"), ("12345".into(), 9, 1220));
     for (path, data, lent, limit, refused) in [
-        ("r", "", "12345", 1196, (11, 0)),
+        ("r", "", "12345", 1224, (11, 0)),
+        ("q", "x", "", 1235, (11, 0)),
         ("r", "", "1234", 0, (17, 0)),
         ("n", "", "1", 0, (17, 0)),
-        ("n", "x", "", 1192, (11, 0)),
-        ("n", "12345", "", 5000, (13, 0)),
+        ("n", "x", "", 1219, (11, 0)),
+        ("n", "12345", "", 1220, (13, 0)),
+        ("n", "1234567890123", "", 1220, (13, 0)),
+        ("n", "12345678901234", "", 1235, (11, 0)),
+        ("n", "12345678901234", "", 1236, (13, 0)),
         ("f", "", "", 0, (17, 0)),
         ("d", "", "1", 0, (8, 1)),
         ("", "", "1", 0, (8, 0)),
@@ -522,14 +557,20 @@ fn contents_changed_by_hand() {
     ] {
         assert_eq!(appended(path, data, lent, limit), Err(refused), "{path} {data} {lent} {limit}");
     }
-    assert_eq!(content(written("n", "x", 1, 1192), "n"), ("axc".into(), 9, 1192));
-    assert_eq!(content(written("n", "", 5, 1194), "n"), ("abc\0\0".into(), 9, 1194));
-    assert_eq!(content(written("n", "xy", 4, 1195), "n"), ("abc\0xy".into(), 9, 1195));
+    assert_eq!(content(written("n", "x", 1, 1220), "n"), ("axc".into(), 9, 1220));
+    assert_eq!(content(written("n", "", 5, 1220), "n"), ("abc\0\0".into(), 9, 1220));
+    assert_eq!(content(written("n", "xy", 4, 1220), "n"), ("abc\0xy".into(), 9, 1220));
     for (path, data, offset, limit, refused) in [
-        ("n", "", 0, 1191, (11, 0)),
+        ("n", "", 0, 1219, (11, 0)),
         ("n", "x", u64::MAX, 0, (18, 0)),
-        ("n", "x", u64::MAX - 1, u64::MAX, (11, 0)),
-        ("n", "x", 7, 5000, (13, 0)),
+        ("n", "x", u64::MAX - 1, u64::MAX - 1, (11, 0)),
+        ("n", "x", u64::MAX - 1, u64::MAX, (13, 0)),
+        ("n", "", u64::MAX, u64::MAX - 1, (11, 0)),
+        ("n", "", u64::MAX, u64::MAX, (13, 0)),
+        ("n", "x", 7, 1220, (13, 0)),
+        ("n", "x", 15, 1220, (13, 0)),
+        ("n", "x", 16, 1235, (11, 0)),
+        ("n", "x", 16, 1236, (13, 0)),
         ("q", "x", u64::MAX, 0, (5, 1)),
         ("r", "", 0, 0, (5, 1)),
         ("f", "", 0, 0, (5, 1)),

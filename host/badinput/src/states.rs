@@ -235,6 +235,10 @@ pub fn byte_by_byte(base: &Input, random: &mut Random) -> Vec<Input> {
             add(random, &|input| input.record[at] = number);
         }
     }
+    // The charge as it was summed before bodies were rounded.
+    if let Some(charge) = plain::unrounded(&base.table[..base.record[0] as usize], base.record[3]) {
+        add(random, &|input| input.record[2] = charge);
+    }
     for length in 0..7 {
         add(random, &|input| input.record.resize(length, 0));
     }

@@ -98,7 +98,8 @@ impl Overlay {
     ///
     /// Refused with 1, 2, 3; as [`write_bytes`](Overlay::write_bytes) with 4, 5 or 8; with 17 (another number of lent
     /// bytes), 11 or 13, the first that holds. Where no own file is at the path, 11 is also given if the charge before
-    /// the call and the whole new content together exceed the limit; this decides only at a reference.
+    /// the call and the whole new content, whose length is not rounded here, together exceed the limit; this decides
+    /// only at a reference.
     ///
     /// ```
     /// use overlay::{Overlay, Refusal};
@@ -137,7 +138,8 @@ impl Overlay {
     /// data's length.
     ///
     /// Refused with 1, 2, 3; with 5 (the path has no own file: a listed file, a reference and a directory too), 18
-    /// (offset and length together exceed 2^64 − 1), 11 or 13, the first that holds.
+    /// (offset and length together exceed 2^64 − 1), 11 or 13, the first that holds. A charge that would pass 2^64 − 1
+    /// counts as 2^64 − 1, so that at that limit 13 is given.
     ///
     /// ```
     /// use overlay::{EMPTY_LISTING, EntryKind, Overlay, Refusal};

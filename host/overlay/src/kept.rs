@@ -99,7 +99,8 @@ impl Overlay {
     }
 
     /// The table of a kept file in a buffer of `capacity` bytes, and the listing, as its part of the file. Calls go on
-    /// from there over that listing.
+    /// from there over that listing. The charge is not in the file: it is summed as [`charge`](crate::Record::charge)
+    /// says, also where the file was written when bodies were charged without rounding.
     ///
     /// ```
     /// use overlay::{EMPTY_LISTING, Overlay, Refusal};

@@ -108,8 +108,8 @@ impl Overlay {
     /// plan.write_bytes(EMPTY_LISTING, "a/f", b"xy", 0.0, u64::MAX)?;
     ///
     /// let least = plan.least_rename(EMPTY_LISTING, "a", "b")?.expect("something lets it through");
-    /// assert_eq!(least, Least { limit: 1034, length: 106 });
-    /// assert_eq!(least.to_string(), "needs a limit of at least 1034 and a table of at least 106 bytes");
+    /// assert_eq!(least, Least { limit: 1048, length: 106 });
+    /// assert_eq!(least.to_string(), "needs a limit of at least 1048 and a table of at least 106 bytes");
     /// assert_eq!(plan.rename(EMPTY_LISTING, "a", "b", least.limit), Err(Refusal::NoRoom));
     ///
     /// // The same table in a buffer of that length.
@@ -144,7 +144,7 @@ impl Overlay {
     ///
     /// let refused = plan.rename_or_least(EMPTY_LISTING, "a", "b", 300).unwrap_err();
     /// assert_eq!(refused.refusal, Refusal::Limit);
-    /// assert_eq!(refused.to_string(), "limit exceeded (11): needs a limit of at least 521");
+    /// assert_eq!(refused.to_string(), "limit exceeded (11): needs a limit of at least 530");
     /// let limit = refused.least.expect("something lets it through").limit;
     /// assert_eq!(plan.rename_or_least(EMPTY_LISTING, "a", "b", limit), Ok(()));
     ///

@@ -63,7 +63,8 @@ pub struct Record {
     pub used: u64,
     /// The number of entries.
     pub count: u64,
-    /// The sum over the entries of 256 + key length + entry size + body length.
+    /// The sum over the entries of 256 + key length + entry size + body length rounded up to a multiple of 16; a body
+    /// of no bytes is charged none.
     pub charge: u64,
     /// What was given at opening.
     pub entry_size: u64,
@@ -190,9 +191,9 @@ impl<'a> OverlayRef<'a> {
 /// let (mut table, mut work, mut record) = ([0; 512], [0; 512], Record::default());
 /// let mut plan = OverlayMut::new(&mut table, &mut record, &mut work);
 /// plan.open(40)?;
-/// plan.write_bytes(EMPTY_LISTING, "a", b"xy", 0.0, 299)?;
-/// assert_eq!(plan.write_bytes(EMPTY_LISTING, "b", b"", 0.0, 595), Err(Refusal::Limit));
-/// assert_eq!(record, Record { used: 27, count: 1, charge: 299, entry_size: 40 });
+/// plan.write_bytes(EMPTY_LISTING, "a", b"xy", 0.0, 313)?;
+/// assert_eq!(plan.write_bytes(EMPTY_LISTING, "b", b"", 0.0, 609), Err(Refusal::Limit));
+/// assert_eq!(record, Record { used: 27, count: 1, charge: 313, entry_size: 40 });
 /// # Ok::<(), Refusal>(())
 /// ```
 #[derive(Debug)]
@@ -330,8 +331,8 @@ impl Overlay {
     /// let mut script = Script::new();
     /// script.write_bytes("a", b"xy", 0.0, u64::MAX);
     /// let (plan, rows) = Overlay::run_new(100, 0, EMPTY_LISTING, &script)?;
-    /// assert_eq!((rows[0].answer, rows[0].charge), (Ok(2), 259));
-    /// assert_eq!(plan.record().charge, 259);
+    /// assert_eq!((rows[0].answer, rows[0].charge), (Ok(2), 273));
+    /// assert_eq!(plan.record().charge, 273);
     /// assert_eq!(Overlay::run_new(100, 0, EMPTY_LISTING, b"TSC").unwrap_err(), NotRun::MalformedScript);
     /// # Ok::<(), NotRun>(())
     /// ```

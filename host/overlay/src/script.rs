@@ -228,19 +228,19 @@ mod tests {
         assert_eq!(script.as_ref().len(), 117);
 
         let (plan, rows) = Overlay::run_new(512, 0, &listing, &script).unwrap();
-        assert_eq!(plan.record(), Record { used: 106, count: 4, charge: 1034, entry_size: 0 });
+        assert_eq!(plan.record(), Record { used: 106, count: 4, charge: 1048, entry_size: 0 });
         let answers: Vec<_> = rows.iter().map(|row| (row.answer, row.charge)).collect();
-        assert_eq!(answers, [(Ok(0), 516), (Ok(2), 777), (Err(Refusal::Limit), 777), (Ok(0), 1034)]);
+        assert_eq!(answers, [(Ok(0), 516), (Ok(2), 791), (Err(Refusal::Limit), 791), (Ok(0), 1048)]);
     }
 
     #[test]
     fn calls_made_one_by_one_leave_the_same() {
         let mut plan = Overlay::open(256, 40).unwrap();
-        plan.mkdir(EMPTY_LISTING, "a", Mkdir::default(), 1.0, 600).unwrap();
-        plan.write_bytes(EMPTY_LISTING, "a/f", b"xy", 2.0, 600).unwrap();
+        plan.mkdir(EMPTY_LISTING, "a", Mkdir::default(), 1.0, 612).unwrap();
+        plan.write_bytes(EMPTY_LISTING, "a/f", b"xy", 2.0, 612).unwrap();
         let mut script = Script::default();
-        script.mkdir("a", Mkdir::default(), 1.0, 600);
-        script.write_bytes("a/f", b"xy", 2.0, 600);
+        script.mkdir("a", Mkdir::default(), 1.0, 612);
+        script.write_bytes("a/f", b"xy", 2.0, 612);
         let mut run = Overlay::open(256, 40).unwrap();
         run.run(EMPTY_LISTING, script).unwrap();
         assert_eq!((run.table(), run.record()), (plan.table(), plan.record()));

@@ -55,9 +55,9 @@ fn appended_to_each_sort_of_file() {
 fn appended_to_a_reference() {
     let (listing, mut plan) = (listing(), open());
     plan.rename(&listing, "z", "y", FREE).unwrap();
-    assert_eq!(plan.record().charge, 595);
-    refused(&mut plan, Refusal::Limit, |plan| plan.append_bytes(&listing, "y", b"", b"", 1.0, 594));
-    assert_eq!(plan.append_bytes(&listing, "y", b"", b"", 1.0, 595), Ok(0));
+    assert_eq!(plan.record().charge, 610);
+    refused(&mut plan, Refusal::Limit, |plan| plan.append_bytes(&listing, "y", b"", b"", 1.0, 609));
+    assert_eq!(plan.append_bytes(&listing, "y", b"", b"", 1.0, 610), Ok(0));
     assert_eq!((own(&plan, "y"), plan.record().charge), (Some((Vec::new(), 1.0.into())), 594));
     plan.rename(&listing, "a/f", "g", FREE).unwrap();
     assert_eq!(plan.listed_file(&listing, "g"), Some(ListedFile { path: b"a/f", size: 5 }));
@@ -98,8 +98,8 @@ fn refused_appends() {
     ] {
         refused(&mut plan, refusal, |plan| plan.append_bytes(&listing, path, b"x", b"1", 0.0, 0));
     }
-    refused(&mut plan, Refusal::Limit, |plan| plan.append_bytes(&listing, "a/f", b"x", b"track", 0.0, 304));
-    assert_eq!(plan.append_bytes(&listing, "a/f", b"x", b"track", 0.0, 305), Ok(1));
+    refused(&mut plan, Refusal::Limit, |plan| plan.append_bytes(&listing, "a/f", b"x", b"track", 0.0, 314));
+    assert_eq!(plan.append_bytes(&listing, "a/f", b"x", b"track", 0.0, 315), Ok(1));
     let most = 512 - 27 - 6;
     refused(&mut plan, Refusal::NoRoom, |plan| plan.append_bytes(&listing, "a/f", &vec![1; most + 1], b"", 0.0, FREE));
     assert_eq!(plan.append_bytes(&listing, "a/f", &vec![1; most], b"", 0.0, FREE), Ok(most as u64));
@@ -120,7 +120,7 @@ fn written_inside() {
     assert_eq!(plan.write_file_at(&listing, "n", b"", 2, 4.0, FREE), Ok(0));
     assert_eq!(own(&plan, "n"), Some((b"Track 43ab\0\0!".to_vec(), 4.0.into())));
     plan.write_bytes(&listing, "n", b"", 0.0, FREE).unwrap();
-    assert_eq!(plan.write_file_at(&listing, "n", b"", 3, 5.0, 300), Ok(0));
+    assert_eq!(plan.write_file_at(&listing, "n", b"", 3, 5.0, 313), Ok(0));
     assert_eq!(own(&plan, "n"), Some((vec![0; 3], 5.0.into())));
 }
 
@@ -142,9 +142,10 @@ fn refused_writings_inside() {
     refused(&mut plan, Refusal::Limit, |plan| plan.write_file_at(&listing, "n", b"x", FREE - 1, 0.0, 5000));
     let charge = plan.record().charge;
     refused(&mut plan, Refusal::Limit, |plan| plan.write_file_at(&listing, "n", b"", 0, 0.0, charge - 1));
-    refused(&mut plan, Refusal::Limit, |plan| plan.write_file_at(&listing, "n", b"x", 5, 0.0, charge));
+    refused(&mut plan, Refusal::Limit, |plan| plan.write_file_at(&listing, "n", b"x", 16, 0.0, charge + 15));
     refused(&mut plan, Refusal::NoRoom, |plan| plan.write_file_at(&listing, "n", b"x", 1 << 40, 0.0, FREE));
-    assert_eq!(plan.write_file_at(&listing, "n", b"x", 5, 0.0, charge + 1), Ok(1));
+    assert_eq!(plan.write_file_at(&listing, "n", b"x", 5, 0.0, charge), Ok(1));
+    assert_eq!(plan.write_file_at(&listing, "n", b"x", 16, 0.0, charge + 16), Ok(1));
 }
 
 /// Where the table does not agree with its record, or the work buffer is too short, both calls are refused with 1.
@@ -240,8 +241,8 @@ fn the_example_of_the_formats() {
     assert_eq!(script.as_ref().len(), 133);
 
     let (plan, rows) = Overlay::run_new(512, 0, &listing(), &script).unwrap();
-    assert_eq!(plan.record(), Record { used: 37, count: 1, charge: 269, entry_size: 0 });
+    assert_eq!(plan.record(), Record { used: 37, count: 1, charge: 275, entry_size: 0 });
     assert_eq!(own(&plan, "a/f"), Some((b"hello!\0\0hi".to_vec(), 1.0.into())));
     let answers: Vec<_> = rows.iter().map(|row| (row.answer, row.charge)).collect();
-    assert_eq!(answers, [(Ok(1), 265), (Ok(2), 269), (Err(Refusal::NotFound { path: 0, len: 1 }), 269)]);
+    assert_eq!(answers, [(Ok(1), 275), (Ok(2), 275), (Err(Refusal::NotFound { path: 0, len: 1 }), 275)]);
 }

@@ -69,7 +69,7 @@ fn refused_as_any_rename() {
 #[test]
 fn whatever_the_room() {
     let full = Overlay::run_new(26, 40, &listing(), &written()).unwrap().0;
-    assert_eq!(full.record(), Record { used: 26, count: 1, charge: 298, entry_size: 40 });
+    assert_eq!(full.record(), Record { used: 26, count: 1, charge: 313, entry_size: 40 });
     assert_eq!(onto_itself(&full, "n", 0), Ok(()));
     assert_eq!(onto_itself(&full, "a", 0), Ok(()));
     assert_eq!(onto_itself(&Overlay::open(0, 0).unwrap(), "z", 0), Ok(()));
@@ -93,7 +93,7 @@ fn in_a_script() {
     script.rename("q", "q", FREE);
     let (plan, rows) = Overlay::run_new(26, 40, &listing(), &script).unwrap();
     let answers: Vec<_> = rows.iter().map(|row| (row.answer, row.charge)).collect();
-    assert_eq!(answers, [(Ok(1), 298), (Ok(0), 298), (Ok(0), 298), (Err(Refusal::NotFound { path: 0, len: 1 }), 298)]);
+    assert_eq!(answers, [(Ok(1), 313), (Ok(0), 313), (Ok(0), 313), (Err(Refusal::NotFound { path: 0, len: 1 }), 313)]);
     let before = Overlay::run_new(26, 40, &listing(), &written()).unwrap().0;
     assert_eq!((plan.table(), plan.record()), (before.table(), before.record()));
 }

@@ -29,7 +29,7 @@ fn table(entries: &[&str]) -> (Vec<u8>, Record) {
         bytes.extend([0; 16]);
         bytes.extend(key.bytes());
         bytes.extend(body.bytes());
-        charge += 256 + (key.len() + body.len()) as u64 + 40;
+        charge += 256 + (key.len() + body.len().next_multiple_of(16)) as u64 + 40;
     }
     let record = Record { used: bytes.len() as u64, count: entries.len() as u64, charge, entry_size: 40 };
     (bytes, record)
