@@ -1,11 +1,11 @@
-//! Replays the vectors of calls.jsonl, worked.jsonl, kept.jsonl, show.jsonl, content.jsonl, itself.jsonl, least.jsonl
-//! and paths.jsonl against the library: every answer, record, table, work buffer, output, place and least number must be
-//! as they say. The rows of docs/WORKED-CALLS.md must be those of worked.jsonl, and docs/DEFINITION.md may cite no other
-//! row of those calls; the page's rows that write and read kept files, that show directories and that tell what would
-//! let a rename through are put to the library, and the kept files that docs/FORMATS.md shows must be read as it says.
-//! With the name of a file it replays that one alone; with `--rows` it prints the rows of worked.jsonl. It says what it
-//! compared, and ends with status 1 at the first difference, and where a file has nothing of a kind that it is there
-//! for.
+//! Replays the vectors of calls.jsonl, worked.jsonl, kept.jsonl, show.jsonl, content.jsonl, itself.jsonl, least.jsonl,
+//! paths.jsonl, charge.jsonl and edges.jsonl against the library: every answer, record, table, work buffer, output, place
+//! and least number must be as they say. The rows of docs/WORKED-CALLS.md must be those of worked.jsonl, and
+//! docs/DEFINITION.md may cite no other row of those calls; the page's rows that write and read kept files, that show
+//! directories and that tell what would let a rename through are put to the library, and the kept files that
+//! docs/FORMATS.md shows must be read as it says. With the name of a file it replays that one alone; with `--rows` it
+//! prints the rows of worked.jsonl. It says what it compared, and ends with status 1 at the first difference, and where a
+//! file has nothing of a kind that it is there for.
 mod json;
 mod kept;
 mod least;
@@ -24,7 +24,7 @@ use overlay::{OverlayMut, Record, Refusal, raw, unpack};
 use std::{collections::BTreeMap, env, fs, process::ExitCode};
 use worked::{Rows, stated};
 
-/// The calls that every file of the repository but paths.jsonl has.
+/// The calls that every file of the repository but paths.jsonl and edges.jsonl has.
 const CALLS: [&str; 9] = ["open", "exists", "is_file", "is_dir", "write", "mkdir", "unlink", "rmdir", "rename"];
 
 /// The numbers of the writer and of the reader of kept files, each of which kept.jsonl and the worked rows have.
@@ -44,6 +44,25 @@ const LEAST: (&str, &[u64]) = ("least", &[0, 2, 3]);
 
 /// The numbers of strings of bytes, each a path or none, that paths.jsonl has.
 const PATHS: (&str, &[u64]) = ("path", &[0, 3]);
+
+/// The numbers of the calls that put bodies, and of telling what would let a rename through, that charge.jsonl has.
+const CHARGE: [(&str, &[u64]); 5] = [
+    ("write", &[0, 3, 8, 11, 13]),
+    ("append", &[0, 3, 4, 5, 8, 11, 13, 17]),
+    ("write_at", &[0, 1, 5, 11, 13]),
+    ("rename", &[0, 4, 5, 9, 11, 13]),
+    ("least", &[0, 2, 3]),
+];
+
+/// The numbers of the changing calls, and of tables that are malformed, that edges.jsonl has.
+const EDGES: [(&str, &[u64]); 6] = [
+    ("exists", &[1]),
+    ("write", &[0, 1, 3, 4, 5, 8, 11, 13]),
+    ("mkdir", &[0, 1, 3, 4, 5, 6, 7, 11, 13]),
+    ("unlink", &[0, 4, 5, 8, 11, 13]),
+    ("rmdir", &[0, 1, 4, 5, 7, 9, 11]),
+    ("rename", &[0, 1, 3, 4, 5, 7, 8, 9, 10, 11, 12, 13]),
+];
 
 /// A vector's answer as an answer of the library: number, path, length, value.
 fn four(answer: Result<u64, Refusal>) -> [u64; 4] {
@@ -102,15 +121,6 @@ impl State {
         (answer, work.iter().all(|byte| *byte == left))
     }
 
-    /// Whether the call is refused with the answer that `free` has by the library's reading, and all is as it was.
-    fn answers(&self, listing: &[u8], call: &Json, free: &Json) -> bool {
-        let Some(other) = free.find(EXACT_CHARGE) else { return false };
-        let mut after = self.clone();
-        let (answer, work) = after.call(listing, call);
-        let as_it_was = work && after.table == self.table && after.record == self.record;
-        answer.is_err() && four(answer) == other.four() && as_it_was
-    }
-
     /// Makes a call and compares what it answers and leaves. A call without a record leaves table and record as they
     /// were.
     fn compare(&mut self, listing: &[u8], call: &Json) -> Result<(), String> {
@@ -155,12 +165,8 @@ fn open(vector: &Json, number: u64) -> Result<State, String> {
 /// How many calls of each name were compared, by the number of the answer.
 type Counts = BTreeMap<(String, u64), u64>;
 
-/// Counted apart: the answer is another one, where the request leaves it open. What is said of each of them.
+/// Counted apart: the answer is another one, where the request leaves it open. What is said of it.
 const OTHERWISE: &str = "4 below a covered link where the vector has 5, on tables that no call builds";
-const BEYOND: &str = "11 for a charge past 2^64 - 1 where the vector has 13";
-
-/// The name in `free` of the reading that the library has where the vector's answer is by another one.
-const EXACT_CHARGE: &str = "a charge past 2^64 - 1 is above every limit";
 
 fn replay(line: &str, counts: &mut Counts) -> Result<(), String> {
     let vector = parse(line)?;
@@ -180,11 +186,6 @@ fn replay(line: &str, counts: &mut Counts) -> Result<(), String> {
             let from_file = vector.find("file").is_some();
             let mut state = if from_file { kept::read(&vector)? } else { open(&vector, 0)? };
             for call in vector.get("calls").list() {
-                if call.find("free").is_some_and(|free| state.answers(&listing, call, free)) {
-                    // Both answers refuse it, so the run goes on from the same table.
-                    count(BEYOND, 0);
-                    continue;
-                }
                 let before = call.find("again").is_some_and(Json::flag).then(|| state.clone());
                 state.compare(&listing, call)?;
                 state = before.unwrap_or(state);
@@ -228,7 +229,7 @@ fn replay_file(file: &str) -> Result<Counts, String> {
     for (number, line) in read(file)?.lines().enumerate() {
         replay(line, &mut counts).map_err(|difference| format!("{file}:{}: {difference}", number + 1))?;
     }
-    let apart = [OTHERWISE, BEYOND].map(|name| (name, counts.remove(&(name.to_string(), 0))));
+    let apart = counts.remove(&(OTHERWISE.to_string(), 0));
     if counts.is_empty() {
         return Err(format!("{file}: no calls"));
     }
@@ -238,8 +239,8 @@ fn replay_file(file: &str) -> Result<Counts, String> {
     }
     let each: Vec<String> = names.iter().map(|(name, count)| format!("{name} {count}")).collect();
     println!("vectors: {} calls, all as they say: {}", counts.values().sum::<u64>(), each.join(", "));
-    for (name, calls) in apart.iter().filter_map(|(name, calls)| calls.map(|calls| (name, calls))) {
-        println!("  and {calls} with {name}");
+    if let Some(calls) = apart {
+        println!("  and {calls} with {OTHERWISE}");
     }
     Ok(counts)
 }
@@ -295,6 +296,8 @@ fn compare() -> Result<(), String> {
             replay_numbers("itself.jsonl", &[ITSELF])?;
             replay_numbers("least.jsonl", &[LEAST])?;
             has_numbers("paths.jsonl", &replay_file(&beside("paths.jsonl"))?, &[PATHS])?;
+            replay_numbers("charge.jsonl", &CHARGE)?;
+            has_numbers("edges.jsonl", &replay_file(&beside("edges.jsonl"))?, &EDGES)?;
             let rows = worked_rows(&worked)?;
             rows.stand_in(&read(&page)?).map_err(|error| format!("{page}: {error}"))?;
             rows.cited_in(&read(&definition)?).map_err(|error| format!("{definition}: {error}"))?;

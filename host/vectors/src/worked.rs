@@ -34,7 +34,10 @@ pub const L: [(&[u8], u8, f64, u64); 4] =
 const ENTRY_SIZE: u64 = 40;
 const ROOM: u64 = 512;
 
-/// The table's bytes and record by document 01, for entries that a vector states.
+/// What an entry is charged for its body, by change request #107: the length rounded up to a multiple of this.
+const UNIT: u64 = 16;
+
+/// The table's bytes and record by document 01 and change request #107, for entries that a vector states.
 fn encoded(entries: &Json, room: usize, entry_size: u64) -> (Vec<u8>, [u64; 4]) {
     let mut table = Vec::new();
     let mut charge = 0;
@@ -47,7 +50,7 @@ fn encoded(entries: &Json, room: usize, entry_size: u64) -> (Vec<u8>, [u64; 4]) 
         table.extend(entry.get("size").number().to_le_bytes());
         table.extend(&key);
         table.extend(&body);
-        charge += 256 + key.len() as u64 + entry_size + body.len() as u64;
+        charge += 256 + key.len() as u64 + entry_size + (body.len() as u64).next_multiple_of(UNIT);
     }
     let record = [table.len() as u64, entries.list().len() as u64, charge, entry_size];
     table.resize(room.max(table.len()), 0);
@@ -170,10 +173,10 @@ fn listing(vector: &Json) -> Result<String, String> {
     Ok(names.join(" "))
 }
 
-/// The offset of a writing inside.
-fn offset(value: u64) -> String {
+/// A number that may be as large as 64 bits allow: a limit, or the offset of a writing inside.
+fn large(value: u64) -> String {
     let below = value.wrapping_neg();
-    if (1..10).contains(&below) { format!("2^64 − {below}") } else { number(value) }
+    if (1..1000).contains(&below) { format!("2^64 − {below}") } else { number(value) }
 }
 
 /// A call with its arguments.
@@ -191,7 +194,7 @@ fn call(call: &Json) -> String {
         words += &format!(", lent {}", text(&lent));
     }
     if let Some(at) = call.find("offset") {
-        words += &format!(", offset {}", offset(at.number()));
+        words += &format!(", offset {}", large(at.number()));
     }
     for flag in ["parents", "exist_ok"] {
         if call.find(flag).is_some_and(Json::flag) {
@@ -293,7 +296,7 @@ impl Rows {
             matters.push(format!("E {}", number(entry_size)));
         }
         if let Some(limit) = made.find("limit").map(Json::number).filter(|limit| *limit != u64::MAX) {
-            matters.push(format!("limit {}", number(limit)));
+            matters.push(format!("limit {}", large(limit)));
         }
         if room != ROOM {
             matters.push(format!("table {}", number(room)));
@@ -400,7 +403,8 @@ mod tests {
         assert_eq!(text(b"a/kkkkkkkkkkk/\xc1"), "`a/{k×11}/{c1}`");
         assert_eq!(text(b"x/x/x/x/x/x/x/x/x/x/x"), "`{x/×10}x`");
         assert_eq!([1.0f64.to_bits(), 0, 0x7ff8_0000_0000_0001].map(mtime), ["1.0", "0.0", "bits 7ff8000000000001"]);
-        assert_eq!([0, 1 << 40, u64::MAX].map(offset), ["0", "1,099,511,627,776", "2^64 − 1"]);
+        assert_eq!([0, 1 << 40, u64::MAX].map(large), ["0", "1,099,511,627,776", "2^64 − 1"]);
+        assert_eq!([999, 1000].map(|below| large(u64::MAX - below + 1)), ["2^64 − 999", "18,446,744,073,709,550,616"]);
     }
 
     const CALLS: &str = r#"{"t":"run","listing":"52444c010000000000","e":40,"room":512,"calls":[
@@ -441,5 +445,15 @@ mod tests {
         table[29] = 1;
         assert!(stated(Some(&entries), &[], &table, [25, 1, 297, 40]).is_err());
         assert!(stated(None, &[0], &[1], [0; 4]).is_err());
+    }
+
+    #[test]
+    fn bodies_are_charged_in_units_of_16() {
+        for (length, charge) in [(0, 297), (1, 313), (16, 313), (17, 329), (32, 329), (33, 345)] {
+            let body = "00".repeat(length);
+            let entries = format!(r#"[{{"key":"61","kind":1,"mtime":"0","size":"0","body":"{body}"}}]"#);
+            let (table, record) = encoded(&parse(&entries).unwrap(), 0, 40);
+            assert_eq!((table.len(), record), (25 + length, [25 + length as u64, 1, charge, 40]));
+        }
     }
 }

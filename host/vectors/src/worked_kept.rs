@@ -70,7 +70,7 @@ mod tests {
     #[test]
     fn rows_are_held_to_the_library() {
         let page = include_str!("../../../docs/WORKED-CALLS.md");
-        assert_eq!(compare(page), Ok((11, 14)));
+        assert_eq!(compare(page), Ok((13, 15)));
         let changed = |from: &str, to: &str| {
             assert!(page.contains(from), "{from}");
             compare(&page.replacen(from, to, 1)).unwrap_err()

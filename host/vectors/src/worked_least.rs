@@ -50,15 +50,15 @@ pub fn compare(page: &str) -> Result<usize, String> {
 #[test]
 fn rows_are_held_to_the_library() {
     let page = include_str!("../../../docs/WORKED-CALLS.md");
-    assert_eq!(compare(page), Ok(18));
+    assert_eq!(compare(page), Ok(20));
     let (front, section) = page.split_at(page.find(TITLE).expect("the section"));
     let changed = |from: &str, to: &str| {
         assert!(section.contains(from), "{from}");
         compare(&[front, &section.replacen(from, to, 1)].concat()).unwrap_err()
     };
-    assert!(changed("| 0 | 1,195 | 107 |", "| 0 | 1,194 | 107 |").contains("the library gives"));
-    assert!(changed("| 0 | 1,195 | 107 |", "| 0 | 1,195 | 106 |").contains("the library gives"));
-    assert!(changed("| 0 | 595 | 52 |", "| 0 | 595 | 51 |").contains("the library gives"));
+    assert!(changed("| 0 | 1,208 | 107 |", "| 0 | 1,207 | 107 |").contains("the library gives"));
+    assert!(changed("| 0 | 1,208 | 107 |", "| 0 | 1,208 | 106 |").contains("the library gives"));
+    assert!(changed("| 0 | 610 | 52 |", "| 0 | 610 | 51 |").contains("the library gives"));
     assert!(changed("| 0 | none | none |", "| 0 | 0 | 0 |").contains("the library gives"));
     assert!(changed("| 0 | 0 | 0 |", "| 0 | none | none |").contains("the library gives"));
     assert!(changed("| 3 (1, 0) | as it was | as it was |", "| 3 (1, 0) | none | none |").contains("as they were"));

@@ -141,7 +141,7 @@ mod tests {
     #[test]
     fn rows_are_held_to_the_library() {
         let page = include_str!("../../../docs/WORKED-CALLS.md");
-        assert_eq!(compare(page), Ok(19));
+        assert_eq!(compare(page), Ok(20));
         let (front, section) = page.split_at(page.find(TITLE).expect("the section"));
         let changed = |from: &str, to: &str| {
             assert!(section.contains(from), "{from}");
