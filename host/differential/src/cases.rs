@@ -1,9 +1,16 @@
-//! Document 01's cases, those of change requests #102 to #104 and the inputs of docs/DIFFERENCES.md that the original
-//! can be asked, with the answers written out: the original, the model and the port are each held to them.
+//! Document 01's cases, those of change requests #102 to #104 and #107 and the inputs of docs/DIFFERENCES.md that the
+//! original can be asked, with the answers written out: the original, the model and the port are each held to them.
+//! Limits and charges are those of #107, and the original is asked at translated ones; those that document 01 and #103
+//! had before it stand here too, for the original by itself.
+
+use std::rc::Rc;
 
 use differential::{
-    listing::{listing_l, tree},
-    side::{Call, Entries, Entry, Op, Side},
+    Manner,
+    listing::{Tree, bytes, listing_l, tree},
+    model::Model,
+    monty_fs::{Original, entry_size},
+    side::{Call, Entries, Entry, Op, Rule, Side},
     world::{Setup, World},
 };
 
@@ -22,6 +29,10 @@ fn mkdir(path: &str, flags: &str) -> Call {
 fn write(path: &str, data: &str) -> Call {
     Call::new(Op::Write { data: data.as_bytes().to_vec() }, path)
 }
+/// A write of so many bytes.
+fn fill(path: &str, length: usize) -> Call {
+    write(path, &"x".repeat(length))
+}
 /// An append that is lent what it needs, and so many bytes more.
 fn append(path: &str, data: &str, more: i8) -> Call {
     Call::new(Op::Append { data: data.as_bytes().to_vec(), more }, path)
@@ -36,20 +47,24 @@ fn show(path: &str) -> Call {
     Call::new(Op::Show, path)
 }
 
-pub type Case = (&'static str, Vec<(Call, &'static str, Option<u64>)>);
+/// A call with its answer and, where it is stated, the charge after it.
+type Step = (Call, &'static str, Option<u64>);
 
-/// Each case: a listing (empty text for L), then calls with the answer and, where it is stated, the charge after it.
+/// A listing, then calls made one after another from an empty table.
+pub type Case = (&'static str, Vec<Step>);
+
+/// Document 01's cases, and those of its readings.
 pub fn all() -> Vec<Case> {
     vec![
         (
             "L",
             vec![
-                (rename("a", "b").at(1195), "0 (0, 0)", Some(1195)),
-                (rename("b", "a").at(1459), "11 (0, 0)", Some(1195)),
-                (rename("b", "a").at(1460), "0 (0, 0)", Some(1195)),
+                (rename("a", "b").at(1208), "0 (0, 0)", Some(1208)),
+                (rename("b", "a").at(1472), "11 (0, 0)", Some(1208)),
+                (rename("b", "a").at(1473), "0 (0, 0)", Some(1208)),
             ],
         ),
-        ("L", vec![(rename("a", "b").at(1194), "11 (0, 0)", Some(0))]),
+        ("L", vec![(rename("a", "b").at(1207), "11 (0, 0)", Some(0))]),
         ("L", vec![(rename("a", "a/b"), "10 (0, 1)", None), (rename("a", "a/f"), "7 (1, 3)", None)]),
         (
             "L",
@@ -83,14 +98,14 @@ pub fn all() -> Vec<Case> {
             "L",
             vec![
                 (mkdir("a", ""), "6 (0, 1)", None),
-                (write("n", "x"), "0 (0, 1)", Some(298)),
-                (mkdir("a", "e").at(0), "0 (0, 0)", Some(298)),
+                (write("n", "x"), "0 (0, 1)", Some(313)),
+                (mkdir("a", "e").at(0), "0 (0, 0)", Some(313)),
             ],
         ),
         (
             "L",
             vec![
-                (write("a/f", "xy"), "0 (0, 2)", Some(301)),
+                (write("a/f", "xy"), "0 (0, 2)", Some(315)),
                 (exists("l"), "0 (0, 0)", None),
                 (exists("a/f"), "0 (0, 1)", None),
             ],
@@ -168,10 +183,72 @@ pub fn all() -> Vec<Case> {
             vec![
                 (unlink("z"), "0 (0, 0)", Some(297)),
                 (mkdir("z", ""), "0 (0, 0)", Some(297)),
-                (write("z/x", "y"), "0 (0, 1)", Some(597)),
+                (write("z/x", "y"), "0 (0, 1)", Some(612)),
             ],
         ),
         ("", vec![(mkdir("b/f", "p").at(595), "11 (0, 0)", None), (mkdir("b/f", "p").at(596), "0 (0, 0)", Some(596))]),
+    ]
+}
+
+/// The cases of change request #107: bodies of 0 bytes, of 16 and beside it, of own files and of references; and the
+/// charge before a call, rounded, with a walk's sum beside it, which is not.
+pub fn rounded() -> Vec<Case> {
+    vec![
+        (
+            "",
+            vec![
+                (fill("n", 0).at(296), "11 (0, 0)", Some(0)),
+                (fill("n", 0).at(297), "0 (0, 0)", Some(297)),
+                (fill("n", 1).at(312), "11 (0, 0)", Some(297)),
+                (fill("n", 1).at(313), "0 (0, 1)", Some(313)),
+                (fill("n", 16).at(313), "0 (0, 16)", Some(313)),
+                (fill("n", 17).at(328), "11 (0, 0)", Some(313)),
+                (fill("n", 17).at(329), "0 (0, 17)", Some(329)),
+                (fill("n", 32).at(329), "0 (0, 32)", Some(329)),
+                (mkdir("d", "").at(625), "11 (0, 0)", Some(329)),
+                (mkdir("d", "").at(626), "0 (0, 0)", Some(626)),
+                (unlink("n").at(593), "11 (0, 0)", Some(626)),
+                (unlink("n").at(594), "0 (0, 0)", Some(594)),
+            ],
+        ),
+        // The listed paths have 17 and 16 bytes: 313 + 297 + 32, and 312 + 297 + 16.
+        (
+            "d/ d/fifteen-letters d/fourteen-chars",
+            vec![
+                (rename("d/fifteen-letters", "m").at(641), "11 (0, 0)", Some(0)),
+                (rename("d/fifteen-letters", "m").at(642), "0 (0, 0)", Some(642)),
+                (rename("d/fourteen-chars", "n").at(1266), "11 (0, 0)", Some(642)),
+                (rename("d/fourteen-chars", "n").at(1267), "0 (0, 0)", Some(1267)),
+            ],
+        ),
+        // 313 + 521.
+        (
+            "a/ a/f a/l@",
+            vec![
+                (write("n", "x"), "0 (0, 1)", Some(313)),
+                (rename("a", "b").at(833), "11 (0, 0)", Some(313)),
+                (rename("a", "b").at(834), "4 (0, 1)", Some(313)),
+            ],
+        ),
+        ("b/ b/f b/g b/h", with_deleted((3651, 3652), 3652)),
+    ]
+}
+
+/// `b` moved to a deleted `a` that has two deleted entries below it, of the same names as two directories below `b`;
+/// given are the limits right below and at the one that decides, and the charge after it. By the original's rule plan
+/// and walk decide: 1513 + 560 + 1557 = 3630, and the charge after it is 3613. By #107 it is that charge, with 13 more
+/// for each of three references.
+fn with_deleted((refused, accepted): (u64, u64), charge: u64) -> Vec<Step> {
+    vec![
+        (mkdir("a/longer", "p"), "0 (0, 0)", Some(601)),
+        (mkdir("a/letter", ""), "0 (0, 0)", Some(905)),
+        (rmdir("a/longer"), "0 (0, 0)", Some(905)),
+        (rmdir("a/letter"), "0 (0, 0)", Some(905)),
+        (rmdir("a"), "0 (0, 0)", Some(905)),
+        (mkdir("b/longer", ""), "0 (0, 0)", Some(1209)),
+        (mkdir("b/letter", ""), "0 (0, 0)", Some(1513)),
+        (rename("b", "a").at(refused), "11 (0, 0)", Some(1513)),
+        (rename("b", "a").at(accepted), "0 (0, 0)", Some(charge)),
     ]
 }
 
@@ -216,27 +293,129 @@ fn itself() -> Vec<Case> {
                 (rename("q", "q"), "5 (0, 1)", None),
                 (unlink("z"), "0 (0, 0)", Some(297)),
                 (rename("z", "z"), "5 (0, 1)", Some(297)),
-                (rename("a", "b"), "0 (0, 0)", Some(1492)),
-                (rename("b", "b").at(0), "0 (0, 0)", Some(1492)),
-                (rename("b/f", "b/f").at(0), "0 (0, 0)", Some(1492)),
-                (rename("a", "a"), "5 (0, 1)", Some(1492)),
+                (rename("a", "b"), "0 (0, 0)", Some(1505)),
+                (rename("b", "b").at(0), "0 (0, 0)", Some(1505)),
+                (rename("b/f", "b/f").at(0), "0 (0, 0)", Some(1505)),
+                (rename("a", "a"), "5 (0, 1)", Some(1505)),
             ],
         ),
     ]
 }
 
-/// The cases of change request #103.
+/// The cases of change request #103, with the charges of #107. Of these are also a body that grows within its 16 bytes
+/// and past them, a content that is not rounded beside the charge, and sums that would pass 2^64 - 1.
 fn partial() -> Vec<Case> {
     vec![
+        (
+            "L",
+            vec![
+                (append("a/f", "hi", 0).at(314), "11 (0, 0)", Some(0)),
+                (append("a/f", "hi", 0).at(315), "0 (0, 2)", Some(315)),
+                (append("a/f", "", 0).at(314), "11 (0, 0)", Some(315)),
+                (append("a/f", "", 0).at(315), "0 (0, 0)", Some(315)),
+                (append("a/f", "x", 0).at(315), "0 (0, 1)", Some(315)),
+                (write_at("a/f", "X", 7), "0 (0, 1)", Some(315)),
+                (write_at("a/f", "", 10).at(314), "11 (0, 0)", Some(315)),
+                (write_at("a/f", "", 10).at(315), "0 (0, 0)", Some(315)),
+                (write_at("a/f", "x", 15).at(315), "0 (0, 1)", Some(315)),
+                (write_at("a/f", "x", 16).at(330), "11 (0, 0)", Some(315)),
+                (write_at("a/f", "x", 16).at(331), "0 (0, 1)", Some(331)),
+                (append("a/f", "x", 0).at(331), "0 (0, 1)", Some(331)),
+                (append("a/f", "fifteen letters", 0).at(346), "11 (0, 0)", Some(331)),
+                (append("a/f", "fifteen letters", 0).at(347), "0 (0, 15)", Some(347)),
+            ],
+        ),
+        (
+            "L",
+            vec![
+                (rename("z", "y"), "0 (0, 0)", Some(610)),
+                (append("y", "", 0).at(609), "11 (0, 0)", Some(610)),
+                (append("y", "", 0).at(610), "0 (0, 0)", Some(594)),
+            ],
+        ),
+        (
+            "L",
+            vec![
+                (rename("z", "y"), "0 (0, 0)", Some(610)),
+                (append("y", "x", 0).at(610), "11 (0, 0)", Some(610)),
+                (append("y", "x", 0).at(611), "0 (0, 1)", Some(610)),
+            ],
+        ),
+        (
+            "L",
+            vec![
+                (rename("a/f", "g"), "0 (0, 0)", Some(612)),
+                (append("g", "x", 0).at(617), "11 (0, 0)", Some(612)),
+                (append("g", "x", 0).at(618), "0 (0, 1)", Some(612)),
+            ],
+        ),
+        (
+            "L",
+            vec![
+                (append("", "", 0), "8 (0, 0)", None),
+                (append("a", "", 0), "8 (0, 1)", None),
+                (append("l", "", 0), "4 (0, 1)", None),
+                (append("l/x", "", 0), "4 (0, 3)", None),
+                (append("z/n", "", 0), "5 (0, 3)", None),
+                (append("q/n", "", 0), "5 (0, 3)", None),
+                (append("n", "", 0), "0 (0, 0)", Some(297)),
+                (unlink("n"), "0 (0, 0)", Some(297)),
+                (append("n", "hi", 0), "0 (0, 2)", Some(313)),
+            ],
+        ),
+        (
+            "L",
+            vec![
+                (unlink("z"), "0 (0, 0)", Some(297)),
+                (write_at("z", "x", u64::MAX), "5 (0, 1)", None),
+                (write_at("", "x", 0), "5 (0, 0)", None),
+                (write_at("a", "x", 0), "5 (0, 1)", None),
+                (write_at("a/f", "x", 0), "5 (0, 3)", None),
+                (write_at("l/x", "x", 0), "5 (0, 3)", None),
+                (write("n", ""), "0 (0, 0)", Some(594)),
+                (write_at("n", "x", u64::MAX).at(0), "18 (0, 0)", Some(594)),
+                (write_at("n", "x", u64::MAX - 1).at(u64::MAX - 1), "11 (0, 0)", Some(594)),
+                (write_at("n", "x", u64::MAX - 1), "13 (0, 0)", Some(594)),
+                // 594 + 2^64 - 608, the largest length at which the sum is exact; then one byte more.
+                (write_at("n", "", u64::MAX - 607).at(u64::MAX - 14), "11 (0, 0)", Some(594)),
+                (write_at("n", "", u64::MAX - 607).at(u64::MAX - 13), "13 (0, 0)", Some(594)),
+                (write_at("n", "", u64::MAX - 606).at(u64::MAX - 1), "11 (0, 0)", Some(594)),
+                (write_at("n", "", u64::MAX - 606), "13 (0, 0)", Some(594)),
+                (write_at("n", "", 3).at(609), "11 (0, 0)", Some(594)),
+                (write_at("n", "", 3).at(610), "0 (0, 0)", Some(610)),
+            ],
+        ),
+    ]
+}
+
+/// Cases of document 01 and of change request #103 with the numbers that they had before #107, by the original's rule.
+fn by_original() -> Vec<Case> {
+    vec![
+        (
+            "L",
+            vec![
+                (rename("a", "b").at(1194), "11 (0, 0)", Some(0)),
+                (rename("a", "b").at(1195), "0 (0, 0)", Some(1195)),
+                (rename("b", "a").at(1459), "11 (0, 0)", Some(1195)),
+                (rename("b", "a").at(1460), "0 (0, 0)", Some(1195)),
+            ],
+        ),
+        (
+            "L",
+            vec![
+                (write("a/f", "xy").at(300), "11 (0, 0)", Some(0)),
+                (write("a/f", "xy").at(301), "0 (0, 2)", Some(301)),
+                (fill("a/f", 17).at(315), "11 (0, 0)", Some(301)),
+                (fill("a/f", 17).at(316), "0 (0, 17)", Some(316)),
+            ],
+        ),
         (
             "L",
             vec![
                 (append("a/f", "hi", 0).at(305), "11 (0, 0)", Some(0)),
                 (append("a/f", "hi", 0).at(306), "0 (0, 2)", Some(306)),
                 (append("a/f", "", 0).at(305), "11 (0, 0)", Some(306)),
-                (append("a/f", "", 0).at(306), "0 (0, 0)", Some(306)),
                 (append("a/f", "x", 0).at(307), "0 (0, 1)", Some(307)),
-                (write_at("a/f", "X", 7), "0 (0, 1)", Some(307)),
                 (write_at("a/f", "", 10).at(308), "11 (0, 0)", Some(307)),
                 (write_at("a/f", "", 10).at(309), "0 (0, 0)", Some(309)),
             ],
@@ -258,35 +437,14 @@ fn partial() -> Vec<Case> {
             ],
         ),
         (
-            "L",
+            "a/ a/f a/l@",
             vec![
-                (append("", "", 0), "8 (0, 0)", None),
-                (append("a", "", 0), "8 (0, 1)", None),
-                (append("l", "", 0), "4 (0, 1)", None),
-                (append("l/x", "", 0), "4 (0, 3)", None),
-                (append("z/n", "", 0), "5 (0, 3)", None),
-                (append("q/n", "", 0), "5 (0, 3)", None),
-                (append("n", "", 0), "0 (0, 0)", Some(297)),
-                (unlink("n"), "0 (0, 0)", Some(297)),
-                (append("n", "hi", 0), "0 (0, 2)", Some(299)),
+                (write("n", "x"), "0 (0, 1)", Some(298)),
+                (rename("a", "b").at(818), "11 (0, 0)", Some(298)),
+                (rename("a", "b").at(819), "4 (0, 1)", Some(298)),
             ],
         ),
-        (
-            "L",
-            vec![
-                (unlink("z"), "0 (0, 0)", Some(297)),
-                (write_at("z", "x", u64::MAX), "5 (0, 1)", None),
-                (write_at("", "x", 0), "5 (0, 0)", None),
-                (write_at("a", "x", 0), "5 (0, 1)", None),
-                (write_at("a/f", "x", 0), "5 (0, 3)", None),
-                (write_at("l/x", "x", 0), "5 (0, 3)", None),
-                (write("n", ""), "0 (0, 0)", Some(594)),
-                (write_at("n", "x", u64::MAX).at(0), "18 (0, 0)", Some(594)),
-                (write_at("n", "x", u64::MAX - 1).at(u64::MAX - 1), "11 (0, 0)", Some(594)),
-                (write_at("n", "", 3).at(596), "11 (0, 0)", Some(594)),
-                (write_at("n", "", 3).at(597), "0 (0, 0)", Some(597)),
-            ],
-        ),
+        ("b/ b/f b/g b/h", with_deleted((3629, 3630), 3613)),
     ]
 }
 
@@ -313,6 +471,9 @@ fn partings() -> Vec<Parting> {
         ("a/ a/f", Entries::new(), rename("a", "a"), "0 (0, 0)", "9 (1, 1)"),
         ("z", Entries::new(), rename("z", "z").at(297), "0 (0, 0)", "11 (0, 0)"),
         ("l@", one("l/x", Entry::deleted()), mkdir("l/x", "p"), "4 (0, 3)", "4 (0, 1)"),
+        ("", Entries::new(), write("n", "x").at(298), "11 (0, 0)", "0 (0, 1)"),
+        ("", Entries::new(), write("n", "x").at(312), "11 (0, 0)", "0 (0, 1)"),
+        ("", Entries::new(), write("n", "x").at(313), "0 (0, 1)", "0 (0, 1)"),
     ]
 }
 
@@ -341,18 +502,48 @@ fn run_partings() -> u64 {
     faults
 }
 
+/// The listing of a case.
+pub fn listing(text: &str) -> Tree {
+    if text == "L" { listing_l() } else { tree(text) }
+}
+
+/// Holds the original, and the model by the original's rule, to its own numbers.
+fn run_by_original() -> u64 {
+    fn hold(name: &str, text: &str, steps: &[Step], mut side: impl Side) -> u64 {
+        let mut faults = 0;
+        for (call, expected, charge) in steps {
+            let answer = side.call(call, 0);
+            if answer.to_string() != *expected || charge.is_some_and(|charge| charge != side.charge()) {
+                faults += 1;
+                let found = format!("{answer}, charge {}", side.charge());
+                println!("DIFFERENCE: `{text}`, {call}: {expected} {charge:?} is written, the {name} gives {found}");
+            }
+        }
+        faults
+    }
+    let (mut calls, mut faults) = (0, 0);
+    for (text, steps) in by_original() {
+        let tree = listing(text);
+        let original = Original::new(&bytes(&tree), "/mnt", Manner::default());
+        let model = Model::new(&Rc::new(tree), entry_size(), 4096).by(Rule::Length);
+        calls += steps.len();
+        faults += hold("original", text, &steps, original) + hold("model by its rule", text, &steps, model);
+    }
+    println!("{calls} calls with the numbers from before #107, by the original's rule: {faults} not as written");
+    faults
+}
+
 pub fn run() -> u64 {
-    let (mut calls, mut faults) = (0, run_partings());
-    let cases: Vec<Case> = all().into_iter().chain(shown()).chain(partial()).chain(itself()).collect();
+    let (mut calls, mut faults) = (0, run_partings() + run_by_original());
+    let cases: Vec<Case> = all().into_iter().chain(rounded()).chain(shown()).chain(partial()).chain(itself()).collect();
     for (text, steps) in &cases {
-        let listing = if *text == "L" { listing_l() } else { tree(text) };
-        let mut world = World::new(&Setup::new(listing, 4096));
+        let mut world = World::new(&Setup::new(listing(text), 4096));
         for (call, expected, charge) in steps {
             calls += 1;
             let found = match world.call(call) {
                 Ok(answer) if answer.to_string() != *expected => Some(answer.to_string()),
-                Ok(_) if charge.is_some_and(|charge| charge != world.original.charge()) => {
-                    Some(format!("charge {}", world.original.charge()))
+                Ok(_) if charge.is_some_and(|charge| charge != world.port.charge()) => {
+                    Some(format!("charge {}", world.port.charge()))
                 }
                 Ok(_) => None,
                 Err(what) => Some(what),
@@ -363,9 +554,7 @@ pub fn run() -> u64 {
             }
         }
     }
-    println!(
-        "{} cases of document 01, its readings, #102 to #104, docs/DIFFERENCES.md: {calls} calls, {faults} differences",
-        cases.len()
-    );
+    let named = "document 01, its readings, #102 to #104, #107, docs/DIFFERENCES.md";
+    println!("{} cases of {named}: {calls} calls, {faults} differences", cases.len());
     faults
 }

@@ -1,6 +1,7 @@
 //! The originals, the port and a plain model, each as one side that takes the same calls over the same listing; and what
 //! the programs beside this one share.
 
+pub mod edge;
 pub mod listing;
 pub mod lists;
 pub mod model;

@@ -64,15 +64,27 @@ pub fn random_call(random: &mut Random, paths: &[String]) -> Call {
     Call::new(op, &path)
 }
 
+/// The call; if it writes or appends, then in one case of two with 16 or 32 bytes, or one more or fewer: there the
+/// charge of a body has its steps (#107).
+pub fn around_sixteen(random: &mut Random, mut call: Call) -> Call {
+    if let Op::Write { data } | Op::Append { data, .. } = &mut call.op
+        && random.one_in(2)
+    {
+        let length = *random.pick(&[15, 16, 17, 31, 32, 33]);
+        *data = random.bytes(length);
+    }
+    call
+}
+
 /// The calls of change request #103 over the paths: with and without data and with other numbers of lent bytes, and
-/// from inside a content, past its end, and with sums at and above 2^64 - 1.
+/// from inside a content, past its end, to a multiple of 16 and one past it, and with sums at and above 2^64 - 1.
 pub fn every_partial_call(paths: &[&str]) -> Vec<Call> {
     let mut calls = Vec::new();
     for path in paths {
         for (data, more) in [("", 0), ("xy", 0), ("", 1), ("x", -1)] {
             calls.push(Call::new(Op::Append { data: data.into(), more }, path));
         }
-        for (data, offset) in [("", 0), ("k", 1), ("", 4), ("k", u64::MAX), ("", u64::MAX)] {
+        for (data, offset) in [("", 0), ("k", 1), ("", 4), ("k", 15), ("", 17), ("k", u64::MAX), ("", u64::MAX)] {
             calls.push(Call::new(Op::WriteAt { data: data.into(), offset }, path));
         }
     }

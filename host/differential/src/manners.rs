@@ -1,10 +1,12 @@
 //! The original over hosts of another manner, beside the model: what the two differences that document 01 lists about
-//! the host (the order of a directory's entries, lookups below a file) come to, counted by class.
+//! the host (the order of a directory's entries, lookups below a file) come to, counted by class. The original is asked
+//! at limits translated to its own rule, by its own answers over that host.
 
 use std::{collections::BTreeMap, rc::Rc};
 
 use differential::{
     Manner,
+    edge::translated,
     listing::{Kind, Tree, bytes, text},
     lists::{pool, random_call, random_tree},
     model::Model,
@@ -38,7 +40,7 @@ fn first(manner: Manner, tree: &Tree, calls: &[Call], asked: &mut u64) -> Option
             continue;
         }
         *asked += 1;
-        let answer = original.call(call, 0);
+        let answer = original.call(&translated(&original, call), 0);
         let stored = original.entries().get(&call.path).map_or(0, |entry| entry.mtime);
         let expected = model.call(call, stored);
         if expected != answer {

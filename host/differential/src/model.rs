@@ -1,6 +1,6 @@
-//! A plain model written from document 01 and change requests #102, #103 and #104 alone: a map of entries over a map of
-//! listed paths, every check in its order. A third opinion beside the original and the port, and the only one beside
-//! the port on 3, 12, 13 and 17.
+//! A plain model written from document 01 and change requests #102, #103, #104 and #107 alone: a map of entries over a
+//! map of listed paths, every check in its order. A third opinion beside the original and the port, and the only one
+//! beside the port on 3, 12, 13 and 17. It can also charge bodies by the original's rule.
 
 use std::{
     collections::{BTreeMap, BTreeSet},
@@ -9,7 +9,7 @@ use std::{
 
 use crate::{
     listing::{Kind, Tree},
-    side::{Answer, Call, Entries, Entry, Op, Side, charge, lent, used},
+    side::{Answer, Call, Entries, Entry, Op, Rule, Side, lent, used},
 };
 
 #[derive(Clone)]
@@ -18,6 +18,7 @@ pub struct Model {
     entries: Entries,
     entry_size: u64,
     room: usize,
+    rule: Rule,
 }
 
 type Checked<T = ()> = Result<T, Answer>;
@@ -47,7 +48,7 @@ fn split(path: &str) -> (&str, &str) {
 
 impl Model {
     pub fn new(listing: &Rc<Tree>, entry_size: u64, room: usize) -> Self {
-        Self { listing: Rc::clone(listing), entries: BTreeMap::new(), entry_size, room }
+        Self { listing: Rc::clone(listing), entries: BTreeMap::new(), entry_size, room, rule: Rule::Rounded }
     }
 
     pub fn listing(&self) -> &Tree {
@@ -61,6 +62,11 @@ impl Model {
     /// The same table in a buffer of so many bytes.
     pub fn in_room(&self, room: usize) -> Self {
         Self { room, ..self.copy() }
+    }
+
+    /// The same table, charged by this rule.
+    pub fn by(&self, rule: Rule) -> Self {
+        Self { rule, ..self.copy() }
     }
 
     fn listed(&self, path: &str) -> Option<Kind> {
@@ -161,7 +167,7 @@ impl Model {
         let mut after = self.entries.clone();
         let too_long = changes.iter().any(|(key, _)| !short(key));
         after.extend(changes);
-        if charge(&after, self.entry_size) > limit {
+        if self.rule.charge(&after, self.entry_size) > limit {
             return Err(Answer::refused(11));
         } else if too_long {
             return Err(Answer::refused(12));
@@ -187,7 +193,7 @@ impl Model {
         let own = self.entries.get(path).filter(|entry| entry.kind == 1);
         let content = [own.map_or(bytes, |entry| &entry.body), data].concat();
         // "The memory checks are those two functions' own": `append_bytes` wants its whole new content beside the
-        // charge as it is, unless it extends an own file.
+        // charge as it is, unless it extends an own file. That is no charge, so #107 does not round it.
         if own.is_none() && self.charge() + content.len() as u64 > limit {
             return Err(Answer::refused(11));
         }
@@ -199,10 +205,14 @@ impl Model {
         let own = self.entries.get(path).filter(|entry| entry.kind == 1).ok_or(Answer::named(5, 0, path))?;
         // "an offset whose sum with the data length passes 2^64 − 1 is 18 after 5 and before 11"
         let end = offset.checked_add(data.len() as u64).ok_or(Answer::refused(18))?;
-        let growth = u128::from(end.saturating_sub(own.body.len() as u64));
-        if u128::from(self.charge()) + growth > limit.into() {
+        let before = own.body.len() as u64;
+        let after = before.max(end);
+        // #107: "The growth in #103 is the rounded length after, less the rounded length before. A rounded length or
+        // sum that would pass 2^64 − 1 counts as 2^64 − 1"
+        let growth = self.rule.body(after) - self.rule.body(before);
+        if self.charge().saturating_add(growth) > limit {
             return Err(Answer::refused(11));
-        } else if used(&self.entries) as u128 + growth > self.room as u128 {
+        } else if used(&self.entries) as u128 + u128::from(after - before) > self.room as u128 {
             return Err(Answer::refused(13));
         }
         let (offset, end, mut content) = (offset as usize, end as usize, own.body.clone());
@@ -358,8 +368,7 @@ impl Model {
             moves.extend(below.map(|(key, entry)| (key.clone(), entry.clone())));
             let cost = |(key, _): &(String, Entry)| (2 * key.len() + moved(key).len() + 256) as u64;
             let plan: u64 = moves.iter().skip(1).map(cost).sum();
-            let before = charge(&self.entries, self.entry_size);
-            let rest = limit.checked_sub(before).and_then(|rest| rest.checked_sub(plan));
+            let rest = limit.checked_sub(self.charge()).and_then(|rest| rest.checked_sub(plan));
             let budget = rest.ok_or(Answer::refused(11))?;
             if self.listed(from) == Some(Kind::Directory) {
                 for path in self.walk(from, budget)? {
@@ -411,7 +420,7 @@ impl Side for Model {
     }
 
     fn charge(&self) -> u64 {
-        charge(&self.entries, self.entry_size)
+        self.rule.charge(&self.entries, self.entry_size)
     }
 
     fn copy(&self) -> Self {

@@ -7,9 +7,10 @@ use std::{
 };
 
 use differential::{
+    edge::Edge,
     listing::{Tree, bytes, listing_l, tree},
     lists::{
-        every_call, every_partial_call, long_pool, long_tree, malformed, pool, queries, random_call,
+        around_sixteen, every_call, every_partial_call, long_pool, long_tree, malformed, pool, queries, random_call,
         random_partial_call, random_tree, with_short_files,
     },
     model::Model,
@@ -24,10 +25,15 @@ use differential::{
 pub struct Count {
     pub lists: u64,
     pub calls: u64,
-    /// The calls that were asked of the original too.
+    /// The calls that were asked of the original too, and those among them at another limit, translated.
     pub asked: u64,
+    pub moved: u64,
     pub queries: u64,
-    pub thresholds: u64,
+    /// The limits that were found to decide.
+    pub edges: u64,
+    /// Those among them that are others by the original's rule, by what is at the one of #107: the charge after the
+    /// call; a sum beside the charge before it; a refusal by another number than 11.
+    pub rounded: [u64; 3],
     pub numbers: BTreeMap<u8, u64>,
     /// The calls of change request #103 among them, by name, the answer's number, and whether the original was asked.
     pub partial: BTreeMap<(&'static str, u8, bool), u64>,
@@ -48,7 +54,7 @@ pub struct Count {
 
 impl Count {
     fn add(&mut self, call: &Call, answer: Answer, original: bool) {
-        let asked = original && asks_original(call, answer);
+        let asked = original && asks_original(answer);
         self.calls += 1;
         self.asked += u64::from(asked);
         *self.numbers.entry(answer.number).or_default() += 1;
@@ -64,12 +70,14 @@ impl Count {
         self.lists += other.lists;
         self.calls += other.calls;
         self.asked += other.asked;
+        self.moved += other.moved;
         self.queries += other.queries;
-        self.thresholds += other.thresholds;
+        self.edges += other.edges;
         self.differences += other.differences;
         self.links += other.links;
         self.shows_without += other.shows_without;
-        for (count, others) in self.leasts.iter_mut().zip(other.leasts) {
+        let rounded = self.rounded.iter_mut().zip(&other.rounded);
+        for (count, others) in self.leasts.iter_mut().zip(&other.leasts).chain(rounded) {
             *count += others;
         }
         for (counts, others) in
@@ -89,7 +97,7 @@ impl Count {
 
     fn row(&self, name: &str, seconds: f64) {
         let shows = self.shows.values().sum::<u64>() + self.shows_without;
-        print!("| {name} | {} | {} | {} | {shows} | {} |", self.lists, self.calls, self.queries, self.thresholds);
+        print!("| {name} | {} | {} | {} | {shows} | {} |", self.lists, self.calls, self.queries, self.edges);
         for number in [0, 3, 4, 5, 6, 7, 8, 9, 10, 11, 12, 13, 17, 18] {
             print!(" {} |", self.numbers.get(&number).unwrap_or(&0));
         }
@@ -112,11 +120,13 @@ impl Place {
         Self { world: self.world.copy(), calls: self.calls.clone() }
     }
 
-    fn call(&mut self, call: &Call, count: &mut Count) -> Result<Answer, Difference> {
-        match self.world.call(call) {
+    /// The call with the limits that decide it, which a call without a limit does not need.
+    fn call(&mut self, call: &Call, edge: Option<Edge>, count: &mut Count) -> Result<Answer, Difference> {
+        match self.world.call_by(call, edge) {
             Ok(answer) => {
                 let itself = call.is_onto_itself() && answer.number == 0;
                 count.add(call, answer, !itself);
+                count.moved += u64::from(self.world.moved);
                 if itself {
                     *count.itself.entry(self.world.parted.map(|theirs| theirs.number)).or_default() += 1;
                 }
@@ -133,36 +143,45 @@ impl Place {
     }
 
     /// The call at each of the limits around the one that decides it; the place stays as it is.
-    fn probe(&mut self, call: &Call, more: &[u64], count: &mut Count) -> Result<Option<u64>, Difference> {
-        let threshold = self.world.threshold(call);
-        self.hold_least(call, threshold, count)?;
-        let Some(threshold) = threshold else {
+    fn probe(&mut self, call: &Call, more: &[u64], count: &mut Count) -> Result<Option<Edge>, Difference> {
+        let edge = self.world.edge(call);
+        self.hold_least(call, edge, count)?;
+        let Some(Edge { ours, theirs }) = edge else {
             // No limit decides it: the answer is the same at limit 0.
-            self.copy().call(&call.at(0), count)?;
+            self.copy().call(&call.at(0), None, count)?;
             return Ok(None);
         };
-        count.thresholds += 1;
-        self.call(&call.at(threshold - 1), count)?;
-        for limit in more.iter().chain(&[threshold]) {
+        count.edges += 1;
+        self.call(&call.at(ours - 1), edge, count)?;
+        let mut decides = 0;
+        for limit in more.iter().chain(&[ours]) {
             let mut other = self.copy();
-            let answer = other.call(&call.at(*limit), count)?;
-            if (answer.number == 11) != (*limit < threshold) {
-                let what = format!("{call}: {answer} at limit {limit}, though {threshold} decides");
+            let answer = other.call(&call.at(*limit), edge, count)?;
+            if (answer.number == 11) != (*limit < ours) {
+                let what = format!("{call}: {answer} at limit {limit}, though {ours} decides");
                 return Err(Difference { what, listing: String::new(), calls: other.calls });
             }
+            decides = match answer.number {
+                0 => usize::from(other.world.model.charge() != ours),
+                _ => 2,
+            };
         }
-        Ok(Some(threshold))
+        if theirs != ours {
+            count.rounded[decides] += 1;
+        }
+        Ok(edge)
     }
 
     /// What is said to let a rename through, beside the limit that decides it and the length that the model needs.
-    fn hold_least(&self, call: &Call, threshold: Option<u64>, count: &mut Count) -> Result<(), Difference> {
+    fn hold_least(&self, call: &Call, edge: Option<Edge>, count: &mut Count) -> Result<(), Difference> {
         let Some(Ok(Some([limit, length]))) = self.world.port.least(call) else { return Ok(()) };
-        if limit != threshold.unwrap_or(0) || !self.world.is_least_length(call, length as usize) {
-            let what = format!("{call}: least are said to be {limit} and {length}, though {threshold:?} decides");
+        let decides = edge.map_or(0, |edge| edge.ours);
+        if limit != decides || !self.world.is_least_length(call, length as usize) {
+            let what = format!("{call}: least are said to be {limit} and {length}, though {decides} decides");
             let calls = self.calls.iter().chain([call]).cloned().collect();
             return Err(Difference { what, listing: String::new(), calls });
         }
-        count.leasts[usize::from(threshold.is_some())] += 1;
+        count.leasts[usize::from(edge.is_some())] += 1;
         Ok(())
     }
 
@@ -219,7 +238,7 @@ fn exhaustive(
             let more = place.world.deciding(call);
             place.probe(call, &more, count)?;
             let mut after = place.copy();
-            if after.call(call, count)?.number == 0 {
+            if after.call(call, None, count)?.number == 0 {
                 let shape = shape(&after.world);
                 all &= seen.len() < most || seen.contains(&shape);
                 if seen.len() < most && seen.insert(shape) {
@@ -235,12 +254,14 @@ fn exhaustive(
 type Make = fn(&mut Random, &[String], &Model) -> Call;
 
 fn base_call(random: &mut Random, paths: &[String], _: &Model) -> Call {
-    random_call(random, paths)
+    let call = random_call(random, paths);
+    around_sixteen(random, call)
 }
 
 fn partial_call(random: &mut Random, paths: &[String], model: &Model) -> Call {
     let (own, files) = model.files();
-    random_partial_call(random, paths, &own, &files)
+    let call = random_partial_call(random, paths, &own, &files);
+    around_sixteen(random, call)
 }
 
 /// One random list, each call probed and then done at a limit that lets it through or at any.
@@ -261,11 +282,9 @@ fn random_list(
         let any = random.below(3000) as u64;
         let mut more = vec![before.saturating_sub(1), before, before + 1, any];
         more.extend(place.world.deciding(&call));
-        let limit = match place.probe(&call, &more, count)? {
-            Some(threshold) => [threshold, threshold + 1, u64::MAX][random.below(3)],
-            None => u64::MAX,
-        };
-        place.call(&call.at(limit), count)?;
+        let edge = place.probe(&call, &more, count)?;
+        let limit = edge.map_or(u64::MAX, |edge| [edge.ours, edge.ours.saturating_add(1), u64::MAX][random.below(3)]);
+        place.call(&call.at(limit), edge, count)?;
         for path in [&call.path, random.pick(paths)] {
             place.ask(path, count)?;
         }
@@ -333,7 +352,7 @@ fn group(all: &mut Count, name: &str, work: impl FnOnce(&mut Count) -> Result<&'
 }
 
 /// The listings of the exhaustive runs, each with the paths that its calls name.
-const SMALL: [(&str, &[&str]); 9] = [
+const SMALL: [(&str, &[&str]); 10] = [
     ("", &["", "a", "a/b", "a/b/c", "b"]),
     ("z", &["z", "z/x", "z/x/y", "b", "b/x"]),
     ("l@", &["l", "l/x", "b", "b/x"]),
@@ -343,6 +362,8 @@ const SMALL: [(&str, &[&str]); 9] = [
     ("a/ b/ b/f", &["a", "a/f", "b", "b/f", "b/g"]),
     ("a/ a/b/ a/b/l@ a/c/ a/c/f", &["a", "a/b", "a/c", "a/c/f", "e"]),
     ("a/ a/f b/ b/f c/ c/a/ c/a/f", &["a", "a/f", "b", "b/f", "c", "c/a"]),
+    // Listed paths of 16 and of 17 bytes.
+    ("d/ d/fifteen-letters d/fourteen-chars", &["d", "d/fifteen-letters", "d/fourteen-chars", "e", "e/fourteen-chars"]),
 ];
 
 /// Every call over the small listings; then, over some of them, also those of change request #103, which go on without
@@ -417,6 +438,16 @@ fn random_groups(all: &mut Count, share: u64, seed: u64) {
     });
 }
 
+/// How often the original's rule gave another limit than #107, and was asked at its own.
+fn print_rounded(all: &Count) {
+    let [after, beside, refused] = all.rounded;
+    let others = after + beside + refused;
+    println!("Limits found: {}, {others} of them others by the original's rule. By #107 these are:", all.edges);
+    println!("{after} the charge after the call, {beside} the charge before it with a sum beside it, and {refused}");
+    println!("where the call is refused by another number from there on.");
+    println!("Calls asked of the original at a translated limit: {}.", all.moved);
+}
+
 /// How many moves onto itself were accepted, and what the original answered to them.
 fn print_itself(all: &Count) {
     let said = |theirs: &Option<u8>| match theirs {
@@ -435,7 +466,7 @@ fn print_renames(all: &Count) {
     let sum: u64 = all.renames.values().sum();
     println!("renames held to the least limit and the least length said before: {sum}, {}.", each.join(", "));
     let [onto_itself, others] = all.leasts;
-    println!("least limits said: {others}, each the smallest that the original does not refuse by 11.");
+    println!("least limits said: {others}, each the one that was found to decide, by the original's own sums.");
     println!("least lengths said: {}, each by the model; {onto_itself} of moves onto itself.", others + onto_itself);
 }
 
@@ -474,6 +505,7 @@ pub fn run(long: bool, seed: u64) -> u64 {
     all.row("all", start.elapsed().as_secs_f64());
     println!();
     println!("Calls asked of the original: {}.", all.asked);
+    print_rounded(&all);
     let each: Vec<String> = all.shows.iter().map(|(number, count)| format!("{count} with {number}")).collect();
     let shows: u64 = all.shows.values().sum();
     println!("Shown beside `iterdir` of the original: {shows} paths, {}.", each.join(", "));

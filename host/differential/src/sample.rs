@@ -1,28 +1,34 @@
 //! A fixed sample of the original's answers: as lines of text (sample.txt), and as bytes (sample.bin). Moves onto
 //! itself, in which the port parts from the original (#104), are not in it, but for those that both refuse. The
 //! original stores the clock's time; the sample has 1000, 1001, ... in its place, the same number for the same time.
+//! Limits and charges are those of #107: the limit is translated to the one at which the original is asked, and the
+//! charge is the sum over the entries that it left. The port has no part in them.
 
-use std::{collections::BTreeMap, fmt::Write, thread, time::Duration};
+use std::{collections::BTreeMap, fmt::Write, rc::Rc, thread, time::Duration};
 
 use differential::{
     Manner,
-    listing::{self, Tree, listing_l, tree},
+    edge::{edge_of, translated},
+    listing::{self, Tree},
     lists::{pool, queries, random_call, random_tree},
-    monty_fs::Original,
+    model::Model,
+    monty_fs::{Original, entry_size},
     random::Random,
-    side::{Answer, Call, Entries, Entry, Op, Side, encoded},
-    world::{Setup, World},
+    side::{Answer, Call, Entries, Entry, Op, Side, charge, encoded},
 };
 
-use crate::cases;
+use crate::cases::{self, Case};
 
-/// A call as it is in the sample: its mtime, its answer, and the entries and the charge after it.
+/// A call as it is in the sample: its mtime, its answer, and the entries and the charge after it; then the limit at
+/// which the original was asked, and the charge that it kept.
 struct Step {
     call: Call,
     mtime: u64,
     answer: Answer,
     entries: Entries,
     charge: u64,
+    asked: u64,
+    kept: u64,
 }
 
 impl Step {
@@ -65,15 +71,15 @@ struct Recorder {
 
 impl Recorder {
     fn new(listing: &Tree) -> Self {
-        let original = Original::new(&listing::bytes(listing), "/mnt", Manner::default());
-        Self { original, times: BTreeMap::new() }
+        Self { original: original_over(listing), times: BTreeMap::new() }
     }
 
     fn step(&mut self, call: &Call) -> Step {
         // Two calls must not store the same time: an f64 of today has steps of a quarter of a microsecond.
         thread::sleep(Duration::from_micros(2));
         let before = self.original.entries();
-        let answer = self.original.call(call, 0);
+        let asked = translated(&self.original, call);
+        let answer = self.original.call(&asked, 0);
         let mut entries = self.original.entries();
         let new = |entry: &&Entry| call.takes_mtime() && before.get(&call.path) != Some(entry);
         // A call that stores no time is given 7.
@@ -84,27 +90,36 @@ impl Recorder {
         for entry in entries.values_mut() {
             entry.mtime = *self.times.get(&entry.mtime).unwrap_or(&entry.mtime);
         }
-        Step { call: call.clone(), mtime, answer, entries, charge: self.original.charge() }
+        let (charge, asked, kept) = (charge(&entries, entry_size()), asked.limit, self.original.charge());
+        Step { call: call.clone(), mtime, answer, entries, charge, asked, kept }
     }
+}
+
+/// The original over the listing, on an empty table.
+fn original_over(listing: &Tree) -> Original {
+    Original::new(&listing::bytes(listing), "/mnt", Manner::default())
 }
 
 /// A random list in which limits stand at and right below the one that decides.
 fn random_list(listing: &Tree, random: &mut Random) -> Vec<Call> {
     let paths = pool(listing);
-    let mut world = World::new(&Setup::new(listing.clone(), 1 << 16));
+    let mut original = original_over(listing);
+    let mut model = Model::new(&Rc::new(listing.clone()), entry_size(), 1 << 16);
     let mut calls = Vec::new();
     for _ in 0..6 {
         let call = random_call(random, &paths);
-        let threshold = world.threshold(&call);
-        let limit = match (threshold, random.below(3)) {
-            (Some(threshold), 0) => threshold - 1,
-            (Some(threshold), 1) => threshold,
+        // The model says only whether a move onto itself does nothing.
+        model.load(&original.entries());
+        let itself = call.is_onto_itself() && model.call(&call, 0).number == 0;
+        let edge = if itself { None } else { edge_of(&original, &call) };
+        let limit = match (edge, random.below(3)) {
+            (Some(edge), 0) => edge.ours - 1,
+            (Some(edge), 1) => edge.ours,
             _ => u64::MAX,
         };
-        let call = call.at(limit);
-        // A difference would be told by the runs; here the original alone counts.
-        let answer = world.call(&call);
-        if !call.is_onto_itself() || answer.is_ok_and(|answer| answer.number != 0) {
+        if !itself {
+            let call = call.at(limit);
+            original.call(&translated(&original, &call), 0);
             calls.push(call);
         }
     }
@@ -134,19 +149,23 @@ impl Sample {
         self.lists.push(List { listing, steps });
     }
 
+    fn keep_cases(&mut self, cases: Vec<Case>) {
+        for (name, steps) in cases {
+            let calls: Vec<Call> = steps.into_iter().map(|(call, ..)| call).collect();
+            self.keep(cases::listing(name), &calls, |_| u32::MAX);
+        }
+    }
+
     fn calls(&self) -> u32 {
         self.seen.values().sum()
     }
 }
 
-/// The sample: document 01's cases, then random lists that bring a call of a rare class, then accepted renames.
+/// The sample: document 01's cases, then random lists that bring a call of a rare class, then accepted renames, then
+/// the cases of #107.
 pub fn lists() -> Vec<List> {
     let mut sample = Sample::default();
-    for (name, steps) in cases::all() {
-        let listing = if name == "L" { listing_l() } else { tree(name) };
-        let calls: Vec<Call> = steps.into_iter().map(|(call, ..)| call).collect();
-        sample.keep(listing, &calls, |_| u32::MAX);
-    }
+    sample.keep_cases(cases::all());
     let mut random = Random::new(4);
     for _ in 0..600 {
         let listing = random_tree(&mut random);
@@ -158,6 +177,7 @@ pub fn lists() -> Vec<List> {
         let calls = random_list(&listing, &mut random);
         sample.keep(listing, &calls, |class| 20 * u32::from(class == ("rename", 0, 0)));
     }
+    sample.keep_cases(cases::rounded());
     sample.lists
 }
 
@@ -166,11 +186,15 @@ const HEAD: &str = "\
 # Made by `cargo run -p differential -- sample`. Fields are parted by one space. Bytes are hexadecimal, `-` if there are
 # none; numbers are decimal; mtimes are the bits of an f64. A line is one of
 #   list LISTING                     an empty table over this listing
-#   call OP PATH SECOND FLAGS MTIME LIMIT NUMBER INDEX VALUE COUNT CHARGE
+#   call OP PATH SECOND FLAGS MTIME LIMIT NUMBER INDEX VALUE COUNT CHARGE ASKED KEPT
 #   entry KEY KIND MTIME SIZE BODY   after a call: the table's entries, ascending, COUNT of them
 # SECOND is the destination (rename) or the data (write). FLAGS is 1 for parents plus 2 for exist_ok. NUMBER, INDEX and
 # VALUE are the answer: 0 or the refusal's number, the path it names, and the length or value. COUNT and CHARGE are the
 # table's after the call. The clock's times are replaced by 1000, 1001, ... in the order in which they were stored.
+# LIMIT and CHARGE are those of change request #107, which charges a body's length rounded up to a multiple of 16;
+# CHARGE is the sum over the entries. The original does not round: it was asked at the limit ASKED and kept the charge
+# KEPT. LIMIT is as far from the smallest limit by #107 that does not refuse the call for memory as ASKED is from the
+# original's; where LIMIT is 2^64 - 1 or no limit decides, both are the same.
 ";
 
 fn hex(bytes: &[u8]) -> String {
@@ -185,12 +209,13 @@ pub fn text(lists: &[List]) -> String {
         line(format!("# {}", listing::text(&list.listing)));
         line(format!("list {}", hex(&listing::bytes(&list.listing))));
         for step in &list.steps {
-            let Step { call, mtime, answer: Answer { number, path, value }, entries, charge } = step;
+            let Step { call, mtime, answer: Answer { number, path, value }, entries, charge, asked, kept } = step;
             let (name, first, second) = (call.op.name(), hex(call.path.as_bytes()), hex(step.second()));
-            let (flags, limit, count) = (step.flags(), call.limit, entries.len());
-            line(format!(
-                "call {name} {first} {second} {flags} {mtime} {limit} {number} {path} {value} {count} {charge}"
-            ));
+            let flags = step.flags();
+            let numbers =
+                [call.limit, (*number).into(), (*path).into(), *value, entries.len() as u64, *charge, *asked, *kept];
+            let numbers = numbers.map(|number| number.to_string()).join(" ");
+            line(format!("call {name} {first} {second} {flags} {mtime} {numbers}"));
             for (key, entry) in entries {
                 let (key, body) = (hex(key.as_bytes()), hex(&entry.body));
                 line(format!("entry {key} {} {} {} {body}", entry.kind, entry.mtime, entry.size));
@@ -228,7 +253,7 @@ fn script_step(step: &Step) -> Option<Vec<u8>> {
     Some(bytes)
 }
 
-/// What the original answered to a changing call, as a row of a report.
+/// What the original answered to a changing call, as a row of a report, with the charge of #107.
 fn row(step: &Step) -> [u8; 32] {
     let numbers = [step.answer.number.into(), step.answer.path.into(), step.answer.value, step.charge];
     let mut row = [0; 32];
@@ -263,12 +288,13 @@ pub fn binary(lists: &[List]) -> Vec<u8> {
     bytes
 }
 
-/// Both files are what the original gives now.
+/// Both files are what the original gives now, and the proved program that replays the second has the same.
 #[test]
 fn the_sample_is_as_it_was() {
     let lists = lists();
-    assert_eq!(lists.len(), 67);
-    assert_eq!(lists.iter().map(|list| list.steps.len()).sum::<usize>(), 231);
+    assert_eq!(lists.len(), 71);
+    assert_eq!(lists.iter().map(|list| list.steps.len()).sum::<usize>(), 259);
     assert!(text(&lists) == include_str!("../sample.txt"), "sample.txt");
     assert!(binary(&lists) == include_bytes!("../sample.bin"), "sample.bin");
+    assert!(binary(&lists) == include_bytes!("../../../crates/prog_sample/data/sample"), "prog_sample's data");
 }

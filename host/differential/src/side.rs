@@ -171,9 +171,38 @@ impl Entry {
 
 pub type Entries = BTreeMap<String, Entry>;
 
-/// The charge worked out afresh.
+/// What a body is charged. #107 changed it for the port and the model; the original has kept document 01's rule. So
+/// both are here, and each side is held to the sum over the same entries by its own.
+#[derive(Debug, Clone, Copy, PartialEq, Eq)]
+pub enum Rule {
+    /// #107: "A body's length is now charged rounded up to a multiple of 16; 0 stays 0."
+    Rounded,
+    /// The original's: the length.
+    Length,
+}
+
+impl Rule {
+    /// What a body of this length is charged; what would pass 2^64 - 1 counts as that, here and in the sum.
+    pub fn body(self, length: u64) -> u64 {
+        match self {
+            Rule::Rounded => length.div_ceil(16).saturating_mul(16),
+            Rule::Length => length,
+        }
+    }
+
+    /// The charge worked out afresh.
+    pub fn charge(self, entries: &Entries, entry_size: u64) -> u64 {
+        let of = |(key, entry): (&String, &Entry)| {
+            let bare = 256 + key.len() as u64 + entry_size;
+            bare.saturating_add(self.body(entry.body.len() as u64))
+        };
+        entries.iter().map(of).fold(0, u64::saturating_add)
+    }
+}
+
+/// The charge of the port and the model worked out afresh.
 pub fn charge(entries: &Entries, entry_size: u64) -> u64 {
-    entries.iter().map(|(key, entry)| 256 + (key.len() + entry.body.len()) as u64 + entry_size).sum()
+    Rule::Rounded.charge(entries, entry_size)
 }
 
 /// The bytes that the entries take in a table buffer.

@@ -1,15 +1,18 @@
 //! The sides together: one call put to each of them, and what they left compared.
-//! The original answers first, since the port takes the mtime that it stored.
+//! The original answers first, since the port takes the mtime that it stored. A call's limit is the port's and the
+//! model's; the original, which does not round what bodies are charged (#107), is asked at the limit that edge.rs
+//! translates it to.
 
 use std::rc::Rc;
 
 use crate::{
     Links, Manner,
+    edge::{Edge, UNUSED_MTIME, edge_of, threshold_of},
     listing::{Kind, Tree, bytes, text},
     model::Model,
     monty_fs::{Original, entry_size},
     port::Port,
-    side::{Answer, Call, Entries, Op, Side, charge, used},
+    side::{Answer, Call, Entries, Op, Rule, Side, charge, used},
 };
 
 /// Over what a list of calls runs.
@@ -41,10 +44,9 @@ pub struct World {
     /// What the original answered to the last call, if that was a move onto itself, which it makes and the others do
     /// not (#104).
     pub parted: Option<Answer>,
+    /// Whether the original was asked the last call at another limit than the others.
+    pub moved: bool,
 }
-
-/// The mtime passed to a call that stores none.
-const UNUSED_MTIME: u64 = 7;
 
 impl World {
     pub fn new(setup: &Setup) -> Self {
@@ -54,35 +56,45 @@ impl World {
             model: Model::new(&Rc::new(setup.tree.clone()), entry_size(), setup.room),
             port: Port::new(&listing, entry_size(), setup.room),
             parted: None,
+            moved: false,
         }
     }
 
     pub fn copy(&self) -> Self {
-        Self { original: self.original.copy(), model: self.model.copy(), port: self.port.clone(), parted: None }
+        let (original, model, port) = (self.original.copy(), self.model.copy(), self.port.clone());
+        Self { original, model, port, parted: None, moved: false }
     }
 
     /// Puts one call to all sides; what parts is told in words. Where the cause of 12 or 13 holds, the original is
     /// left out, and where it cannot be asked (`asks_original`).
     pub fn call(&mut self, call: &Call) -> Result<Answer, String> {
+        let edge = if call.limit == u64::MAX { None } else { self.edge(call) };
+        self.call_by(call, edge)
+    }
+
+    /// The same with the limits that decide the call, as `edge` finds them.
+    pub fn call_by(&mut self, call: &Call, edge: Option<Edge>) -> Result<Answer, String> {
         if call.op == Op::Show {
             return self.show(&call.path).map(|(answer, _)| answer);
         }
         // The cause of 12 and 13 does not hang on the mtime, so the model is asked apart first.
         let foretold = self.model.copy().call(call, UNUSED_MTIME);
-        self.parted = None;
+        (self.parted, self.moved) = (None, false);
         if call.is_onto_itself() && foretold.number == 0 {
             return self.itself(call, foretold);
         }
-        if !asks_original(call, foretold) {
+        if !asks_original(foretold) {
             return self.others(call, UNUSED_MTIME, foretold);
         }
-        let answer = self.original.call(call, UNUSED_MTIME);
+        let limit = edge.map_or(call.limit, |edge| edge.translated(call.limit));
+        self.moved = limit != call.limit;
+        let answer = self.original.call(&call.at(limit), UNUSED_MTIME);
         let entries = self.original.entries();
         let stored = call.takes_mtime() && answer.number == 0;
         let mtime = entries.get(&call.path).filter(|_| stored).map_or(UNUSED_MTIME, |entry| entry.mtime);
-        let kept = self.original.charge();
-        if kept != charge(&entries, entry_size()) {
-            return Err(format!("the original's charge {kept} is not the sum {}", charge(&entries, entry_size())));
+        let (kept, sum) = (self.original.charge(), Rule::Length.charge(&entries, entry_size()));
+        if kept != sum {
+            return Err(format!("the original's charge {kept} is not the sum {sum}"));
         }
         let answer = self.others(call, mtime, answer)?;
         self.same("model", &self.model, &entries)?;
@@ -92,10 +104,11 @@ impl World {
 
     /// A move of a path onto itself that is accepted: the model and the port leave all as it was. The original moves it
     /// (docs/DIFFERENCES.md, 18): on a copy, it is held to what document 01 had before #104, its answer and its table.
+    /// No limit decides the call here, so none is translated: this one counts by the original's rule.
     fn itself(&mut self, call: &Call, answer: Answer) -> Result<Answer, String> {
-        let mut before = self.model.copy();
+        let mut before = self.model.by(Rule::Length);
         let moved = before.move_to(&call.path, &call.path, call.limit).map_or_else(|refusal| refusal, |()| answer);
-        if asks_original(call, moved) {
+        if asks_original(moved) {
             let mut original = self.original.copy();
             let theirs = original.call(call, UNUSED_MTIME);
             if theirs != moved || original.entries() != before.entries() || original.charge() != before.charge() {
@@ -162,24 +175,25 @@ impl World {
         if others != *entries {
             return Err(format!("the {name}'s entries are {others:?}, the original's {entries:?}"));
         }
-        if side.charge() != self.original.charge() {
-            return Err(format!("the {name}'s charge is {}, the original's {}", side.charge(), self.original.charge()));
+        let (kept, sum) = (side.charge(), charge(entries, entry_size()));
+        if kept != sum {
+            return Err(format!("the {name}'s charge is {kept}, the original's entries are charged {sum}"));
         }
         Ok(())
     }
 
-    /// The smallest limit at which the original does not refuse the call by 11, if some limit is refused.
-    /// Found on copies by the original alone: first at the charge after the call, then by halving above it. Where the
-    /// original cannot be asked without a limit, the model is in its place.
-    pub fn threshold(&self, call: &Call) -> Option<u64> {
+    /// The smallest limits at which the call is not refused by 11, if some limit is refused. Found by the original
+    /// alone; where it cannot be asked without a limit, the model is in its place, by either rule.
+    pub fn edge(&self, call: &Call) -> Option<Edge> {
         let free = self.model.copy().call(&call.at(u64::MAX), UNUSED_MTIME);
         if call.is_onto_itself() && free.number == 0 {
             return None;
         }
-        if call.op.is_partial() && !asks_original(call, free) {
-            return threshold_of(&self.model, call, u64::MAX);
+        if call.op.is_partial() && !asks_original(free) {
+            let by = |rule| threshold_of(&self.model.by(rule), call, u64::MAX);
+            return Some(Edge { ours: by(Rule::Rounded)?, theirs: by(Rule::Length)? });
         }
-        threshold_of(&self.original, call, 1 << 40)
+        edge_of(&self.original, call)
     }
 
     /// Whether this is the least length of the table buffer for a rename: the bytes used before fit, and by the model
@@ -206,42 +220,10 @@ impl World {
 }
 
 /// Whether the original can be asked a call that the model answers so: not where a path is out of form, nor beyond
-/// bounds that it has not (12 and 13), nor with other bytes than those of its host (17), nor where it would hold 2^64
-/// bytes or more, which its sums count as 2^64 - 1.
-pub fn asks_original(call: &Call, foretold: Answer) -> bool {
-    let beyond = foretold.number == 11 && call.limit == u64::MAX;
-    !matches!(foretold.number, 3 | 12 | 13 | 17) && !beyond
-}
-
-/// The smallest limit at which a side does not refuse the call by 11, if some limit is refused; at most the last one.
-fn threshold_of(side: &impl Side, call: &Call, last: u64) -> Option<u64> {
-    let at = |limit: u64| {
-        let mut side = side.copy();
-        let number = side.call(&call.at(limit), UNUSED_MTIME).number;
-        (number, side.charge())
-    };
-    let (free, after) = at(u64::MAX);
-    if call.op.only_asks() || at(0).0 != 11 {
-        return None;
-    }
-    if free == 0 && at(after).0 != 11 && at(after - 1).0 == 11 {
-        return Some(after);
-    }
-    let (mut refused, mut passed) = (0, last);
-    if last == u64::MAX && free == 11 {
-        // No limit lets it pass.
-        return None;
-    }
-    assert!(at(passed).0 != 11, "a limit of {last} is refused");
-    while passed - refused > 1 {
-        let middle = refused + (passed - refused) / 2;
-        if at(middle).0 == 11 {
-            refused = middle;
-        } else {
-            passed = middle;
-        }
-    }
-    Some(passed)
+/// bounds that it has not (12 and 13), nor with other bytes than those of its host (17). Where it would hold 2^64 bytes
+/// or more, which its sums count as 2^64 - 1, the model gives 13 without a limit.
+pub fn asks_original(foretold: Answer) -> bool {
+    !matches!(foretold.number, 3 | 12 | 13 | 17)
 }
 
 /// Runs a list from an empty table; the answers, or where it parts.

@@ -78,5 +78,5 @@ fn the_port_gives_the_sample() {
     assert_eq!((entry_size(), sample.take(4)), (40, &b"TSS1"[..]));
     let calls: u64 = (0..sample.number(4)).map(|_| replay(&mut sample)).sum();
     assert!(sample.0.is_empty(), "bytes behind the last list");
-    assert_eq!(calls, 222);
+    assert_eq!(calls, 250);
 }
