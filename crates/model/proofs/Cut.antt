@@ -1,5 +1,5 @@
--- #107: where it is seen that a sum counts as 2^64 − 1. No table in form has such a sum, so a call that would leave one is refused: at every
--- smaller limit with 11, and at the limit 2^64 − 1 with 13.
+-- #107: where it is seen that a sum counts as 2^64 − 1. No table in form has such a sum, so a writing inside that would leave one is refused: at
+-- every smaller limit with 11, and at the limit 2^64 − 1 with 13. Assumes a listing, a table and a path in form.
 use mathlib.Core.Path.{_≡_, ap, _∙_}
 use mathlib.Core.Bool.{false}
 use mathlib.Core.List.{[], _∷_}
