@@ -46,7 +46,6 @@ told_as refusal.KeyTooLong = record { number = 12; path = 0; len = 0; is = refl 
 told_as refusal.NoRoom = record { number = 13; path = 0; len = 0; is = refl }
 told_as refusal.LentCount = record { number = 17; path = 0; len = 0; is = refl }
 told_as refusal.RangeTooLarge = record { number = 18; path = 0; len = 0; is = refl }
-told_as refusal.PipeOrDevice = record { number = 19; path = 0; len = 0; is = refl }
 
 -- what each verdict leaves
 module _ (listing : Bytes) (q : Request) (s : Store) where

@@ -66,9 +66,6 @@ fn at_path(visible: Visible, exist_ok: bool, len: u64) -> Step
         Visible::Link => {
             return Step::Refused(Refusal::LinkOrRoot(0, len));
         }
-        Visible::Other => {
-            return taken(false, len);
-        }
     }
 }
 

@@ -1,6 +1,6 @@
 -- A query's answer: as 1, 2 and 3 refuse, or yes or no by what is visible.
-use mathlib.Core.Path.{◌≡◌, refl, sym, ap, ap₂, ◌∙◌}
-use mathlib.Core.Bool.{Bool, true, false, cond, not, ◌&&◌}
+use mathlib.Core.Path.{◌≡◌, refl, sym, ap, ◌∙◌}
+use mathlib.Core.Bool.{Bool, true, false, cond}
 use Prim.Native.Nat.{ℕ}
 use native.Mathlib.Omega.{arith}
 use lib.Dec.{leb}
@@ -8,11 +8,11 @@ use lib.ListN.{length}
 use borrow.Author.Tests.{le-leb}
 use Rattle.model.specs.Bytes.{Bytes}
 use Rattle.model.specs.Path.{Path, is_path}
-use Rattle.model.specs.Tree.{View, Kind, shown}
+use Rattle.model.specs.Tree.{Kind, shown, kind}
 use Rattle.model.specs.Listing.{is_listing, tree_in}
 use Rattle.model.specs.Table.{is_table, table_in}
 use Rattle.model.specs.Checks.{Check, pass, refuse, ◌then◌, unless, form}
-use Rattle.model.specs.Calls.{Query, exists, is_file, is_dir, says, says_at}
+use Rattle.model.specs.Calls.{Query, says}
 use Rattle.model.specs.Answer.{Reply, accepted, refused, told_refusal}
 use Rattle.model.specs.Outcome.{answered, ask}
 use Rattle.model.specs.declared.Record.{Record}
@@ -22,17 +22,9 @@ use Rattle.check_judged.specs.declared.Judged.{Judged}
 use Rattle.check_judged.specs.declared.Judged.TheVariants as judge
 use Rattle.check_judged.specs.Judged.{as_check, check_of, refuses}
 use Rattle.view_at.specs.declared.Visible.{Visible}
-use Rattle.view_at.specs.Sight.{visible_in}
-use Rattle.view_at.proofs.Sights.{kind_seen, other_seen}
-use Rattle.call_queries.specs.Seen.{says_seen}
+use Rattle.view_at.specs.Sight.{visible_kind}
 use Rattle.call_answer.specs.Meets.{stored}
 use Rattle.check_lent.proofs.Firsts.{firsts}
-
--- what a query says of what is visible at a path is what the definition says there
-said_at : (f : View) (p : Path) (q : Query) (v : Visible) → v ≡ visible_in f p → says_seen q v ≡ says_at q f p
-said_at f p exists v e = ap (says exists) (kind_seen f p v e)
-said_at f p is_file v e = ap₂ (λ (k : Kind) (b : Bool). says is_file k && not b) (kind_seen f p v e) (other_seen f p v e)
-said_at f p is_dir v e = ap (says is_dir) (kind_seen f p v e)
 
 -- a work buffer that is as long as the table is long enough
 same_firsts : (t w l p : Bool) → w ≡ true → firsts t w l p ≡ (unless 1 t then unless 2 l then cond p pass (refuse 3 0 0))
@@ -63,18 +55,18 @@ module _ (listing table : Bytes) (r : Record) (n : ℕ) (path : Path) (j : Judge
         (le-leb (length table) n (omega arith))
 
     abbrev yes? : Bool
-    yes? = says_at q (shown (table_in table r) (tree_in listing)) path
+    yes? = says q (kind (shown (table_in table r) (tree_in listing)) path)
 
     pub ask_refused : b ≡ true → (refuses (check_of j) ≡ true → as_check a ≡ check_of j) → a ≡ ask q listing path (stored table r)
     ask_refused h f =
         let g = sym i ∙ h in
         told_answer a (check_of j) yes? g (f g) ∙ ap (λ (c : Check). answered c yes?) asked
 
-    pub ask_answered : b ≡ false → (v : Visible) → v ≡ visible_in (shown (table_in table r) (tree_in listing)) path → a ≡ accepted (cond (says_seen q v) 1 0)
+    pub ask_answered : b ≡ false → (k : Kind) → k ≡ kind (shown (table_in table r) (tree_in listing)) path → a ≡ accepted (cond (says q k) 1 0)
         → a ≡ ask q listing path (stored table r)
-    ask_answered h v f g =
+    ask_answered h k f g =
         g
-        ∙ ap (λ (x : Bool). accepted (cond x 1 0)) (said_at (shown (table_in table r) (tree_in listing)) path q v f)
+        ∙ ap (λ (x : Kind). accepted (cond (says q x) 1 0)) f
         ∙ pass_answer (check_of j) yes? (sym i ∙ h)
         ∙ ap (λ (c : Check). answered c yes?) asked
 
@@ -86,5 +78,5 @@ pub refused_told : (j : Judged) (r : Refusal) → j ≡ judge.Refused r → as_c
 refused_told j r e = sym (ap check_of e)
 
 -- what a query says of v, which is the case u
-pub case_said : (q : Query) (v u : Visible) → v ≡ u → accepted (cond (says_seen q u) 1 0) ≡ accepted (cond (says_seen q v) 1 0)
-case_said q v u e = sym (ap (λ (x : Visible). accepted (cond (says_seen q x) 1 0)) e)
+pub case_said : (q : Query) (v u : Visible) → v ≡ u → accepted (cond (says q (visible_kind u)) 1 0) ≡ accepted (cond (says q (visible_kind v)) 1 0)
+case_said q v u e = sym (ap (λ (x : Visible). accepted (cond (says q (visible_kind x)) 1 0)) e)

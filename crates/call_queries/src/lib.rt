@@ -5,9 +5,9 @@ ghost use Rattle.std.specs.Prelude.{◌≡◌, true, cond};
 ghost use Rattle.model.specs.Calls as calls;
 ghost use Rattle.model.specs.Answer.{accepted, told_finding};
 ghost use Rattle.model.specs.Outcome.{ask};
+ghost use Rattle.view_at.specs.Sight.{visible_kind};
 ghost use Rattle.check_judged.specs.Judged.{as_check, check_of, refuses};
 ghost use Rattle.call_answer.specs.Meets.{stored};
-ghost use Rattle.call_queries.specs.Seen.{says_seen};
 
 use check_judged::Judged;
 use model::{Finding, Record};
@@ -27,10 +27,9 @@ fn unanswered(judged: Judged) -> Finding
     }
 }
 
-// What exists, is_file and is_dir say of what is visible: a link is not there, and a pipe or device is there and is
-// neither.
+// "Anything but a link": what exists, is_file and is_dir say of what is visible.
 fn is_there(visible: Visible) -> Finding
-    ensures { told_finding result ≡ accepted (cond (says_seen calls.exists visible) 1 0) }
+    ensures { told_finding result ≡ accepted (cond (calls.says calls.exists (visible_kind visible)) 1 0) }
 {
     match visible {
         Visible::Nothing => {
@@ -44,15 +43,12 @@ fn is_there(visible: Visible) -> Finding
         }
         Visible::Link => {
             return Finding::No;
-        }
-        Visible::Other => {
-            return Finding::Yes;
         }
     }
 }
 
 fn is_a_file(visible: Visible) -> Finding
-    ensures { told_finding result ≡ accepted (cond (says_seen calls.is_file visible) 1 0) }
+    ensures { told_finding result ≡ accepted (cond (calls.says calls.is_file (visible_kind visible)) 1 0) }
 {
     match visible {
         Visible::Nothing => {
@@ -65,16 +61,13 @@ fn is_a_file(visible: Visible) -> Finding
             return Finding::Yes;
         }
         Visible::Link => {
-            return Finding::No;
-        }
-        Visible::Other => {
             return Finding::No;
         }
     }
 }
 
 fn is_a_dir(visible: Visible) -> Finding
-    ensures { told_finding result ≡ accepted (cond (says_seen calls.is_dir visible) 1 0) }
+    ensures { told_finding result ≡ accepted (cond (calls.says calls.is_dir (visible_kind visible)) 1 0) }
 {
     match visible {
         Visible::Nothing => {
@@ -87,9 +80,6 @@ fn is_a_dir(visible: Visible) -> Finding
             return Finding::No;
         }
         Visible::Link => {
-            return Finding::No;
-        }
-        Visible::Other => {
             return Finding::No;
         }
     }

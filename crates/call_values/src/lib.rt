@@ -63,7 +63,6 @@ pub fn told_refusal(refusal: Refusal) -> Row
         Refusal::NoRoom => refused(13, 0, 0),
         Refusal::LentCount => refused(17, 0, 0),
         Refusal::RangeTooLarge => refused(18, 0, 0),
-        Refusal::PipeOrDevice => refused(19, 0, 0),
     }
 }
 

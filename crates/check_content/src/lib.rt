@@ -9,11 +9,10 @@ ghost use Rattle.model.specs.Map.{lookup};
 ghost use Rattle.model.specs.Tree.{Entry, Node, over};
 ghost use Rattle.model.specs.Listing.{tree_in, is_listing};
 ghost use Rattle.model.specs.Table.{is_table};
-ghost use Rattle.model.specs.Content.{is_own, append_checks, inside_checks};
+ghost use Rattle.model.specs.Content.{is_own, needed, append_checks, inside_checks};
 ghost use Rattle.model.specs.Outcome.{Given, shown_in};
 ghost use Rattle.table_entries.specs.Said.{said, said_of};
 ghost use Rattle.check_judged.specs.Judged.{check_of};
-ghost use Rattle.check_content.specs.Asks.{needs_of};
 
 use check_judged::Judged;
 use check_one_path::Change;
@@ -21,47 +20,38 @@ use listing_records::Found;
 use model::{Record, Refusal};
 use table_entries::OverlayEntry;
 
-// How many bytes the caller is to lend for an append; nothing can be added to a pipe or device.
-#[derive(Drop)]
-pub enum Needed {
-    Bytes(u64),
-    PipeOrDevice,
-}
-
-// The same of what the listing has at a path: a file's size.
-fn needed_listed(listing: &[u8], path: &[u8]) -> Needed
+// How many bytes the caller is to lend of what the listing has at a path: a file's size.
+fn needed_listed(listing: &[u8], path: &[u8]) -> u64
     requires { is_listing listing.now ≡ true }
-    ensures { result ≡ needs_of (lookup (tree_in listing.now) path.now) }
+    ensures { result ≡ needed (lookup (tree_in listing.now) path.now) }
 {
     let found = listing_dir::find(listing, path);
     match found {
         Found::Directory(_) => {
-            return Needed::Bytes(0);
+            return 0;
         }
         Found::File(_, bytes) => {
-            return Needed::Bytes(bytes);
+            return bytes;
         }
         Found::Link => {
-            return Needed::Bytes(0);
-        }
-        Found::Other(_) => {
-            return Needed::PipeOrDevice;
+            return 0;
         }
         Found::Absent => {
-            return Needed::Bytes(0);
+            return 0;
         }
     }
 }
 
-// The same of what is visible at a path: a reference's size, or without an entry a listed file's.
-fn needed_at(listing: &[u8], table: &[u8], rec: Record, path: &[u8]) -> Needed
+// How many bytes the caller is to lend of what is visible at a path: a reference's size, or without an entry a listed
+// file's.
+fn needed_bytes(listing: &[u8], table: &[u8], rec: Record, path: &[u8]) -> u64
     requires { Given listing.now table.now rec }
-    ensures { result ≡ needs_of (shown_in listing.now table.now rec path.now) }
+    ensures { result ≡ needed (shown_in listing.now table.now rec path.now) }
 {
     let entry = table_entries::get(table, rec, path);
     match entry {
         OverlayEntry::File { mtime, at, len } => {
-            return Needed::Bytes(0);
+            return 0;
         }
         OverlayEntry::RealFileRef {
             mtime,
@@ -69,13 +59,13 @@ fn needed_at(listing: &[u8], table: &[u8], rec: Record, path: &[u8]) -> Needed
             at,
             len,
         } => {
-            return Needed::Bytes(size);
+            return size;
         }
         OverlayEntry::Directory { mtime } => {
-            return Needed::Bytes(0);
+            return 0;
         }
         OverlayEntry::Deleted => {
-            return Needed::Bytes(0);
+            return 0;
         }
         OverlayEntry::Absent => {
             return needed_listed(listing, path);
@@ -83,7 +73,7 @@ fn needed_at(listing: &[u8], table: &[u8], rec: Record, path: &[u8]) -> Needed
     }
 }
 
-// append: 4 to 8 as a write has them, then 5 at a pipe or device, then 17, where `lent` bytes are lent.
+// append: 4 to 8 as a write has them, then 17, where `lent` bytes are lent.
 pub fn append_checks(listing: &[u8], table: &[u8], rec: Record, path: &[u8], lent: u64) -> Judged
     requires given { Given listing.now table.now rec }
     requires path_value { is_path path.now ≡ true }
@@ -94,18 +84,11 @@ pub fn append_checks(listing: &[u8], table: &[u8], rec: Record, path: &[u8], len
     if check_judged::is_refused(write) {
         return write;
     }
-    let needed = needed_at(listing, table, rec, path);
-    match needed {
-        Needed::Bytes(count) => {
-            if lent == count {
-                return Judged::Pass;
-            }
-            return Judged::Refused(Refusal::LentCount);
-        }
-        Needed::PipeOrDevice => {
-            return Judged::Refused(Refusal::NotFound(0, path.len() as u64));
-        }
+    let needed = needed_bytes(listing, table, rec, path);
+    if lent == needed {
+        return Judged::Pass;
     }
+    Judged::Refused(Refusal::LentCount)
 }
 
 // Whether what is visible is an own file, where the table has this entry, or none: a listing's node is none.

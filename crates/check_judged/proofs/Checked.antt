@@ -24,7 +24,6 @@ refusal_refuses refusal.KeyTooLong = refl
 refusal_refuses refusal.NoRoom = refl
 refusal_refuses refusal.LentCount = refl
 refusal_refuses refusal.RangeTooLarge = refl
-refusal_refuses refusal.PipeOrDevice = refl
 
 -- where one check refuses, it decides; where it passes, the rest does
 pub refused_stops : (c d : Check) → refuses c ≡ true → (c then d) ≡ c

@@ -41,9 +41,6 @@ fn reject_directory_target(visible: Visible, len: u64) -> Judged
         Visible::Link => {
             return Judged::Refused(Refusal::LinkOrRoot(0, len));
         }
-        Visible::Other => {
-            return Judged::Pass;
-        }
     }
 }
 
@@ -64,9 +61,6 @@ fn unlink_target(visible: Visible, len: u64) -> Judged
         Visible::Link => {
             return Judged::Refused(Refusal::LinkOrRoot(0, len));
         }
-        Visible::Other => {
-            return Judged::Pass;
-        }
     }
 }
 
@@ -86,9 +80,6 @@ pub fn check_directory(visible: Visible, len: u64) -> Judged
         }
         Visible::Link => {
             return Judged::Refused(Refusal::LinkOrRoot(0, len));
-        }
-        Visible::Other => {
-            return Judged::Refused(Refusal::NotADirectory(0, len));
         }
     }
 }

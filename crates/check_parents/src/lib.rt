@@ -40,9 +40,6 @@ fn check_parent(visible: Visible, which: u64, len: u64) -> Judged
         Visible::Link => {
             return Judged::Refused(model::Refusal::LinkOrRoot(which, len));
         }
-        Visible::Other => {
-            return Judged::Refused(model::Refusal::NotFound(which, len));
-        }
     }
 }
 
@@ -89,9 +86,6 @@ fn check_ancestor(visible: Visible, end: u64, len: u64) -> Judged
         }
         Visible::Link => {
             return Judged::Refused(model::Refusal::LinkOrRoot(0, len));
-        }
-        Visible::Other => {
-            return Judged::Refused(model::Refusal::NotADirectory(0, end));
         }
     }
 }

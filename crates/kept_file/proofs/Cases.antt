@@ -14,9 +14,8 @@ use Rattle.model.specs.Checks.{◌then◌, unless}
 use Rattle.model.specs.Answer.{Reply, accepted, refused}
 use Rattle.model.specs.Output.{Written}
 use Rattle.model.specs.declared.Record.{Record}
-use Rattle.model.proofs.Case.{path, typed, file_at, listing_bytes}
+use Rattle.model.proofs.Case.{path, file_at, listing_bytes}
 use Rattle.model.proofs.Cases.{L, there}
-use Rattle.model.proofs.PipeCases.{piped}
 use Rattle.kept_file.specs.Kept.{head, kept, entries_in, marked, undamaged, written, ReadBack, read_by, read_back}
 
 -- L has 91 bytes, the entries 107; the shortest listing has 9
@@ -28,10 +27,6 @@ entries = encode there
 
 abbrev bare : Bytes
 bare = listing_bytes []
-
--- a listing of version 2, of 133 bytes
-abbrev pipes : Bytes
-pipes = listing_bytes piped
 
 -- the file of a listing and entries, and one with lengths, listing and entries given each by itself
 abbrev file : Bytes → Bytes → Bytes
@@ -84,8 +79,6 @@ writings =
     -- zeros behind the table's entries are not written
     ∷ keeping listing (padded 120 entries) (record_of 40 there) 211 (accepted 211) (file listing entries)
     ∷ keeping bare [] (record_of 40 []) 22 (accepted 22) (file bare [])
-    -- #108: a listing of version 2, byte for byte
-    ∷ keeping pipes gone (record_of 40 ((path "k", deleted) ∷ [])) 171 (accepted 171) (file pipes gone)
     -- 1: another charge, the sum from before #107 among them; before 2, 16 and 13
     ∷ keeping listing entries (record { used = 107; count = 4; charge = 1207; entry_size = 40 }) 211 (refused 1 0 0) (replicate 211 7)
     ∷ keeping listing entries (record { used = 107; count = 4; charge = 1195; entry_size = 40 }) 211 (refused 1 0 0) (replicate 211 7)
@@ -141,9 +134,6 @@ readings =
     ∷ reads (file bare []) 0 9 (record_of 40 []) []
     ∷ reads (file bare own_k) 27 9 (record { used = 27; count = 1; charge = 313; entry_size = 40 }) own_k
     ∷ reads (file bare long_k) 42 9 (record { used = 42; count = 1; charge = 329; entry_size = 40 }) long_k
-    -- #108: a listing of version 2, with pipes and without
-    ∷ reads (file pipes gone) 25 133 (record { used = 25; count = 1; charge = 297; entry_size = 40 }) gone
-    ∷ reads (file (path "RDL" ++ bytes 2 2 ++ bytes 4 0) []) 4 9 (record_of 40 []) (replicate 4 0)
     -- an entry that the listing lacks, or that no call makes, is no damage
     ∷ reads (file bare (encode ((path "q/r", deleted) ∷ []))) 27 9 (record { used = 27; count = 1; charge = 299; entry_size = 40 }) (encode ((path "q/r", deleted) ∷ []))
     -- 14: nothing, a byte too short, another mark, another version; before 15 and 13
@@ -161,10 +151,9 @@ readings =
     ∷ turns_down (formed 91 listing 106 entries) 107 15
     ∷ turns_down (formed 92 listing 107 entries) 107 15
     ∷ turns_down (formed 0xFFFF_FFFF listing 107 entries) 107 15
-    -- 15: a listing that is none (another version, its count, a kind that its version has not, nothing), not 2
+    -- 15: a listing that is none (another version, its count, nothing), not 2
     ∷ turns_down (file [] []) 4 15
-    ∷ turns_down (file (path "RDL" ++ bytes 2 3 ++ bytes 4 0) []) 4 15
-    ∷ turns_down (file (path "RDL" ++ bytes 2 1 ++ bytes 4 1 ++ typed 4 0 0 (path "p")) []) 4 15
+    ∷ turns_down (file (path "RDL" ++ bytes 2 2 ++ bytes 4 0) []) 4 15
     ∷ turns_down (file (path "RDL" ++ bytes 2 1 ++ bytes 4 1) []) 0 15
     -- 15: entries that are none: keys out of order, twice, empty; a reference to nothing; a kind that there is not
     ∷ turns_down (file bare (own_k ++ gone)) 60 15

@@ -15,7 +15,6 @@ use Rattle.model.specs.Checks.{Check, pass, refuse}
 use Rattle.model.specs.Calls.{Call, write, append, write_inside, mkdir, unlink, rmdir, rename, changed}
 use Rattle.model.proofs.Case.{path, dir_at, file_at, link_at}
 use Rattle.model.proofs.Cases.{two, L, there}
-use Rattle.model.proofs.PipeCases.{piped}
 use Rattle.least_need.specs.Need.{need, other_rules}
 
 -- `n` with one byte
@@ -71,9 +70,6 @@ needs =
     ∷ ((L, there, rename (path "b") (path "a")), 1473)
     -- a walk that stops needs nothing, or the charge after is asked behind it
     ∷ ((linked, [], rename (path "a") (path "c")), 521)
-    -- #108: the same of a pipe; a pipe that is moved needs nothing
-    ∷ ((piped, [], rename (path "a") (path "c")), 521)
-    ∷ ((piped, [], rename (path "p") (path "q")), 0)
     -- plan or walk rounded up, or beside a charge that is not: 315 charged, 265 planned, 521 walked
     ∷ ((linked, (path "a/x", own 7 (1 ∷ [])) ∷ [], rename (path "a") (path "c")), 1101)
     ∷ []
@@ -108,8 +104,6 @@ renames =
     ∷ ((L, there, path "b", path "b"), some (0, 107))
     ∷ ((L, [], path "l", path "l"), none)
     ∷ ((L, [], path "q", path "q"), none)
-    ∷ ((piped, [], path "p", path "p"), some (0, 0))
-    ∷ ((piped, [], path "a", path "a"), some (0, 0))
     -- the length after without the length before, which is 52
     ∷ ((L, own_b 27, path "z", path "b"), some (610, 52))
     -- never below the present charge, which is 1,305
@@ -129,7 +123,7 @@ renames =
     )
     -- the walk's start counted alone: 496 + 401 are 897
     ∷ (((long 200, dir 1) ∷ [], (long 200, directory 7) ∷ [], long 200, path "b"), some (793, 249))
-    -- a number where there is none: 4 to 10, a link or a pipe in the walk, a pipe moved, a moved key of 513 bytes
+    -- a number where there is none: 4 to 10, a link in the walk, a moved key of 513 bytes
     ∷ ((L, [], [], path "b"), none)
     ∷ ((L, [], path "a", []), none)
     ∷ ((L, [], path "z", path "a"), none)
@@ -138,8 +132,6 @@ renames =
     ∷ ((L, [], path "q", path "n"), none)
     ∷ ((L, there, path "a", path "b"), none)
     ∷ ((linked, [], path "a", path "c"), none)
-    ∷ ((piped, [], path "a", path "c"), none)
-    ∷ ((piped, [], path "p", path "q"), none)
     ∷ ((dir_at "d" 1 ∷ dir_at "d/y" 1 ∷ (long 255, dir 1) ∷ [], [], path "d", long 255 ++ (47 ∷ long 255)), none)
     -- the same with 512: neither where there is a number
     ∷ ((dir_at "d" 1 ∷ dir_at "d/y" 1 ∷ (long 255, dir 1) ∷ [], [], path "d", long 255 ++ (47 ∷ long 254)), some (2210, 1122))

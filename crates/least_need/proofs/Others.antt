@@ -2,7 +2,7 @@
 -- Assumes nothing.
 use mathlib.Core.Path.{◌≡◌, refl}
 use mathlib.Core.List.{List, [], ◌∷◌}
-use mathlib.Core.Bool.{Bool, true, false, cond, not, ◌||◌}
+use mathlib.Core.Bool.{Bool, true, false, cond, ◌||◌}
 use mathlib.Core.Option.{Option, none, some}
 use Prim.Native.Nat.{ℕ, ◌+◌}
 use lib.Dec.{eqb, ltb}
@@ -10,10 +10,10 @@ use lib.ListN.{length}
 use Rattle.model.specs.Bytes.{every}
 use Rattle.model.specs.Path.{Path, short, below, ancestors}
 use Rattle.model.specs.Map.{lookup, keys, rekey}
-use Rattle.model.specs.Tree.{Entry, own, reference, directory, deleted, Table, Tree, View, shown, Kind, nothing, a_directory, a_file, a_link, kind, is_directory, is_other}
+use Rattle.model.specs.Tree.{Entry, own, reference, directory, deleted, Table, Tree, View, shown, Kind, nothing, a_directory, a_file, a_link, kind, is_directory}
 use Rattle.model.specs.Checks.{Check, pass, refuse, ◌then◌, unless, parent_at, parents_in, parent_checks, write_at, write_checks, ancestor_at, ancestors_in, mkdir_parents, mkdir_at}
 use Rattle.model.specs.Checks.{unlink_at, unlink_entry, not_root, visible_child, no_visible_child, directory_at, rmdir_entry, unlimited}
-use Rattle.model.specs.Rename.{Walk, sum, over_budget, stopped, at_link, at_other, walk_from, walked, not_link, not_deleted, no_clash, present, carried}
+use Rattle.model.specs.Rename.{Walk, sum, over_budget, stopped, at_link, walk_from, walked, not_link, not_deleted, no_clash, present, carried}
 use Rattle.model.specs.Rename.{directory_memory, rename_paths, rename_types, onto_itself}
 use Rattle.model.specs.Content.{needed, own_at}
 use Rattle.model.specs.Calls.{Call, write, append, write_inside, mkdir, unlink, rmdir, rename, rules}
@@ -149,7 +149,6 @@ other_walked : (n : ℕ) (w : Walk) → (w ≡ over_budget → ⊥) → Other (w
 other_walked n (sum s) h = by refl
 other_walked n over_budget h = absurd (h refl)
 other_walked n (stopped at_link s) h = by refl
-other_walked n (stopped at_other s) h = by refl
 
 module _ (t : Table) (l : Tree) where
   other_empty : (w : ℕ) (p : Path) → Other (no_visible_child w t l p)
@@ -175,7 +174,6 @@ module _ (t : Table) (l : Tree) where
         next other_cond k (other_cond j (other_empty 1 b) (by refl)) (by refl)
         next other_cond (below a b) (by refl) (by refl)
         next other_present (length a) (kind (shown t l) a)
-        next other_unless 19 (not (is_other (shown t l) a)) refl
 
     other_moves : Other (directory_memory unlimited t l a b)
     other_moves =
@@ -184,10 +182,7 @@ module _ (t : Table) (l : Tree) where
 
   other_plain : (c : Call) → Other (rules unlimited t l c)
   other_plain (write p m c) = other_write (shown t l) p next by refl
-  other_plain (append p m d b) =
-      (other_write (shown t l) p
-      next other_cond (is_other (shown t l) p) (by refl) (by refl)
-      next other_unless 17 (eqb (length b) (needed (shown t l p))) refl) next by refl
+  other_plain (append p m d b) = (other_write (shown t l) p next other_unless 17 (eqb (length b) (needed (shown t l p))) refl) next by refl
   other_plain (write_inside p m o d) =
       (other_cond (own_at (shown t l) p) (by refl) (by refl)
       next other_unless 18 (ltb (o + length d) 0x1_0000_0000_0000_0000) refl) next by refl

@@ -74,6 +74,6 @@ key_checks t l (rmdir p) = pass
 key_checks t l (rename a b) =
     cond (onto_itself (shown t l) a b) pass (keys_fit (limited 0 0) (rekey a b (carried t l a)))
 
--- 4 to 10, 12, and 17 to 19: what the rules give where the limit does not matter
+-- 4 to 10, 12, 17 and 18: what the rules give where the limit does not matter
 abbrev pub other_rules : Table → Tree → Call → Check
 other_rules t l c = rules unlimited t l c then key_checks t l c

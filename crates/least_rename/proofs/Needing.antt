@@ -15,7 +15,7 @@ use Rattle.model.specs.Tree.{Table, Tree, shown, Kind, a_directory, a_file, kind
 use Rattle.model.specs.Listing.{is_listing, tree_in}
 use Rattle.model.specs.Table.{charge, is_table, table_in}
 use Rattle.model.specs.Checks.{Check, pass, unlimited}
-use Rattle.model.specs.Rename.{Stop, at_link, at_other, Walk, stopped, walk_from, walked, planned, if_directory, plan_and_walk, directory_memory}
+use Rattle.model.specs.Rename.{Stop, at_link, Walk, stopped, walk_from, walked, planned, if_directory, plan_and_walk, directory_memory}
 use Rattle.model.specs.declared.Record.{Record}
 use Rattle.model.proofs.Orders.{bot, yea, nay, test, eqb_eq}
 use Rattle.model.proofs.Codec.{decoded, bounds, charge_is}
@@ -67,7 +67,6 @@ module _ (t : Table) (l : Tree) (a : Path) (f : Listing l) (k : Kind) where
     where
       no_pass : (x : Stop) (n : ℕ) → walked (length a) (stopped x n) ≡ pass → ⊥
       no_pass at_link n g = bot (cc)
-      no_pass at_other n g = bot (cc)
 
   pub walk_sums : (d : Bool) → d ≡ is_directory k → d ≡ true → (b : Bool) → b ≡ any_stops (reached t l a) → b ≡ false
       → (n : ℕ) → n ≡ costs (reached t l a) → (m : ℕ) → m ≡ cond (eqb n 0) 0 (start + n) → WalkNeeds (Limit m)

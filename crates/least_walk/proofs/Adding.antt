@@ -9,7 +9,7 @@ use lib.ListN.{length}
 use Rattle.model.specs.Bytes.{Bytes}
 use Rattle.model.specs.Path.{Path}
 use Rattle.model.specs.Map.{only}
-use Rattle.model.specs.Tree.{Node, dir, file, link, other, Table, Tree}
+use Rattle.model.specs.Tree.{Node, dir, file, link, Table, Tree}
 use Rattle.model.specs.Listing.{record_at, record_end, node_of}
 use Rattle.model.specs.Rename.{stops, uncovered}
 use Rattle.model.proofs.Orders.{bot}
@@ -28,31 +28,21 @@ module _ (n : ℕ) (p : Path) (e : n ≡ length p) where
   at_dir (dir k) m h = (omega arith, refl)
   at_dir (file k z c) m h = absurd (bot (cc))
   at_dir link m h = absurd (bot (cc))
-  at_dir (other k) m h = absurd (bot (cc))
 
   pub at_file : (x : Node) (m z : ℕ) → found.File m z ≡ found_of (some x) → (2 * n + 512 ≡ cost p x) × (false ≡ stops x)
   at_file (dir k) m z h = absurd (bot (cc))
   at_file (file k y c) m z h = (omega arith, refl)
   at_file link m z h = absurd (bot (cc))
-  at_file (other k) m z h = absurd (bot (cc))
 
 pub at_link_lem : (p : Path) (x : Node) → found.Link ≡ found_of (some x) → (0 ≡ cost p x) × (true ≡ stops x)
 at_link_lem p (dir k) h = absurd (bot (cc))
 at_link_lem p (file k z c) h = absurd (bot (cc))
 at_link_lem p link h = (refl, refl)
-at_link_lem p (other k) h = absurd (bot (cc))
-
-pub at_other_lem : (p : Path) (x : Node) (m : ℕ) → found.Other m ≡ found_of (some x) → (0 ≡ cost p x) × (true ≡ stops x)
-at_other_lem p (dir k) m h = absurd (bot (cc))
-at_other_lem p (file k z c) m h = absurd (bot (cc))
-at_other_lem p link m h = absurd (bot (cc))
-at_other_lem p (other k) m h = (refl, refl)
 
 pub never_absent : (x : Node) → found.Absent ≡ found_of (some x) → ⊥
 never_absent (dir k) h = bot (cc)
 never_absent (file k z c) h = bot (cc)
 never_absent link h = bot (cc)
-never_absent (other k) h = bot (cc)
 
 -- the sum n and the answer b, with what is to come at `here`, are those of what was to come at `from`
 pub record Sums (p s : Bytes) (a : Path) (from : Cursor) (f : List Bool) (n : ℕ) (b : Bool) (here : Cursor)

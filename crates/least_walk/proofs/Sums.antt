@@ -13,13 +13,13 @@ use borrow.Author.Tests.{le-leb}
 use Rattle.model.specs.Bytes.{every}
 use Rattle.model.specs.Path.{Path, below, child, ancestors}
 use Rattle.model.specs.Map.{is_none, lookup, only}
-use Rattle.model.specs.Tree.{Node, dir, file, link, other, Table, Tree, kind_of, is_directory}
+use Rattle.model.specs.Tree.{Node, dir, file, link, Table, Tree, kind_of, is_directory}
 use Rattle.model.specs.Rename.{Stop, stops, Walk, sum, over_budget, stopped, visit, visits, children, last_first, enter}
 use Rattle.model.specs.Rename.{walk, depth, walk_from, uncovered}
 use Rattle.model.proofs.Orders.{bot, yea, nay, test, and_true, split, Split, mem, mem_ancestors, same_refl}
 use Rattle.model.proofs.Orders.{below_trans, below_rest, inside_both}
 use Rattle.model.proofs.Maps.{Ascending, lookup_low, lookup_only, ascending_only}
-use Rattle.model.proofs.Invariant.{Closed, kind_at, node_at, no_node, a_dir, a_file_lem, a_link_lem, an_other}
+use Rattle.model.proofs.Invariant.{Closed, kind_at, node_at, no_node, a_dir, a_file_lem, a_link_lem}
 use Rattle.model.proofs.Formed.{every_mem}
 use Rattle.model.proofs.Rules.{child_below, child_root, way}
 use Rattle.model.proofs.Walks.{level, child_level, below_level, depth_le, free_is, walk_stops, walk_budget}
@@ -144,7 +144,6 @@ visit_adds : (r : ℕ) (p : Path) (n : Node) → stops n ≡ false → visit non
 visit_adds r p (dir m) h = ap sum (omega arith)
 visit_adds r p (file m z c) h = ap sum (omega arith)
 visit_adds r p link h = absurd (bot (cc))
-visit_adds r p (other m) h = absurd (bot (cc))
 
 visits_add : (xs : Tree) → Ascending xs → ((q : Path) (n : Node) → lookup xs q ≡ some n → stops n ≡ false) → (r : ℕ)
     → visits none (sum r) xs ≡ sum (r + costs xs)
@@ -332,7 +331,6 @@ module _ (t : Table) (l : Tree) where
           | no_node v ↦ absurd (bot (cc (kind_at (lookup l) p none v o)))
           | a_file_lem m a r v ↦ absurd (bot (cc (kind_at (lookup l) p (some (file m a r)) v o)))
           | a_link_lem v ↦ absurd (bot (cc (kind_at (lookup l) p (some link) v o)))
-          | an_other m v ↦ absurd (bot (cc (kind_at (lookup l) p (some (other m)) v o)))
           | a_dir m v ↦ (m, v)
         ]
 

@@ -3,7 +3,7 @@
 use Rattle.std.specs.Prelude.{Bool, false, ◌||◌, [], ◌∷◌, ℕ, ◌+◌, ◌*◌, length}
 use Rattle.model.specs.Path.{Path, below}
 use Rattle.model.specs.Map.{only}
-use Rattle.model.specs.Tree.{Node, dir, file, link, other, Table, Tree}
+use Rattle.model.specs.Tree.{Node, dir, file, link, Table, Tree}
 use Rattle.model.specs.Rename.{stops, uncovered}
 
 -- what the walk adds for a node at its path; nothing for one that stops it
@@ -11,7 +11,6 @@ abbrev pub cost : Path → Node → ℕ
 cost p (dir m) = 3 * length p + 512
 cost p (file m z c) = 2 * length p + 512
 cost p link = 0
-cost p (other m) = 0
 
 -- the sum over a tree
 abbrev pub costs : Tree → ℕ

@@ -45,12 +45,6 @@ fn node_total(found: listing_records::Found, len: u64) -> Total
                 stops: true,
             };
         }
-        listing_records::Found::Other(_) => {
-            return Total {
-                sum: 0,
-                stops: true,
-            };
-        }
         listing_records::Found::Absent => {
             return Total {
                 sum: 0,

@@ -44,10 +44,7 @@ its_own p r l h = named r.path refl
         nothing (b ∷ p) h = h
     named (c ∷ q) e = elim (test (eqb r.type 1)) [
       | yea t ↦ cc (same_refl (c ∷ q))
-      | nay t ↦ elim (test (eqb r.type 2)) [
-        | yea u ↦ cc (same_refl (c ∷ q))
-        | nay u ↦ elim (test (eqb r.type 3)) [ yea v ↦ cc (same_refl (c ∷ q)) | nay v ↦ cc (same_refl (c ∷ q)) ]
-      ]
+      | nay t ↦ elim (test (eqb r.type 2)) [ yea u ↦ cc (same_refl (c ∷ q)) | nay u ↦ cc (same_refl (c ∷ q)) ]
     ]
 
 module _ (f e : List Bool) (p : Path) (seen : Tree) (r : ListingRecord) (w : Flagged f p seen) (o : Lt p r.path)

@@ -5,14 +5,14 @@ use mathlib.Core.List.{[], ◌∷◌}
 use Prim.Native.Nat.{ℕ, ◌+◌, ◌-◌, ◌<◌, ◌≤◌}
 use native.Mathlib.Omega.{arith}
 use native.Mathlib.Nat.{add-sub_cancel_left}
-use lib.Dec.{eqb, leb, ltb}
+use lib.Dec.{eqb, ltb}
 use lib.ListN.{length, get_or, take, drop}
-use borrow.Author.Tests.{le-leb, lt-leb, eq-eqb, ne_eqb}
+use borrow.Author.Tests.{le-leb, lt-leb}
 use Rattle.model.specs.Bytes.{Bytes, same, number_at}
 use Rattle.model.specs.Path.{is_path}
-use Rattle.model.specs.Listing.{record_at, version, has_kind, headed}
+use Rattle.model.specs.Listing.{record_at, ruled, headed}
 use Rattle.model.proofs.Orders.{same_cons}
-use Rattle.listing_check.specs.Turn.{fits, ruled_in, formed_alone}
+use Rattle.listing_check.specs.Turn.{fits, formed_alone}
 
 pub marks : (s : Bytes) → 3 ≤ length s
     → (eqb (get_or s 0 0) 82 && (eqb (get_or s 1 0) 68 && eqb (get_or s 2 0) 76)) ≡ same (take 3 s) (82 ∷ 68 ∷ 76 ∷ [])
@@ -34,33 +34,24 @@ module _ (s : Bytes) where
     too_long k = rw (le-leb 9 (length s) h, lt-leb (length s) 16777216 k)
 
     module _ (k : length s ≤ 16777216) where
-      pub versioned : (n : ℕ) → n ≡ number_at s 3 2 → same (take 3 s) (82 ∷ 68 ∷ 76 ∷ []) ≡ true → (eqb n 1 || eqb n 2) ≡ headed s
+      pub versioned : (n : ℕ) → n ≡ number_at s 3 2 → same (take 3 s) (82 ∷ 68 ∷ 76 ∷ []) ≡ true → eqb n 1 ≡ headed s
       versioned n e m = rw (le-leb 9 (length s) h, le-leb (length s) 16777216 k, m, e)
 
       pub unmarked : same (take 3 s) (82 ∷ 68 ∷ 76 ∷ []) ≡ false → false ≡ headed s
       unmarked m = rw (le-leb 9 (length s) h, le-leb (length s) 16777216 k, m)
 
--- the kinds of version 1, and of any other
-module _ (v k : ℕ) where
-  pub first_kinds : v ≡ 1 → leb k 3 ≡ has_kind v k
-  first_kinds h = rw (eq-eqb v 1 h)
-
-  pub later_kinds : (v ≡ 1 → ⊥) → leb k 4 ≡ has_kind v k
-  later_kinds h = rw (ne_eqb v 1 h)
-
 module _ (s : Bytes) (at : ℕ) where
-  pub by_numbers : (m z : ℕ) (k : Bool) → m ≡ number_at s (at + 3) 8 → z ≡ number_at s (at + 11) 8 → k ≡ has_kind (version s) (get_or s (at + 2) 0)
-      → (((eqb (get_or s (at + 2) 0) 1 && eqb z 0)
+  pub by_numbers : (m z : ℕ) → m ≡ number_at s (at + 3) 8 → z ≡ number_at s (at + 11) 8
+      → ((eqb (get_or s (at + 2) 0) 1 && eqb z 0)
       || (eqb (get_or s (at + 2) 0) 2 && ltb z 0x8000_0000_0000_0000)
-      || (eqb (get_or s (at + 2) 0) 3 && eqb z 0 && eqb m 0)
-      || (eqb (get_or s (at + 2) 0) 4 && eqb z 0)) && k) ≡ ruled_in s (record_at s at)
-  by_numbers m z k e f g = rw (e, f, g)
+      || (eqb (get_or s (at + 2) 0) 3 && eqb z 0 && eqb m 0)) ≡ ruled (record_at s at)
+  by_numbers m z e f = rw (e, f)
 
-  pub no_head : length s < at + 19 → false ≡ (fits s at && formed_alone s (record_at s at))
+  pub no_head : length s < at + 19 → false ≡ (fits s at && formed_alone (record_at s at))
   no_head h = rw (lt-leb (at + 19) (length s) h)
 
   module _ (h : at + 19 ≤ length s) (n : ℕ) (e : n ≡ number_at s at 2) where
-    pub no_path : length s < at + 19 + n → false ≡ (fits s at && formed_alone s (record_at s at))
+    pub no_path : length s < at + 19 + n → false ≡ (fits s at && formed_alone (record_at s at))
     no_path k = rw (le-leb (at + 19) (length s) h, ← e, lt-leb (at + 19 + n) (length s) k)
 
     module _ (k : at + 19 + n ≤ length s) (t : Bool) (p : t ≡ is_path (take (at + 19 + n - (at + 19)) (drop (at + 19) s))) where
@@ -70,8 +61,8 @@ module _ (s : Bytes) (at : ℕ) where
       path : is_path (record_at s at).path ≡ t
       path = rw (← e) (sym (p ∙ rw (add-sub_cancel_left (at + 19) n)))
 
-      pub malformed : t ≡ false → false ≡ (fits s at && formed_alone s (record_at s at))
+      pub malformed : t ≡ false → false ≡ (fits s at && formed_alone (record_at s at))
       malformed z = rw (fitting, path, z)
 
-      pub by_rule : t ≡ true → ruled_in s (record_at s at) ≡ (fits s at && formed_alone s (record_at s at))
+      pub by_rule : t ≡ true → ruled (record_at s at) ≡ (fits s at && formed_alone (record_at s at))
       by_rule z = rw (fitting, path, z)

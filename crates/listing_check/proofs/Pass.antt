@@ -10,13 +10,13 @@ use Rattle.model.specs.Bytes.{Bytes, every, before}
 use Rattle.model.specs.Path.{Path, is_path, below, ancestors}
 use Rattle.model.specs.Map.{lookup, ascends}
 use Rattle.model.specs.Tree.{Node, Tree, kind, is_directory}
-use Rattle.model.specs.Listing.{ListingRecord, record_at, record_end, record_count, filled, records_from, records, version, has_kind, headed, ruled, node_of}
+use Rattle.model.specs.Listing.{ListingRecord, record_at, record_end, record_count, filled, records_from, headed, ruled, node_of}
 use Rattle.model.specs.Listing.{tree_from, tree_in, placed, formed_record, is_listing}
 use Rattle.model.proofs.Orders.{Lt, Lt_trans, Lt-≢, same_no, same_refl, Split, split, is_none_lem, is_some, opt}
 use Rattle.model.proofs.Orders.{mem, mem_ancestors, below_Lt}
 use Rattle.model.proofs.Maps.{above_trans, lookup_low, or_else, ascends_is}
 use Rattle.base_fields.proofs.Common.{before_Lt}
-use Rattle.listing_check.specs.Turn.{fits, ruled_in, formed_alone}
+use Rattle.listing_check.specs.Turn.{fits, formed_alone}
 
 -- whether a tree has a directory at q; what a record adds to the tree
 abbrev pub directory_at : Tree → Path → Bool
@@ -29,7 +29,7 @@ noted r = (r.path, node_of r)
 abbrev pub run : Bytes → ℕ → ℕ → Path → Tree → Bool
 run s zero at p seen = eqb at (length s)
 run s (suc n) at p seen =
-    fits s at && formed_alone s (record_at s at)
+    fits s at && formed_alone (record_at s at)
     && (before p (record_at s at).path
     && (placed (noted (record_at s at) ∷ seen) (record_at s at)
     && run s n (record_end s at) (record_at s at).path (noted (record_at s at) ∷ seen)))
@@ -61,10 +61,6 @@ sorted true true true true true false true v true y n c d = c refl
 sorted true true true true true false true v false y n c d = refl
 sorted true true true true true true true v x y n c d = ap₂ ◌&&◌ (d refl refl) (c refl)
 
-and_assoc : (a b c : Bool) → (a && b && c) ≡ (a && (b && c))
-and_assoc true b c = refl
-and_assoc false b c = refl
-
 or_none : {A : Type 0} (a : Option A) → or_else a none ≡ a
 or_none a = elim (opt a) [ is_none_lem e ↦ cc | is_some b e ↦ cc ]
 
@@ -95,50 +91,22 @@ module _ (p : Path) (seen : Tree) (w : Behind p seen) (r : ListingRecord) (o : L
         let z : lookup (tree_from rs) q ≡ none = lookup_low q (tree_from rs) (above_trans q r.path (tree_from rs) l u.0) u.1 in
         directory_same (noted r ∷ seen) all q (sym (parts_more q ∙ ap (or_else (lookup (noted r ∷ seen) q)) z ∙ or_none (lookup (noted r ∷ seen) q))))
 
--- a record's rules with those of its version, as the pass asks them
-abbrev formed_in : Bytes → Tree → ListingRecord → Bool
-formed_in s l r = is_path r.path && ruled_in s r && placed l r
-
--- the rules of each record, and the kinds of the version, of all records together
-split_record : (p r k y u v : Bool) → (p && (r && k) && y && (u && v)) ≡ (p && r && y && u && (k && v))
-split_record false r k y u v = refl
-split_record true false k y u v = refl
-split_record true true true y u v = sym (and_assoc y u v)
-split_record true true false false u v = refl
-split_record true true false true false v = refl
-split_record true true false true true v = refl
-
-every_split : (s : Bytes) (l : Tree) (rs : List ListingRecord)
-    → every (formed_in s l) rs ≡ (every (formed_record l) rs && every (λ r. has_kind (version s) r.type) rs)
-every_split s l [] = refl
-every_split s l (r ∷ rs) =
-    ap (λ (b : Bool). formed_in s l r && b) (every_split s l rs)
-    ∙ split_record (is_path r.path) (ruled r) (has_kind (version s) r.type) (placed l r) (every (formed_record l) rs)
-    (every (λ r. has_kind (version s) r.type) rs)
-
 pass : (all : Tree) (s : Bytes) (n at : ℕ) (p : Path) (seen : Tree) → Behind p seen
     → ((q : Path) → lookup all q ≡ or_else (lookup seen q) (lookup (tree_from (records_from s n at)) q))
-    → run s n at p seen ≡ (filled s n at && ascends p (tree_from (records_from s n at)) && every (formed_in s all) (records_from s n at))
+    → run s n at p seen ≡ (filled s n at && ascends p (tree_from (records_from s n at)) && every (formed_record all) (records_from s n at))
 pass all s zero at p seen w k = sym (and-true (eqb at (length s) && true) ∙ and-true (eqb at (length s)))
 pass all s (suc n) at p seen w k =
     let r : ListingRecord = record_at s at in
     let rs : List ListingRecord = records_from s n (record_end s at) in
-    sorted (leb (at + 19) (length s)) (leb (record_end s at) (length s)) (is_path r.path) (ruled_in s r)
-    (before p r.path) (ascends r.path (tree_from rs)) (filled s n (record_end s at)) (every (formed_in s all) rs)
+    sorted (leb (at + 19) (length s)) (leb (record_end s at) (length s)) (is_path r.path) (ruled r)
+    (before p r.path) (ascends r.path (tree_from rs)) (filled s n (record_end s at)) (every (formed_record all) rs)
     (placed (noted r ∷ seen) r) (placed all r) (run s n (record_end s at) r.path (noted r ∷ seen))
     (λ o. let l = before_Lt p r.path o in
     pass all s n (record_end s at) r.path (noted r ∷ seen) (behind_more p seen w r l) (parts_more p seen w r l all rs k))
     (λ o a. early p seen w r (before_Lt p r.path o) all rs k a)
 
 pub whole : (s : Bytes) → headed s ≡ true → run s (record_count s) 9 [] [] ≡ is_listing s
-whole s h =
-    let l : Tree = tree_in s in
-    let full : Bool = filled s (record_count s) 9 && ascends [] l in
-    let kinds : Bool = every (λ r. has_kind (version s) r.type) (records s) in
-    pass l s (record_count s) 9 [] [] (λ q l. refl) (λ q. refl)
-    ∙ ap (λ (b : Bool). full && b) (every_split s l (records s))
-    ∙ sym (and_assoc full (every (formed_record l) (records s)) kinds)
-    ∙ rw h
+whole s h = pass (tree_in s) s (record_count s) 9 [] [] (λ q l. refl) (λ q. refl) ∙ rw h
 
 pub unheaded : (s : Bytes) → headed s ≡ false → false ≡ is_listing s
 unheaded s h = rw h

@@ -12,12 +12,12 @@ use borrow.Author.Tests.{leb-true, not-true, not-false}
 use Rattle.model.specs.Bytes.{Bytes, every, same, number_at, before}
 use Rattle.model.specs.Path.{Path, is_path, ancestors}
 use Rattle.model.specs.Tree.{Tree}
-use Rattle.model.specs.Listing.{ListingRecord, record_at, record_end, record_count, version, is_version, headed, placed, is_listing}
+use Rattle.model.specs.Listing.{ListingRecord, record_at, record_end, record_count, headed, ruled, placed, is_listing}
 use Rattle.model.proofs.Orders.{Lt, and_true}
 use Rattle.model.proofs.Codec.{path_short}
 use Rattle.base_fields.specs.Read.{common, part}
 use Rattle.base_fields.proofs.Common.{before_Lt, common_short}
-use Rattle.listing_check.specs.Turn.{fits, ruled_in, formed_alone, Agree, Marked}
+use Rattle.listing_check.specs.Turn.{fits, formed_alone, Agree, Marked}
 use Rattle.listing_check.proofs.Pass.{directory_at, noted, run, whole}
 use Rattle.listing_check.proofs.Flags.{Flagged, marked}
 
@@ -35,7 +35,7 @@ pub record Kept (s : Bytes) (f : List Bool) (left from at : ℕ) : Type 0 where
 pub record Read (s : Bytes) (f : List Bool) (left from at n : ℕ) : Type 0 where
   pub kept : Kept s f left from at
   pub more : 0 < left
-  pub alone : (fits s at && formed_alone s (record_at s at)) ≡ true
+  pub alone : (fits s at && formed_alone (record_at s at)) ≡ true
   pub size : n ≡ number_at s at 2
 
 -- its path is behind the one before it, and has m bytes in common with it
@@ -49,7 +49,7 @@ bounds s h =
     let low : Bool = leb 9 (length s) in
     let high : Bool = leb (length s) 16777216 in
     let mark : Bool = same (take 3 s) (82 ∷ 68 ∷ 76 ∷ []) in
-    let a = and_true low high (and_true (low && high) mark (and_true (low && high && mark) (is_version (version s)) h).0).0 in
+    let a = and_true low high (and_true (low && high) mark (and_true (low && high && mark) (eqb (number_at s 3 2) 1) h).0).0 in
     (leb-true 9 (length s) a.0, leb-true (length s) 16777216 a.1)
 
 stop : (a b w : Bool) → (a && b) ≡ w → a ≡ false → false ≡ w
@@ -75,18 +75,18 @@ module _ (s : Bytes) (left at : ℕ) (p : Path) (seen : Tree) where
   read_on = before p (record_at s at).path && ordered_on
 
 turned : (s : Bytes) (left at : ℕ) (p : Path) (seen : Tree) → 0 < left
-    → run s left at p seen ≡ (fits s at && formed_alone s (record_at s at) && read_on s left at p seen)
+    → run s left at p seen ≡ (fits s at && formed_alone (record_at s at) && read_on s left at p seen)
 turned s zero at p seen h = absurd (omega arith)
 turned s (suc m) at p seen h = rw (down m)
 
 module _ {s : Bytes} {f : List Bool} {left from at : ℕ} (k : Kept s f left from at) (h : 0 < left) where
-  pub opened : (fits s at && formed_alone s (record_at s at) && read_on s left at (part s from at) k.seen) ≡ is_listing s
+  pub opened : (fits s at && formed_alone (record_at s at) && read_on s left at (part s from at) k.seen) ≡ is_listing s
   opened = sym (turned s left at (part s from at) k.seen h) ∙ k.rest
 
-  module _ {b : Bool} (e : b ≡ (fits s at && formed_alone s (record_at s at))) where
+  module _ {b : Bool} (e : b ≡ (fits s at && formed_alone (record_at s at))) where
     pub no_record : not b ≡ true → false ≡ is_listing s
     no_record z =
-        let a : Bool = fits s at && formed_alone s (record_at s at) in
+        let a : Bool = fits s at && formed_alone (record_at s at) in
         stop a (read_on s left at (part s from at) k.seen) (is_listing s) opened (sym e ∙ not-true b z)
 
     pub in_record : not b ≡ false → {n : ℕ} → n ≡ number_at s at 2 → Read s f left from at n
@@ -95,12 +95,12 @@ module _ {s : Bytes} {f : List Bool} {left from at : ℕ} (k : Kept s f left fro
 module _ {s : Bytes} {f : List Bool} {left from at n : ℕ} (t : Read s f left from at n) where
   pub head : at + 19 ≤ length s
   head =
-      let a = and_true (fits s at) (formed_alone s (record_at s at)) t.alone in
+      let a = and_true (fits s at) (formed_alone (record_at s at)) t.alone in
       leb-true (at + 19) (length s) (and_true (leb (at + 19) (length s)) (leb (record_end s at) (length s)) a.0).0
 
   pub end : at + 19 + n ≤ length s
   end =
-      let a = and_true (fits s at) (formed_alone s (record_at s at)) t.alone in
+      let a = and_true (fits s at) (formed_alone (record_at s at)) t.alone in
       let b = leb-true (record_end s at) (length s) (and_true (leb (at + 19) (length s)) (leb (record_end s at) (length s)) a.0).1 in
       omega (arith, t.size)
 
@@ -113,13 +113,13 @@ module _ {s : Bytes} {f : List Bool} {left from at n : ℕ} (t : Read s f left f
 
   pub short : n ≤ 512
   short =
-      let a = and_true (fits s at) (formed_alone s (record_at s at)) t.alone in
-      let p = and_true (is_path (record_at s at).path) (ruled_in s (record_at s at)) a.1 in
+      let a = and_true (fits s at) (formed_alone (record_at s at)) t.alone in
+      let p = and_true (is_path (record_at s at).path) (ruled (record_at s at)) a.1 in
       omega (arith, path_short (record_at s at).path p.0, path_length)
 
   read : read_on s left at (part s from at) t.kept.seen ≡ is_listing s
   read =
-      on (fits s at && formed_alone s (record_at s at)) (read_on s left at (part s from at) t.kept.seen) (is_listing s)
+      on (fits s at && formed_alone (record_at s at)) (read_on s left at (part s from at) t.kept.seen) (is_listing s)
       (opened t.kept t.more) t.alone
 
   module _ {b : Bool} (y : b ≡ before (part s from at) (part s (at + 19) (at + 19 + n))) where

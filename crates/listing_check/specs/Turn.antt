@@ -2,19 +2,15 @@
 use Rattle.std.specs.Prelude.{◌≡◌, Bool, false, ◌&&◌, List, ℕ, ◌+◌, ◌≤◌, ◌<◌, leb, length, get_or, take}
 use Rattle.model.specs.Bytes.{Bytes}
 use Rattle.model.specs.Path.{Path, is_path}
-use Rattle.model.specs.Listing.{ListingRecord, record_end, version, has_kind, ruled}
+use Rattle.model.specs.Listing.{ListingRecord, record_end, ruled}
 
 -- the record that starts at `at` ends within s
 abbrev pub fits : Bytes → ℕ → Bool
 fits s at = leb (at + 19) (length s) && leb (record_end s at) (length s)
 
--- kind, mtime and size of a record go together, and the kind is one of the version of s
-abbrev pub ruled_in : Bytes → ListingRecord → Bool
-ruled_in s r = ruled r && has_kind (version s) r.type
-
--- what is asked of a record by itself
-abbrev pub formed_alone : Bytes → ListingRecord → Bool
-formed_alone s r = is_path r.path && ruled_in s r
+-- what `formedRecord` asks of a record by itself
+abbrev pub formed_alone : ListingRecord → Bool
+formed_alone r = is_path r.path && ruled r
 
 -- the flags of a path's proper fronts, by their lengths, are the answers of a test
 abbrev pub Agree : List Bool → Path → (Path → Bool) → Type 0

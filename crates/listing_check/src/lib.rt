@@ -3,9 +3,9 @@
 ghost use Rattle.std.specs.Prelude.{◌≡◌, Bool, ◌&&◌, [], ◌∷◌, ◌+◌, ◌≤◌, ◌<◌, length, take};
 ghost use Rattle.model.specs.Bytes.{every, same, before};
 ghost use Rattle.model.specs.Path.{Path, ancestors};
-ghost use Rattle.model.specs.Listing.{record_at, has_kind, headed, is_listing};
+ghost use Rattle.model.specs.Listing.{record_at, ruled, headed, is_listing};
 ghost use Rattle.base_fields.specs.Read.{common};
-ghost use Rattle.listing_check.specs.Turn.{fits, ruled_in, formed_alone, Agree, Marked};
+ghost use Rattle.listing_check.specs.Turn.{fits, formed_alone, Agree, Marked};
 
 // Whether the bytes begin with the mark RDL.
 fn is_marked(s: &[u8]) -> bool
@@ -28,42 +28,28 @@ fn is_headed(s: &[u8]) -> bool
         return false;
     }
     if is_marked(s) {
-        let version = base_fields::le16(s, model::LISTING_VERSION);
-        return (version == model::LISTING_VERSION_1) | (version == model::LISTING_VERSION_2);
+        return base_fields::le16(s, 3) == model::LISTING_VERSION;
     }
     false
 }
 
-// Whether a version has a kind: 1 to 3 version 1, and 4 too version 2.
-fn has_kind(version: u64, kind: u8) -> bool
-    ensures { result ≡ has_kind version kind }
-{
-    if version == model::LISTING_VERSION_1 {
-        return kind <= model::LISTED_LINK;
-    }
-    kind <= model::LISTED_OTHER
-}
-
-// Whether kind, mtime and size of the record at `at` go together, and the listing's version has the kind.
+// Whether kind, mtime and size of the record at `at` go together.
 fn is_ruled(s: &[u8], at: usize) -> bool
     requires { at + 19 ≤ length s.now }
-    ensures { result ≡ ruled_in s.now (record_at s.now at) }
+    ensures { result ≡ ruled (record_at s.now at) }
 {
     let kind = s[at + 2];
     let mtime = base_fields::le64(s, at + 3);
     let size = base_fields::le64(s, at + 11);
-    let version = base_fields::le16(s, model::LISTING_VERSION);
-    (((kind == model::LISTED_DIRECTORY) & (size == 0))
+    ((kind == model::LISTED_DIRECTORY) & (size == 0))
         | ((kind == model::LISTED_FILE) & (size < model::SIGN))
         | ((kind == model::LISTED_LINK) & (size == 0) & (mtime == 0))
-        | ((kind == model::LISTED_OTHER) & (size == 0)))
-        & has_kind(version, kind)
 }
 
 // Whether a record stands at `at` whose own rules hold.
 fn is_record(s: &[u8], at: usize) -> bool
     requires { at ≤ 16777216 }
-    ensures { result ≡ (fits s.now at && formed_alone s.now (record_at s.now at)) }
+    ensures { result ≡ (fits s.now at && formed_alone (record_at s.now at)) }
 {
     if s.len() < at + model::RECORD_HEAD {
         return false;

@@ -4,8 +4,9 @@
 // Assumes bytes that are a listing: only this repository's crates call, after a check.
 ghost use Rattle.std.specs.Prelude.{◌≡◌, true};
 ghost use Rattle.model.specs.Map.{lookup};
+ghost use Rattle.model.specs.Tree.{kind};
 ghost use Rattle.model.specs.Listing.{record_count, tree_in, is_listing};
-ghost use Rattle.listing_records.specs.Found.{found_of, target_in};
+ghost use Rattle.listing_records.specs.Found.{found_of, target_kind};
 
 use listing_records::{Found, RealTarget};
 
@@ -27,7 +28,7 @@ fn count_in(listing: &[u8]) -> u64
 // What kind a listing of `count` records has at a path. The root is always a directory.
 fn kind_in(listing: &[u8], count: u64, path: &[u8]) -> RealTarget
     requires { (is_listing listing.now ≡ true) × (count ≡ record_count listing.now) }
-    ensures { result ≡ target_in (lookup (tree_in listing.now)) path.now }
+    ensures { target_kind result ≡ kind (lookup (tree_in listing.now)) path.now }
 {
     if path.len() == 0 {
         return RealTarget::Dir;
@@ -48,7 +49,7 @@ impl<'a> Dir<'a> {
 
     pub fn kind_at<'b>(self, path: &'b [u8]) -> RealTarget
         requires { (is_listing self.listing.now ≡ true) × (self.count ≡ record_count self.listing.now) }
-        ensures { result ≡ target_in (lookup (tree_in self.entry.listing.now)) path.now }
+        ensures { target_kind result ≡ kind (lookup (tree_in self.entry.listing.now)) path.now }
     {
         kind_in(self.listing, self.count, path)
     }
@@ -64,7 +65,7 @@ impl<'a> Dir<'a> {
 // What kind the listing has at a path.
 pub fn kind_of(listing: &[u8], path: &[u8]) -> RealTarget
     requires { is_listing listing.now ≡ true }
-    ensures { result ≡ target_in (lookup (tree_in listing.now)) path.now }
+    ensures { target_kind result ≡ kind (lookup (tree_in listing.now)) path.now }
 {
     Dir::new(listing).kind_at(path)
 }

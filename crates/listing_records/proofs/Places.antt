@@ -137,12 +137,8 @@ module _ (s : Bytes) (at : ℕ) where
       → found.File m z ≡ found_of (some (node_of (record_at s at)))
   node_file m z k e f = rw (e, f, ne_eqb (get_or s (at + 2) 0) 1 (λ g. omega arith), eq-eqb (get_or s (at + 2) 0) 2 k)
 
-  pub node_link : get_or s (at + 2) 0 ≡ 3 → found.Link ≡ found_of (some (node_of (record_at s at)))
-  node_link k = rw k
-
-  pub node_other : (m : ℕ) → (get_or s (at + 2) 0 ≡ 1 → ⊥) → (get_or s (at + 2) 0 ≡ 2 → ⊥) → (get_or s (at + 2) 0 ≡ 3 → ⊥) → m ≡ number_at s (at + 3) 8
-      → found.Other m ≡ found_of (some (node_of (record_at s at)))
-  node_other m k l j e = rw (ne_eqb (get_or s (at + 2) 0) 1 k, ne_eqb (get_or s (at + 2) 0) 2 l, ne_eqb (get_or s (at + 2) 0) 3 j, e)
+  pub node_link : (get_or s (at + 2) 0 ≡ 1 → ⊥) → (get_or s (at + 2) 0 ≡ 2 → ⊥) → found.Link ≡ found_of (some (node_of (record_at s at)))
+  node_link k l = rw (ne_eqb (get_or s (at + 2) 0) 1 k, ne_eqb (get_or s (at + 2) 0) 2 l)
 
 -- the first record, by its path
 module _ (s : Bytes) (p : Path) (n at : ℕ) where

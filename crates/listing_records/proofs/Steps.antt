@@ -11,7 +11,7 @@ use borrow.Author.Tests.{eq-eqb, not-true, ltb-true, ltb-false}
 use Rattle.model.specs.Bytes.{Bytes, every, before}
 use Rattle.model.specs.Path.{Path, is_path, ancestors, below, ends_here}
 use Rattle.model.specs.Map.{lookup}
-use Rattle.model.specs.Tree.{Node, dir, file, link, other, Tree, View, Kind, kind, kind_of, is_directory}
+use Rattle.model.specs.Tree.{Node, dir, file, link, Tree, View, Kind, kind, kind_of, is_directory}
 use Rattle.model.specs.Listing.{ListingRecord, record_at, record_end, record_count, records, ruled, tree_from, tree_in, placed, formed_record, is_listing}
 use Rattle.model.proofs.Orders.{Lt, Lt_trans, Lt-≢, fronts_ascend, same_no, Split, split, mem, mem_ancestors, yea, nay, test, bot, and_true}
 use Rattle.model.proofs.Maps.{ascends_is}
@@ -19,28 +19,21 @@ use Rattle.model.proofs.Formed.{every_mem}
 use Rattle.base_fields.proofs.Common.{before_Lt}
 use Rattle.base_paths.specs.Ancestors.{next_slash}
 use Rattle.base_paths.proofs.Ancestors.{next_slash_lem}
-use Rattle.listing_records.specs.Found.{found_of, target_kind, target_found, target_of, target_in}
+use Rattle.listing_records.specs.Found.{found_of, found_kind, target_kind}
 use Rattle.listing_records.specs.Place.{tree_at, seek_from, node_if}
 use Rattle.listing_records.specs.Walk.{Walks}
 use Rattle.listing_records.specs.declared.Place.{Place}
 use Rattle.listing_records.specs.declared.Found.{Found}
 use Rattle.listing_records.specs.declared.RealTarget.{RealTarget}
-use Rattle.listing_records.specs.declared.RealTarget.TheVariants as target
 use Rattle.listing_records.specs.declared.ComponentWalk.{ComponentWalk}
 use Rattle.model.proofs.Listings.{checked}
 use Rattle.listing_records.proofs.Places.{standing_all, seek_stands, found_first}
 
--- the kind of the case for a node, and of the case for what is at a path
-target_kind_lem : (n : Option Node) → target_kind (target_of n) ≡ kind_of n
-target_kind_lem none = refl
-target_kind_lem (some (dir m)) = refl
-target_kind_lem (some (file m z b)) = refl
-target_kind_lem (some link) = refl
-target_kind_lem (some (other m)) = refl
-
-pub kind_in_lem : (f : View) (p : Path) (t : RealTarget) → t ≡ target_in f p → target_kind t ≡ kind f p
-kind_in_lem f [] t e = ap target_kind e
-kind_in_lem f (c ∷ p) t e = ap target_kind e ∙ target_kind_lem (f (c ∷ p))
+pub found_kind_lem : (n : Option Node) → found_kind (found_of n) ≡ kind_of n
+found_kind_lem none = refl
+found_kind_lem (some (dir m)) = refl
+found_kind_lem (some (file m z b)) = refl
+found_kind_lem (some link) = refl
 
 -- where a component ends with a front of a path, a longer front is below it
 fronts_below : (p : Path) (k j : ℕ) → ends_here (drop k p) ≡ true → k < j → j ≤ length p → below (take k p) (take j p) ≡ true
@@ -54,11 +47,6 @@ pub kind_front : (f : View) (p : Path) (k : ℕ) → 0 < k → k ≤ length p �
 kind_front f [] k h l = absurd (omega arith)
 kind_front f (b ∷ p) zero h l = absurd (omega arith)
 kind_front f (b ∷ p) (suc k) h l = refl
-
-pub target_front : (f : View) (p : Path) (k : ℕ) → 0 < k → k ≤ length p → target_in f (take k p) ≡ target_of (f (take k p))
-target_front f [] k h l = absurd (omega arith)
-target_front f (b ∷ p) zero h l = absurd (omega arith)
-target_front f (b ∷ p) (suc k) h l = refl
 
 -- in a listing, what lies below what is no directory is not listed
 none_under : (l : Tree) (rs : List ListingRecord) (q k : Path) → every (formed_record l) rs ≡ true → below q k ≡ true → is_directory (kind (lookup l) q) ≡ false
@@ -116,21 +104,21 @@ walks_on s p w k m h v = record {
 }
 
 module _ (s : Bytes) (p : Path) (w : ComponentWalk) (k : ℕ) (v : Walks s p w k) (o : 0 < k) (l : k ≤ length p) where
-  pub exhausted_target : w.exhausted ≡ true → target.Absent ≡ target_in (lookup (tree_in s)) (take k p)
-  exhausted_target z = sym (target_front (lookup (tree_in s)) p k o l ∙ ap target_of (v.gone z k (omega arith) l))
+  pub exhausted_kind : w.exhausted ≡ true → Kind.nothing ≡ kind (lookup (tree_in s)) (take k p)
+  exhausted_kind z = sym (kind_front (lookup (tree_in s)) p k o l ∙ ap kind_of (v.gone z k (omega arith) l))
 
   module _ (h : is_listing s ≡ true) (e : ends_here (drop k p) ≡ true) (q : Place) (f : q ≡ seek_from s (take k p) w.left w.at) where
     here : node_if s (take k p) q.left q.at ≡ lookup (tree_in s) (take k p)
     here = found_first s (take k p) w.left w.at (ascends_is [] (tree_at s w.left w.at) v.stand.up).1 q f ∙ sym (v.ahead k (omega arith) l)
 
-    pub step_target : (d : Found) (t : RealTarget) → d ≡ found_of (node_if s (take k p) q.left q.at) → t ≡ target_found d
-        → t ≡ target_in (lookup (tree_in s)) (take k p)
-    step_target d t x y = y ∙ ap target_found x ∙ ap target_of here ∙ sym (target_front (lookup (tree_in s)) p k o l)
+    pub step_kind_lem : (d : Found) (t : RealTarget) → d ≡ found_of (node_if s (take k p) q.left q.at) → target_kind t ≡ found_kind d
+        → target_kind t ≡ kind (lookup (tree_in s)) (take k p)
+    step_kind_lem d t x y = y ∙ ap found_kind x ∙ found_kind_lem (node_if s (take k p) q.left q.at) ∙ ap kind_of here ∙ sym (kind_front (lookup (tree_in s)) p k o l)
 
-    pub step_walks : (t : RealTarget) (b : Bool) → b ≡ is_directory (target_kind t) → t ≡ target_in (lookup (tree_in s)) (take k p)
+    pub step_walks : (t : RealTarget) (b : Bool) → b ≡ is_directory (target_kind t) → target_kind t ≡ kind (lookup (tree_in s)) (take k p)
         → Walks s p (record { at = q.at; left = q.left; exhausted = not b }) (k + 1)
     step_walks t b x y = record {
       stand = seek_stands s (take k p) w.left w.at v.stand q f;
       ahead = λ j a c. v.ahead j (omega arith) c ∙ passed s (take k p) (take j p) (fronts_ascend p k j (omega arith) c) w.left w.at q f;
-      gone = λ z j a c. not_listed_below s (take k p) (take j p) h (fronts_below p k j e (omega arith) c) (ap is_directory (sym (kind_in_lem (lookup (tree_in s)) (take k p) t y)) ∙ sym x ∙ not-true b z);
+      gone = λ z j a c. not_listed_below s (take k p) (take j p) h (fronts_below p k j e (omega arith) c) (ap is_directory (sym y) ∙ sym x ∙ not-true b z);
     }

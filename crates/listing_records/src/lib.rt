@@ -5,32 +5,28 @@ ghost use Rattle.std.specs.Prelude.{◌≡◌, true, not, ◌+◌, ◌-◌, ◌�
 ghost use Rattle.std.proofs.Math.Option.{some};
 ghost use Rattle.model.specs.Path.{Path, ends_here};
 ghost use Rattle.model.specs.Map.{lookup};
-ghost use Rattle.model.specs.Tree.{is_directory};
+ghost use Rattle.model.specs.Tree.{kind, is_directory};
 ghost use Rattle.model.specs.Listing.{record_at, record_end, record_count, node_of, tree_in, is_listing};
-ghost use Rattle.listing_records.specs.Found.{found_of, target_kind, target_found, target_in};
+ghost use Rattle.listing_records.specs.Found.{found_of, found_kind, target_kind};
 ghost use Rattle.listing_records.specs.Place.{Standing, seek_from, node_if};
 ghost use Rattle.listing_records.specs.Parts.{PartOf};
 ghost use Rattle.listing_records.specs.Walk.{Walks};
 
-// What a write's lookup finds in the published tree. A link is surfaced, and never resolved. Other is a pipe or device,
-// which overlay.rs has as a file.
+// What a write's lookup finds in the published tree. A link is surfaced, and never resolved.
 #[derive(Drop)]
 pub enum RealTarget {
     Dir,
     File,
     Symlink,
-    Other,
     Absent,
 }
 
-// A listed node: a directory with its mtime bits, a file with its mtime bits and its size, a link, or a pipe or device
-// with its mtime bits.
+// A listed node: a directory with its mtime bits, a file with its mtime bits and its size, or a link.
 #[derive(Drop)]
 pub enum Found {
     Directory(u64),
     File(u64, u64),
     Link,
-    Other(u64),
     Absent,
 }
 
@@ -116,10 +112,7 @@ pub fn node_at(listing: &[u8], at: usize) -> Found
         let size = base_fields::le64(listing, at + 11);
         return Found::File(mtime, size);
     }
-    if kind == model::LISTED_LINK {
-        return Found::Link;
-    }
-    Found::Other(mtime)
+    Found::Link
 }
 
 // The node of the first of the `left` records from `at` on, if that has this path.
@@ -195,7 +188,7 @@ pub fn below(listing: &[u8], dir: &[u8]) -> Part
 
 // The case that says a node's kind.
 pub fn classify_target(found: Found) -> RealTarget
-    ensures { result ≡ target_found found }
+    ensures { target_kind result ≡ found_kind found }
 {
     match found {
         Found::Directory(_) => {
@@ -206,9 +199,6 @@ pub fn classify_target(found: Found) -> RealTarget
         }
         Found::Link => {
             return RealTarget::Symlink;
-        }
-        Found::Other(_) => {
-            return RealTarget::Other;
         }
         Found::Absent => {
             return RealTarget::Absent;
@@ -228,9 +218,6 @@ pub fn is_dir(target: RealTarget) -> bool
             return false;
         }
         RealTarget::Symlink => {
-            return false;
-        }
-        RealTarget::Other => {
             return false;
         }
         RealTarget::Absent => {
@@ -275,7 +262,7 @@ impl ComponentWalk {
         requires walks { Walks listing.now path.now self end }
         requires end_nonzero { (0 < end) × (end ≤ length path.now) }
         requires path_value { ends_here (drop end path.now) ≡ true }
-        ensures target_value { result.target ≡ target_in (lookup (tree_in listing.now))
+        ensures target_value { target_kind result.target ≡ kind (lookup (tree_in listing.now))
             (take end path.now) }
         ensures exhausted_value { result.walk.exhausted ≡ not (is_directory (target_kind result.target)) }
         ensures walk_value { self.exhausted ≡ true → result.walk ≡ self }

@@ -3,7 +3,7 @@
 use mathlib.Core.Path.{◌≡◌, refl, ap, sym, ◌∙◌, fun_ext, subst, subst⁻¹}
 use mathlib.Core.Logic.{◌↔◌, inl, inr}
 use mathlib.Core.List.{List, [], ◌∷◌}
-use mathlib.Core.Bool.{Bool, true, false, cond, not, ◌||◌}
+use mathlib.Core.Bool.{Bool, true, false, cond, ◌||◌}
 use mathlib.Core.Option.{Option, none, some}
 use Prim.Native.Nat.{ℕ, ◌+◌, ◌-◌, ◌<◌}
 use native.Mathlib.Omega.{arith}
@@ -13,12 +13,12 @@ use borrow.Author.Tests.{leb-false}
 use Rattle.model.specs.Bytes.{Bytes, every, cons_if, same}
 use Rattle.model.specs.Path.{Path, short, below, ancestors, rest}
 use Rattle.model.specs.Map.{lookup, put, puts, del, each, keys, rekey, outside}
-use Rattle.model.specs.Tree.{held, Node, dir, file, link, other, Entry, own, reference, directory, deleted, Table, Tree, View, view, over, shown}
-use Rattle.model.specs.Tree.{Kind, nothing, a_directory, a_file, a_link, kind_of, kind, is_nothing, is_directory, other_node, is_other}
+use Rattle.model.specs.Tree.{held, Node, dir, file, link, Entry, own, reference, directory, deleted, Table, Tree, View, view, over, shown}
+use Rattle.model.specs.Tree.{Kind, nothing, a_directory, a_file, a_link, kind_of, kind, is_nothing, is_directory}
 use Rattle.model.specs.Table.{charge}
 use Rattle.model.specs.Checks.{Check, pass, refuse, ◌then◌, unless, parent_checks, write_checks, mkdir_at, mkdir_parents, missing, makes, unlink_at, unlink_checks}
 use Rattle.model.specs.Checks.{no_visible_child, rmdir_checks, Memory, limited, unlimited, charged}
-use Rattle.model.specs.Rename.{not_link, not_deleted, no_clash, present, if_directory, planned, plan, budget, at_link, at_other, stops, Walk, sum, over_budget, stopped, walk_from, walked}
+use Rattle.model.specs.Rename.{not_link, not_deleted, no_clash, present, if_directory, planned, plan, budget, at_link, stops, Walk, sum, over_budget, stopped, walk_from, walked}
 use Rattle.model.specs.Rename.{carried, moved, keys_fit, rename_paths, rename_types, plan_and_walk, directory_memory, rename_memory, onto_itself, rename_checks}
 use Rattle.model.specs.Content.{is_own, content_of, appended, append_checks, append_memory, inside_checks, spliced}
 use Rattle.model.specs.Calls.{Call, write, append, write_inside, mkdir, unlink, rmdir, rename, changed, rules}
@@ -28,7 +28,7 @@ use Rattle.model.proofs.Orders.{same_refl, bot, yea, nay, test, mem}
 use Rattle.model.proofs.Orders.{rest_self, rest_below, rest_nil, below_rest}
 use Rattle.model.proofs.Maps.{upd, or_else, lookup_put, lookup_del, lookup_puts, lookup_each, Ascending, ascending_put, ascending_del, ascending_puts, ascending_outside}
 use Rattle.model.proofs.Invariant.{kind_is, is_nothing_lem, is_directory_lem, is_file_lem, is_link', entry_at, at_none, at_own, at_reference, at_directory, at_deleted}
-use Rattle.model.proofs.Invariant.{Closed, closed_above, Inv, shown_put, shown_over, kind_at, other_at_lem, kind_entry, then_pass, then_both, parents_dirs, parents_pass, inv_empty}
+use Rattle.model.proofs.Invariant.{Closed, closed_above, Inv, shown_put, shown_over, kind_at, kind_entry, then_pass, then_both, parents_dirs, parents_pass, inv_empty}
 use Rattle.model.proofs.Small.{write_inv, unlink_inv, unlink_regular, rmdir_inv, RmdirOk, rmdir_ok, ok_rmdir, met_nothing, met_directory, mkdir_met, makes_missing, makes_none, mkdir_inv, mkdir_up, mkdir_lookup, made_at, childless_empty, empty_childless, root_refused, root_passes}
 use Rattle.model.proofs.Contents.{append_passed, inside_passed, inside_write}
 use Rattle.model.proofs.Moves.{Held, RenameOk, move_view, move_inv, move_tree, plain_move_lem, entry_free, listed_stop, kind_link, kind_absent}
@@ -148,15 +148,12 @@ module _ (t : Table) (l : Tree) (cl : Closed (lookup l)) (i : Inv t l) (a b : Pa
       go z free d (sum s) u = walk_stops t l B a cl s u q x y z e free (λ p v w. entry_free t l cl i p q x w z free)
       go z free d over_budget u = bot (cc)
       go z free d (stopped at_link s) u = bot (cc)
-      go z free d (stopped at_other s) u = bot (cc)
 
-  -- a source that is no link, no pipe and no device does not stop the walk
-  no_stop_at : (n : ℕ) → not_link 0 n (kind (shown t l) a) ≡ pass → unless 19 (not (is_other (shown t l) a)) ≡ pass → (a ≡ [] → ⊥)
-      → (x : Node) → shown t l a ≡ some x → stops x ≡ true → ⊥
-  no_stop_at n h v r (dir m) g e = bot (cc)
-  no_stop_at n h v r (file m z c) g e = bot (cc)
-  no_stop_at n h v r link g e = bot (cc (kind_at (shown t l) a (some link) g r))
-  no_stop_at n h v r (other m) g e = bot (cc (other_at_lem (shown t l) a (some (other m)) g r))
+  -- a source that is no link does not stop the walk
+  no_stop_at : (n : ℕ) → not_link 0 n (kind (shown t l) a) ≡ pass → (a ≡ [] → ⊥) → (x : Node) → shown t l a ≡ some x → stops x ≡ true → ⊥
+  no_stop_at n h r (dir m) g e = bot (cc)
+  no_stop_at n h r (file m z c) g e = bot (cc)
+  no_stop_at n h r link g e = bot (cc (kind_at (shown t l) a (some link) g r))
 
   moved_ok : (m : Memory) → MovePassed m t l a b → RenameOk (shown t l) a b
   moved_ok m p =
@@ -171,7 +168,7 @@ module _ (t : Table) (l : Tree) (cl : Closed (lookup l)) (i : Inv t l) (a b : Pa
         found = found' p.types.source_present from;
         apart = apart' p.types.not_below;
         free = free' ty p.types.destination_empty;
-        unstopped = unstopped' p.memory.walk_passes p.paths.source_no_link p.types.source_no_other from;
+        unstopped = unstopped' p.memory.walk_passes p.paths.source_no_link from;
         target_link = link' p.paths.destination_no_link to;
         over_dir = dir' ty;
         over_file = file' ty p.types.source_present p.paths.source_no_link;
@@ -191,10 +188,9 @@ module _ (t : Table) (l : Tree) (cl : Closed (lookup l)) (i : Inv t l) (a b : Pa
       free' h g q n z e = let c = i.closed b q n z e in let d = dir' h c in childless_empty t l b 1 i.closed (cc) q n z e
 
       unstopped' : if_directory (kind (shown t l) a) (if_directory (kind (lookup l) a) (walked (length a) (walk_from t l (budget m t a b) a))) ≡ pass
-          → not_link 0 (length a) (kind (shown t l) a) ≡ pass → unless 19 (not (is_other (shown t l) a)) ≡ pass → (a ≡ [] → ⊥)
-          → (q s : Path) (n : Node) → rest a q ≡ some s → shown t l q ≡ some n → stops n ≡ true → ⊥
-      unstopped' h g v r q [] n e z y = no_stop_at (length a) g v r n (cc (rest_nil a q e)) y
-      unstopped' h g v r q (c ∷ s) n e z y =
+          → not_link 0 (length a) (kind (shown t l) a) ≡ pass → (a ≡ [] → ⊥) → (q s : Path) (n : Node) → rest a q ≡ some s → shown t l q ≡ some n → stops n ≡ true → ⊥
+      unstopped' h g r q [] n e z y = no_stop_at (length a) g r n (cc (rest_nil a q e)) y
+      unstopped' h g r q (c ∷ s) n e z y =
           let u = rest_below a q c s e in
           let k = i.closed a q n u z in
           no_stop_below (budget m t a b) (length a) (cc) q n u z y
@@ -270,13 +266,6 @@ module _ (t : Table) (l : Tree) (cl : Closed (lookup l)) (i : Inv t l) (a b : Pa
       found' : present (length a) ka ≡ pass
       found' = elim (kind_is ka) [ is_nothing_lem z ↦ absurd (is_a z) | is_link' z ↦ cc | is_file_lem z ↦ cc | is_directory_lem z ↦ cc ]
 
-      no_other : (x : Option Node) → shown t l a ≡ x → unless 19 (not (other_node x)) ≡ pass
-      no_other none e = refl
-      no_other (some (dir m)) e = refl
-      no_other (some (file m z c)) e = refl
-      no_other (some link) e = refl
-      no_other (some (other m)) e = absurd (o.unstopped a [] (other m) (rest_self a) e refl)
-
       paths' : PathsPassed t l a b
       paths' = record {
         source_not_root = root_passes 0 a o.source;
@@ -289,13 +278,7 @@ module _ (t : Table) (l : Tree) (cl : Closed (lookup l)) (i : Inv t l) (a b : Pa
       }
 
       types' : TypesPassed t l a b
-      types' = record {
-        types_agree = agree;
-        destination_empty = vacant;
-        not_below = apart';
-        source_present = found';
-        source_no_other = ap (λ (x : Bool). unless 19 (not x)) (other_at_lem (shown t l) a (shown t l a) refl o.source) ∙ no_other (shown t l a) refl;
-      }
+      types' = record { types_agree = agree; destination_empty = vacant; not_below = apart'; source_present = found' }
 
       if_dir : (k : Kind) (x : Check) → (k ≡ a_directory → Allowed m t l (rename a b) x) → Allowed m t l (rename a b) (if_directory k x)
       if_dir nothing x h = fine pass refl

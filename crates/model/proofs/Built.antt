@@ -8,7 +8,7 @@ use Rattle.model.specs.Bytes.{Bytes}
 use Rattle.model.specs.Listing.{is_listing, tree_in}
 use Rattle.model.specs.Outcome.{Request}
 use Rattle.model.specs.Rules.{Rules}
-use Rattle.model.specs.Runs.{State, step, after, entries_of, WordedCall, WordedCalls, Built, by_opening, by_call, by_reading, LeavesNothing, RunFrom}
+use Rattle.model.specs.Runs.{State, step, after, entries_of, WordedCalls, Built, by_opening, by_call, by_reading, RunFrom}
 use Rattle.model.proofs.Words.{IsBytes}
 use Rattle.model.proofs.Reached.{Reached, opening_sized, reached_begin, reached_step, reached_moved}
 use Rattle.model.proofs.Resumed.{run_from, reached_rules}
@@ -32,7 +32,3 @@ module _ (listing : Bytes) (E : ℕ) where
     -- demand 3 and POSIX from a built table on
     pub built_runs : (x : State) → Built listing E x → (calls : List Request) → WordedCalls calls → RunFrom listing x calls
     built_runs x b calls w = run_from listing bytes E x (built_reached x b) calls w
-
-    -- #108: "on tables that our calls built a directory moved to another path never leaves something behind"
-    pub leaves_nothing : (x : State) (q : Request) → WordedCall q.call → Built listing E x → LeavesNothing listing x q
-    leaves_nothing x q w b = (built_runs x b (q ∷ []) (w, tt)).each.0.leaves_nothing

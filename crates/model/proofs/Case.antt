@@ -1,15 +1,14 @@
 -- What a case of the tables in Cases.antt, Corners.antt and ContentCases.antt is, and how it is computed: on bytes, from a listing and a table encoded here.
 -- The encoding of a listing serves the cases alone: the port only reads listings.
-use mathlib.Core.Bool.{Bool, true, false, cond}
+use mathlib.Core.Bool.{Bool, true, false}
 use mathlib.Core.List.{List, [], ◌∷◌, ◌++◌}
-use mathlib.Core.Option.{some}
 use Prim.Native.Nat.{ℕ}
 use Prim.Native.Char.{code}
 use Prim.Native.String.{String}
 use lib.ListN.{length, replicate}
-use Rattle.model.specs.Bytes.{Bytes, bytes, some?, same}
+use Rattle.model.specs.Bytes.{Bytes, bytes, same}
 use Rattle.model.specs.Path.{Path}
-use Rattle.model.specs.Tree.{listed, Node, dir, file, link, other, Table, Tree, other_node}
+use Rattle.model.specs.Tree.{listed, Node, dir, file, link, Table, Tree}
 use Rattle.model.specs.Table.{encode, padded, record_of, is_table, table_in}
 use Rattle.model.specs.Calls.{Call, write, append, write_inside, mkdir, unlink, rmdir, rename, Query}
 use Rattle.model.specs.Answer.{Reply, accepted, refused}
@@ -27,20 +26,15 @@ abbrev pub listed_bytes : Path → Node → Bytes
 listed_bytes p (dir m) = typed 1 m 0 p
 listed_bytes p (file m z b) = typed 2 m z p
 listed_bytes p link = typed 3 0 0 p
-listed_bytes p (other m) = typed 4 m 0 p
 
 abbrev pub tree_bytes : Tree → Bytes
 tree_bytes [] = []
 tree_bytes (x ∷ xs) = listed_bytes x.0 x.1 ++ tree_bytes xs
 
--- version 2 where there is a pipe or device, else version 1
-abbrev pub version_for : Tree → ℕ
-version_for l = cond (some? (λ x. other_node (some x.1)) l) 2 1
-
 abbrev pub listing_bytes : Tree → Bytes
-listing_bytes l = path "RDL" ++ (bytes 2 (version_for l) ++ (bytes 4 (length l) ++ tree_bytes l))
+listing_bytes l = path "RDL" ++ (bytes 2 1 ++ (bytes 4 (length l) ++ tree_bytes l))
 
--- a directory, a file, a link and a pipe or device of a listing
+-- a directory, a file and a link of a listing
 abbrev pub dir_at : String → ℕ → Path × Node
 dir_at p m = (path p, dir m)
 
@@ -49,9 +43,6 @@ file_at p m z = (path p, file m z (listed (path p)))
 
 abbrev pub link_at : String → Path × Node
 link_at p = (path p, link)
-
-abbrev pub other_at : String → ℕ → Path × Node
-other_at p m = (path p, other m)
 
 pub data Step : Type 0 where
   call : (limit : ℕ) → Call → Step

@@ -8,7 +8,7 @@ use lib.Dec.{ltb, eqb}
 use lib.ListN.{length}
 use Rattle.model.specs.Bytes.{Bytes}
 use Rattle.model.specs.Path.{Path}
-use Rattle.model.specs.Tree.{held, listed, Node, dir, file, link, other, Table, Tree, View, shown, kind, is_other}
+use Rattle.model.specs.Tree.{held, listed, Node, dir, file, link, Table, Tree, View, shown, kind}
 use Rattle.model.specs.Checks.{pass, refuse, ◌then◌, unless, write_checks, Memory, charged}
 use Rattle.model.specs.Content.{is_own, content_of, needed, appended, append_checks, append_memory, own_at, inside_checks}
 use Rattle.model.specs.Calls.{append, write_inside, changed, rules}
@@ -19,8 +19,7 @@ use Rattle.model.proofs.Invariant.{Inv, kind_at, then_pass, unless_pass, parents
 pub count_passed : (f : View) (p : Path) (b : Bytes) → append_checks f p b ≡ pass → eqb (length b) (needed (f p)) ≡ true
 count_passed f p b h =
     let n = eqb (length b) (needed (f p)) in
-    let o = cond (is_other f p) (refuse 5 0 (length p)) pass in
-    unless_pass 17 n (then_pass o (unless 17 n) (then_pass (write_checks f p) (o then unless 17 n) h).1).1
+    unless_pass 17 n (then_pass (write_checks f p) (unless 17 n) h).1
 
 -- an accepted append, check by check
 pub record AppendPassed (memory : Memory) (t : Table) (l : Tree) (p : Path) (m : ℕ) (d b : Bytes) : Type 0 where
@@ -35,8 +34,9 @@ pub append_passed : (memory : Memory) (t : Table) (l : Tree) (p : Path) (m : ℕ
 append_passed memory t l p m d b h =
     let y = append_memory memory t (shown t l p) (length (appended (shown t l p) d b)) in
     let z = charged memory (changed t l (append p m d b)) in
+    let n = unless 17 (eqb (length b) (needed (shown t l p))) in
     let x = then_pass (append_checks (shown t l) p b) (y then z) h in
-    let w = then_pass (write_checks (shown t l) p) _ x.0 in
+    let w = then_pass (write_checks (shown t l) p) n x.0 in
     let u = then_pass y z x.1 in
     record {
       checks = x.0;
@@ -88,7 +88,6 @@ own_file f (c ∷ p) h = go (f (c ∷ p)) refl h
     go (some (file m z (held x))) e h = record { mtime = m; size = z; content = x; proper = λ z. bot (cc); node = e }
     go (some (file m z (listed x))) e h = absurd (bot (cc))
     go (some link) e h = absurd (bot (cc))
-    go (some (other m)) e h = absurd (bot (cc))
 
 -- an own file can be written: where the invariant holds, what is above it are directories
 pub inside_write : (t : Table) (l : Tree) → Inv t l → (p : Path) → own_at (shown t l) p ≡ true → write_checks (shown t l) p ≡ pass
@@ -108,4 +107,3 @@ lent_content (some (dir m)) b h e = none_lent b e
 lent_content (some (file m z (held c))) b h e = absurd (bot (cc))
 lent_content (some (file m z (listed q))) b h e = refl
 lent_content (some link) b h e = none_lent b e
-lent_content (some (other m)) b h e = none_lent b e

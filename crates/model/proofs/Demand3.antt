@@ -17,7 +17,7 @@ use Rattle.model.proofs.Words.{IsBytes}
 use Rattle.model.proofs.Reached.{opening_sized, opened_empty, reached_begin}
 use Rattle.model.proofs.Resumed.{run_from}
 
--- the numbers that have a cause: none is from 4 to 10, and 17, 18 and 19 are not among them
+-- the numbers that have a cause: none is from 4 to 10, and 17 and 18 are not among them
 pub cause_numbers : (listing : Bytes) (q : Request) (s : Store) (n : ℕ) → Cause listing q s n → (n < 3) ⊎ ((10 < n) × (n < 14))
 cause_numbers listing q s n (malformed_table h) = inl (omega arith)
 cause_numbers listing q s n (short_work h) = inl (omega arith)

@@ -10,8 +10,8 @@ use lib.ListN.{length}
 use borrow.Author.Tests.{leb-true}
 use Rattle.model.specs.Bytes.{same}
 use Rattle.model.specs.Path.{Path, below, ancestors, rest}
-use Rattle.model.specs.Map.{by_rest, lookup, put, puts, only, each, keys, rekey, mapped}
-use Rattle.model.specs.Tree.{Node, dir, file, link, other, Entry, own, directory, deleted, Table, Tree, View, shown}
+use Rattle.model.specs.Map.{lookup, put, puts, only, each, keys, rekey, mapped}
+use Rattle.model.specs.Tree.{Node, dir, file, link, Entry, own, directory, deleted, Table, Tree, View, shown}
 use Rattle.model.specs.Tree.{Kind, nothing, a_directory, a_link, kind_of, kind, is_nothing, is_directory}
 use Rattle.model.specs.Table.{charge}
 use Rattle.model.specs.Checks.{Check, pass, ◌then◌, unless, parent_checks, write_checks, mkdir_at, mkdir_parents, missing, makes, unlink_checks, rmdir_checks}
@@ -22,7 +22,7 @@ use Rattle.model.specs.Calls.{Call, write, append, write_inside, mkdir, unlink, 
 use Rattle.model.specs.Posix.{Prefixed, Empty, make_directory, make_missing, make_directories, rename_file, Posix}
 use Rattle.model.specs.Runs.{touches}
 use Rattle.model.proofs.Orders.{split, Split, same_no, same_refl, below_irrefl, bot, yea, nay, test, is_none_lem, is_some, opt, mem, mem_ancestors}
-use Rattle.model.proofs.Orders.{rest_below, rest_nil, rest_self, below_rest, inside_both}
+use Rattle.model.proofs.Orders.{rest_below, rest_nil}
 use Rattle.model.proofs.Maps.{or_else, lookup_put, lookup_puts, lookup_each, lookup_rekey, lookup_keys, lookup_only}
 use Rattle.model.proofs.Invariant.{kind_is, is_nothing_lem, is_directory_lem, is_file_lem, is_link', Closed, closed_above, Inv, shown_put, shown_over, kind_at, then_pass, parents_dirs}
 use Rattle.model.proofs.Small.{mkdir_up, mem_absent, met_nothing, met_directory, mkdir_met, makes_missing, makes_none, not_both, mkdir_lookup, made_at, unlink_found, rmdir_ok}
@@ -276,7 +276,7 @@ module _ (t : Table) (l : Tree) (i : Inv t l) where
       prefixed_new = o.up;
       present = λ e. absent o e;
       onto_directory = o.over_dir;
-      onto_other = λ d n. directory_too o d n;
+      onto_other = λ d n. other o d n;
       onto_empty = λ x y. none_of (shown t l) b o.free;
       apart = o.apart;
     },
@@ -290,10 +290,9 @@ module _ (t : Table) (l : Tree) (i : Inv t l) where
           visible (dir m) = refl
           visible (file m z c) = refl
           visible link = refl
-          visible (other m) = refl
 
-      directory_too : RenameOk (shown t l) a b → kind (shown t l) a ≡ a_directory → (kind (shown t l) b ≡ nothing → ⊥) → kind (shown t l) b ≡ a_directory
-      directory_too o d n = elim (kind_is (kind (shown t l) b)) [
+      other : RenameOk (shown t l) a b → kind (shown t l) a ≡ a_directory → (kind (shown t l) b ≡ nothing → ⊥) → kind (shown t l) b ≡ a_directory
+      other o d n = elim (kind_is (kind (shown t l) b)) [
         | is_nothing_lem e ↦ absurd (n e)
         | is_directory_lem e ↦ e
         | is_file_lem e ↦ cc (o.over_file e)
@@ -309,7 +308,6 @@ module _ (t : Table) (l : Tree) (i : Inv t l) where
               go (some (dir m)) h = bot (cc)
               go (some (file m z y)) h = bot (cc)
               go (some link) h = n h
-              go (some (other m)) h = bot (cc)
 
       same_move : (q : Path) → move_view a b (shown t l) q ≡ rename_file a b (shown t l) q
       same_move q = sym (ap (λ (c : Bool). cond c (shown t l q) (move_view a b (shown t l) q)) (same_no a b o.two))
@@ -328,30 +326,3 @@ module _ (t : Table) (l : Tree) (i : Inv t l) where
   posix hl cl m (unlink p) h = posix_unlink p (then_pass (unlink_checks t l p) (charged m (changed t l (unlink p))) h).0
   posix hl cl m (rmdir p) h = posix_rmdir p (then_pass (rmdir_checks t l p) (charged m (changed t l (rmdir p))) h).0
   posix hl cl m (rename a b) h = posix_rename hl cl a b (rename_ok t l cl i a b m h)
-
--- #108: what the standard says of a rename to another path leaves nothing at its source or below it: the destination is not below the source, and
--- the source, which is visible, not below the destination, which would have to be empty
-pub posix_leaves : (f g : View) (a b : Path) → Posix f g (rename a b) → (a ≡ b → ⊥) → (p : Path) → (a ≡ p) ⊎ (below a p ≡ true) → g p ≡ none
-posix_leaves f g a b h n p w =
-    ap (λ (v : View). v p) h.1 ∙ ap (λ (c : Bool). cond c (f p) (gone (rest b p))) (same_no a b n) ∙ go (inside w) (rest b p) refl
-  where
-    gone : Option Path → Option Node
-    gone o = by_rest o (λ r. f (a ++ r)) (by_rest (rest a p) (λ r. none) (f p))
-
-    inside : (a ≡ p) ⊎ (below a p ≡ true) → (s : Path) × (rest a p ≡ some s)
-    inside (inl e) = ([], subst (λ (q : Path). rest a q ≡ some []) e (rest_self a))
-    inside (inr e) = let r = below_rest a p e in (47 ∷ r.0, r.1)
-
-    -- the source is not below the destination
-    not_under : below b a ≡ true → ⊥
-    not_under u =
-        let k = h.0.prefixed_old b u in
-        let e = h.0.onto_empty n k a u in
-        h.0.present (kind_at f a none e h.0.named_old)
-
-    go : (s : Path) × (rest a p ≡ some s) → (o : Option Path) → rest b p ≡ o → gone o ≡ none
-    go s none e = ap (λ (x : Option Path). by_rest x (λ r. none) (f p)) s.1
-    go s (some r) e = elim (inside_both a b p s.0 r s.1 e) [
-      | inl z ↦ absurd (n z)
-      | inr z ↦ elim z [ inl y ↦ absurd (h.0.apart y) | inr y ↦ absurd (not_under y) ]
-    ]

@@ -15,7 +15,7 @@ use borrow.Author.Tests.{lt-ltb}
 use Rattle.model.specs.Bytes.{Bytes, every, number, same}
 use Rattle.model.specs.Path.{Path, short, is_path, ancestors, below, rest}
 use Rattle.model.specs.Map.{Map, by_rest, lookup, ascends, put, puts, only, each, keys, rekey, mapped}
-use Rattle.model.specs.Tree.{Body, listed, Node, dir, file, link, other, Entry, own, directory, deleted, Table, Tree, View, shown}
+use Rattle.model.specs.Tree.{Body, listed, Node, dir, file, link, Entry, own, directory, deleted, Table, Tree, View, shown}
 use Rattle.model.specs.Tree.{Kind, nothing, a_directory, a_file, a_link, kind, is_nothing, is_directory}
 use Rattle.model.specs.Listing.{ListingRecord, record_at, record_end, record_count, records_from, records, ruled, node_of}
 use Rattle.model.specs.Listing.{tree_from, tree_in, formed_record, is_listing}
@@ -190,16 +190,14 @@ data NodeOf (r : ListingRecord) : Type 0 where
   of_dir : node_of r ≡ dir r.mtime → NodeOf r
   of_file : node_of r ≡ file r.mtime r.size (listed r.path) → ltb r.size 0x8000_0000_0000_0000 ≡ true → NodeOf r
   of_link : node_of r ≡ link → NodeOf r
-  of_other : node_of r ≡ other r.mtime → NodeOf r
 
 node_of_lem : (r : ListingRecord) → ruled r ≡ true → NodeOf r
 node_of_lem r h = elim (test (eqb r.type 1)) [
   | yea e ↦ of_dir (cc)
   | nay e ↦ elim (test (eqb r.type 2)) [
     | yea f ↦ let g : eqb r.type 3 ≡ false = ap (λ (n : ℕ). eqb n 3) (eqb_eq r.type 2 f) in
-        let k : eqb r.type 4 ≡ false = ap (λ (n : ℕ). eqb n 4) (eqb_eq r.type 2 f) in
         of_file (cc) (elim (test (ltb r.size 0x8000_0000_0000_0000)) [ yea d ↦ d | nay d ↦ absurd (bot (cc)) ])
-    | nay f ↦ elim (test (eqb r.type 3)) [ yea g ↦ of_link (cc) | nay g ↦ of_other (cc) ]
+    | nay f ↦ of_link (cc)
   ]
 ]
 
@@ -212,7 +210,6 @@ node_fine r h n u w = elim (node_of_lem r u) [
   | of_dir e ↦ rw e (record { key = h; proper = n; body = refl; word = w })
   | of_file e z ↦ rw e (record { key = h; proper = n; body = cc (h, proper_length r.path n, z); word = w })
   | of_link e ↦ rw e (record { key = h; proper = n; body = refl; word = tt })
-  | of_other e ↦ rw e (record { key = h; proper = n; body = refl; word = tt })
 ]
 
 pub every_mem : (f : Path → Bool) (ks : List Path) (q : Path) → every f ks ≡ true → mem q ks ≡ true → f q ≡ true
@@ -228,7 +225,7 @@ is_dir_lem a_file h = cc
 is_dir_lem a_link h = cc
 
 node_held : (r : ListingRecord) → ruled r ≡ true → (m z : ℕ) (d : Body) → node_of r ≡ file m z d → d ≡ listed r.path
-node_held r u m z d h = elim (node_of_lem r u) [ of_dir e ↦ cc | of_file e y ↦ cc | of_link e ↦ cc | of_other e ↦ cc ]
+node_held r u m z d h = elim (node_of_lem r u) [ of_dir e ↦ cc | of_file e y ↦ cc | of_link e ↦ cc ]
 
 module _ (rs : List ListingRecord) (a : AllSound (tree_from rs) rs) (o : ascends [] (tree_from rs) ≡ true) where
   at_root : lookup (tree_from rs) [] ≡ none

@@ -18,11 +18,10 @@ use Rattle.model.specs.Outcome.{Store, outcome, ask, opened}
 use Rattle.model.specs.declared.Record.{Record}
 use Rattle.model.specs.declared.Refusal.TheVariants.{MalformedTable, MalformedListing, MalformedPath, LinkOrRoot}
 use Rattle.model.specs.declared.Refusal.TheVariants.{NotFound, Exists, NotADirectory, IsADirectory, NotEmpty}
-use Rattle.model.specs.declared.Refusal.TheVariants.{BelowSource, Limit, KeyTooLong, NoRoom, LentCount}
-use Rattle.model.specs.declared.Refusal.TheVariants.{RangeTooLarge, PipeOrDevice}
+use Rattle.model.specs.declared.Refusal.TheVariants.{BelowSource, Limit, KeyTooLong, NoRoom}
 use Rattle.model.specs.declared.Answer.TheVariants.{Accepted, Refused}
 use Rattle.model.specs.declared.Finding.TheVariants.{Yes, No, Unanswered}
-use Rattle.model.proofs.Case.{path, typed, dir_at, file_at, link_at, other_at, listing_bytes}
+use Rattle.model.proofs.Case.{path, typed, dir_at, file_at, link_at, listing_bytes}
 use Rattle.model.proofs.Cases.{L}
 
 -- bytes, and whether they are a path
@@ -86,11 +85,8 @@ paths =
 abbrev listing : String → ℕ → ℕ → Bytes → Bytes
 listing mark version n rs = path mark ++ (bytes 2 version ++ (bytes 4 n ++ rs))
 
-abbrev single_in : ℕ → ℕ → ℕ → ℕ → String → Bytes
-single_in version type m z p = listing "RDL" version 1 (typed type m z (path p))
-
 abbrev single : ℕ → ℕ → ℕ → String → Bytes
-single = single_in 1
+single type m z p = listing "RDL" 1 1 (typed type m z (path p))
 
 pub listings : List (Bytes × Bool)
 listings =
@@ -101,9 +97,8 @@ listings =
     -- another mark, another version, a count off by one, a byte behind the records, a path cut short
     ∷ (listing "RDM" 1 0 [], false)
     ∷ (listing "RDL" 0 0 [], false)
-    ∷ (listing "RDL" 3 0 [], false)
+    ∷ (listing "RDL" 2 0 [], false)
     ∷ (listing "RDL" 257 0 [], false)
-    ∷ (listing "RDL" 258 0 [], false)
     ∷ (listing "RDL" 1 1 [], false)
     ∷ (listing "RDL" 1 0 (typed 1 0 0 (path "a")), false)
     ∷ (listing "RDL" 1 1 (typed 1 0 0 (path "a") ++ (0 ∷ [])), false)
@@ -120,30 +115,16 @@ listings =
     ∷ (single 3 0 1 "a", false)
     ∷ (single 3 1 0 "a", false)
     ∷ (single 2 0xFFFF_FFFF_FFFF_FFFF 0 "a", true)
-    -- #108: version 2 has the same kinds with the same rules, and kind 4 with any mtime and size 0
-    ∷ (listing "RDL" 2 0 [], true)
-    ∷ (single_in 2 0 0 0 "a", false)
-    ∷ (single_in 2 1 5 0 "a", true)
-    ∷ (single_in 2 2 5 5 "a", true)
-    ∷ (single_in 2 3 0 0 "a", true)
-    ∷ (single_in 2 3 1 0 "a", false)
-    ∷ (single_in 2 4 0 0 "a", true)
-    ∷ (single_in 2 4 0xFFFF_FFFF_FFFF_FFFF 0 "a", true)
-    ∷ (single_in 2 4 0 1 "a", false)
-    ∷ (single_in 2 4 0 0x8000_0000_0000_0000 "a", false)
-    ∷ (single_in 2 5 0 0 "a", false)
     -- the empty path; a path out of form; the same path twice; not ascending
     ∷ (single 1 0 0 "", false)
     ∷ (single 1 0 0 "..", false)
     ∷ (listing_bytes (dir_at "a" 0 ∷ dir_at "a" 0 ∷ []), false)
     ∷ (listing_bytes (dir_at "b" 0 ∷ dir_at "a" 0 ∷ []), false)
-    -- an ancestor that is missing, is a file, is a link, is a pipe, stands beside a pipe, is missing further up; one
-    -- before `a-b`; one in the order of a tree's walk
+    -- an ancestor that is missing, is a file, is a link, is missing further up; one before `a-b`; one in the order of a
+    -- tree's walk
     ∷ (listing_bytes (file_at "a/x" 0 0 ∷ []), false)
     ∷ (listing_bytes (file_at "a" 0 0 ∷ file_at "a/x" 0 0 ∷ []), false)
     ∷ (listing_bytes (link_at "a" ∷ file_at "a/x" 0 0 ∷ []), false)
-    ∷ (listing_bytes (other_at "a" 0 ∷ file_at "a/x" 0 0 ∷ []), false)
-    ∷ (listing_bytes (dir_at "a" 0 ∷ other_at "a/x" 0 ∷ link_at "b" ∷ []), true)
     ∷ (listing_bytes (dir_at "a/b" 0 ∷ file_at "a/b/x" 0 0 ∷ []), false)
     ∷ (listing_bytes (dir_at "a" 0 ∷ file_at "a-b" 0 0 ∷ file_at "a/x" 0 0 ∷ []), true)
     ∷ (listing_bytes (file_at "a-b" 0 0 ∷ file_at "a/x" 0 0 ∷ []), false)
@@ -264,7 +245,7 @@ openings =
     ∷ (opening 4097, (refused 1 0 0, 1 ∷ 2 ∷ [], 4097))
     ∷ []
 
--- the declared answers, by 01's numbers and those that #103 and #108 add
+-- the declared answers, by 01's numbers
 pub answers : List (Reply × Reply)
 answers =
     (told (Accepted 7), accepted 7)
@@ -281,9 +262,6 @@ answers =
     ∷ (told (Refused Limit), refused 11 0 0)
     ∷ (told (Refused KeyTooLong), refused 12 0 0)
     ∷ (told (Refused NoRoom), refused 13 0 0)
-    ∷ (told (Refused LentCount), refused 17 0 0)
-    ∷ (told (Refused RangeTooLarge), refused 18 0 0)
-    ∷ (told (Refused PipeOrDevice), refused 19 0 0)
     ∷ (told_finding Yes, accepted 1)
     ∷ (told_finding No, accepted 0)
     ∷ (told_finding (Unanswered MalformedListing), refused 2 0 0)

@@ -7,7 +7,7 @@ use Prim.Native.Nat.{ℕ}
 use lib.Dec.{eqb}
 use Rattle.model.specs.Path.{Path, is_path, below, ancestors}
 use Rattle.model.specs.Map.{lookup, put}
-use Rattle.model.specs.Tree.{Body, listed, Node, dir, file, link, other, Entry, own, reference, directory, deleted, Table, Tree, View, view, over, shown, Kind, nothing, a_directory, a_file, a_link, kind_of, kind, other_node, is_other}
+use Rattle.model.specs.Tree.{Body, listed, Node, dir, file, link, Entry, own, reference, directory, deleted, Table, Tree, View, view, over, shown, Kind, nothing, a_directory, a_file, a_link, kind_of, kind}
 use Rattle.model.specs.Checks.{Check, pass, refuse, ◌then◌, unless, form, parent_at, parents_in}
 use Rattle.model.proofs.Orders.{split, Split, below_irrefl, eqb_eq, eqb_true, same_no, and_true, bot, is_none_lem, is_some, opt}
 use Rattle.model.proofs.Maps.{upd, lookup_put, or_else}
@@ -17,14 +17,12 @@ pub data NodeAt (o : Option Node) : Type 0 where
   a_dir : (m : ℕ) → o ≡ some (dir m) → NodeAt o
   a_file_lem : (m s : ℕ) (d : Body) → o ≡ some (file m s d) → NodeAt o
   a_link_lem : o ≡ some link → NodeAt o
-  an_other : (m : ℕ) → o ≡ some (other m) → NodeAt o
 
 pub node_at : (o : Option Node) → NodeAt o
 node_at none = no_node refl
 node_at (some (dir m)) = a_dir m refl
 node_at (some (file m s d)) = a_file_lem m s d refl
 node_at (some link) = a_link_lem refl
-node_at (some (other m)) = an_other m refl
 
 pub data KindIs (k : Kind) : Type 0 where
   is_nothing_lem : k ≡ nothing → KindIs k
@@ -170,10 +168,6 @@ module _ (t : Table) (l : Tree) (i : Inv t l) (k : Path) (e : Entry) where
 pub kind_at : (f : View) (p : Path) (o : Option Node) → f p ≡ o → (p ≡ [] → ⊥) → kind f p ≡ kind_of o
 kind_at f [] o h r = absurd (r refl)
 kind_at f (c ∷ cs) o h r = ap kind_of h
-
-pub other_at_lem : (f : View) (p : Path) (o : Option Node) → f p ≡ o → (p ≡ [] → ⊥) → is_other f p ≡ other_node o
-other_at_lem f [] o h r = absurd (r refl)
-other_at_lem f (c ∷ cs) o h r = ap other_node h
 
 -- entries E put over the table: what is shown, and what has to be seen of E
 module _ (t t' : Table) (l : Tree) (E : Path → Option Entry) (H : (q : Path) → lookup t' q ≡ or_else (E q) (lookup t q)) where

@@ -2,7 +2,6 @@ pub mod Case
 pub mod Cases
 pub mod Corners
 pub mod ContentCases
-pub mod PipeCases
 pub mod Forms
 pub mod Orders
 pub mod Maps

@@ -1,16 +1,16 @@
 -- What it says that bytes are a listing, and that a record of one is in form: the rules, one by one.
 use mathlib.Core.Path.{◌≡◌}
-use mathlib.Core.Bool.{Bool, true, ◌&&◌}
+use mathlib.Core.Bool.{true, ◌&&◌}
 use mathlib.Core.List.{[], ◌∷◌}
 use Prim.Native.Nat.{◌≤◌}
-use lib.Dec.{leb}
+use lib.Dec.{leb, eqb}
 use lib.ListN.{length, take}
 use borrow.Author.Tests.{leb-true}
-use Rattle.model.specs.Bytes.{Bytes, every, same}
+use Rattle.model.specs.Bytes.{Bytes, every, number_at, same}
 use Rattle.model.specs.Path.{is_path}
 use Rattle.model.specs.Map.{ascends}
 use Rattle.model.specs.Tree.{Tree}
-use Rattle.model.specs.Listing.{ListingRecord, record_count, filled, records, version, is_version, has_kind, headed, ruled, tree_in, placed, formed_record, is_listing}
+use Rattle.model.specs.Listing.{ListingRecord, record_count, filled, records, headed, ruled, tree_in, placed, formed_record, is_listing}
 use Rattle.model.proofs.Orders.{and_true}
 
 -- of a listing
@@ -20,18 +20,15 @@ pub record Checked (s : Bytes) : Type 0 where
   pub full : filled s (record_count s) 9 ≡ true
   pub up : ascends [] (tree_in s) ≡ true
   pub formed : every (formed_record (tree_in s)) (records s) ≡ true
-  pub kinds : every (λ r. has_kind (version s) r.type) (records s) ≡ true
 
 pub checked : (s : Bytes) → is_listing s ≡ true → Checked s
 checked s h =
     let l = tree_in s in
-    let kinds : Bool = every (λ r. has_kind (version s) r.type) (records s) in
-    let g = and_true (headed s && filled s (record_count s) 9 && ascends [] l && every (formed_record l) (records s)) kinds h in
-    let a = and_true (headed s && filled s (record_count s) 9 && ascends [] l) (every (formed_record l) (records s)) g.0 in
+    let a = and_true (headed s && filled s (record_count s) 9 && ascends [] l) (every (formed_record l) (records s)) h in
     let b = and_true (headed s && filled s (record_count s) 9) (ascends [] l) a.0 in
     let c = and_true (headed s) (filled s (record_count s) 9) b.0 in
     let mark = same (take 3 s) (82 ∷ 68 ∷ 76 ∷ []) in
-    let d = and_true (leb 9 (length s) && leb (length s) 16777216 && mark) (is_version (version s)) c.0 in
+    let d = and_true (leb 9 (length s) && leb (length s) 16777216 && mark) (eqb (number_at s 3 2) 1) c.0 in
     let e = and_true (leb 9 (length s) && leb (length s) 16777216) mark d.0 in
     let f = and_true (leb 9 (length s)) (leb (length s) 16777216) e.0 in
     record {
@@ -40,7 +37,6 @@ checked s h =
       full = c.1;
       up = b.1;
       formed = a.1;
-      kinds = g.1;
     }
 
 -- of a record over the tree of its listing

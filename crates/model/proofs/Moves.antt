@@ -8,14 +8,14 @@ use Prim.Native.Nat.{ℕ}
 use Rattle.model.specs.Bytes.{every, same}
 use Rattle.model.specs.Path.{Path, below, ancestors, rest}
 use Rattle.model.specs.Map.{is_none, by_rest, lookup, del, puts, only, each, keys, rekey, outside, mapped}
-use Rattle.model.specs.Tree.{Body, listed, Node, dir, file, link, other, Entry, own, reference, directory, deleted, Table, Tree, View, view, over, shown}
+use Rattle.model.specs.Tree.{Body, listed, Node, dir, file, link, Entry, own, reference, directory, deleted, Table, Tree, View, view, over, shown}
 use Rattle.model.specs.Tree.{Kind, nothing, a_directory, a_file, a_link, kind_of, kind, is_directory}
 use Rattle.model.specs.Rename.{stops, as_entry, uncovered, along, carried, moved}
 use Rattle.model.specs.Plain.{plain_move}
 use Rattle.model.proofs.Orders.{split, Split, same_no, same_refl, bot, yea, nay, test, is_none_lem, is_some, opt, mem, mem_ancestors}
 use Rattle.model.proofs.Orders.{rest_is, rest_app, rest_self, below_rest, rest_below, rest_nil, inside_down, below_split, below_moved}
 use Rattle.model.proofs.Maps.{upd, or_else, map_o, lookup_puts, lookup_rekey, lookup_outside, lookup_del, lookup_keys, lookup_mapped, lookup_only}
-use Rattle.model.proofs.Invariant.{node_at, no_node, a_dir, a_file_lem, a_link_lem, an_other}
+use Rattle.model.proofs.Invariant.{node_at, no_node, a_dir, a_file_lem, a_link_lem}
 use Rattle.model.proofs.Invariant.{entry_at, at_none, at_own, at_reference, at_directory, at_deleted, Closed, Inv, shown_over, inv_over, kind_at, kind_entry}
 
 -- the tree after a was moved to b
@@ -90,7 +90,6 @@ entry_free t l cl i p q n b h z = elim (opt (lookup t p)) [
       | no_node v ↦ bot (cc (kind_at (lookup l) p none v (λ r. bot (cc i.rootless))))
       | a_file_lem f g j v ↦ bot (cc (kind_at (lookup l) p (some (file f g j)) v (λ r. bot (cc i.rootless))))
       | a_link_lem v ↦ bot (cc (kind_at (lookup l) p (some link) v (λ r. bot (cc i.rootless))))
-      | an_other f v ↦ bot (cc (kind_at (lookup l) p (some (other f)) v (λ r. bot (cc i.rootless))))
       | a_dir j v ↦ i.dirs p m j q n (cc) v b h z
     ]
   ])
@@ -149,7 +148,6 @@ referred : (q : Path) (g : View) (m s : ℕ) (p : Path) (n : Node) → ((i j : �
 referred q g m s p (dir i) w d z = cc
 referred q g m s p (file i j y) w d z = cc (w i j y d)
 referred q g m s p link w d z = cc
-referred q g m s p (other i) w d z = cc
 
 module _ (t : Table) (l : Tree) (held' : Held l) (cl : Closed (lookup l)) (i : Inv t l) (a b : Path) (o : RenameOk (shown t l) a b) where
   -- what is carried from a path
@@ -200,7 +198,6 @@ module _ (t : Table) (l : Tree) (held' : Held l) (cl : Closed (lookup l)) (i : I
       as_shown (dir m) d v = refl
       as_shown (file m z y) d v = let w = held' q m z y d in ap (λ (c : Body). view (as_entry (file m z c))) w ∙ sym (ap (λ (c : Body). some (file m z c)) w)
       as_shown link d v = absurd (o.unstopped q s link r v refl)
-      as_shown (other m) d v = absurd (o.unstopped q s (other m) r v refl)
 
   M_ref : (q : Path) (m s : ℕ) (p : Path) → M q ≡ some (reference m s p) → lookup l p ≡ some (file m s (listed p))
   M_ref q m s p h = elim (M_from q (reference m s p) h) [
@@ -301,14 +298,14 @@ module _ (f : View) (a b : Path) (o : RenameOk f a b) (q : Path) where
   emptied r d = elim (split b q) [ Split.eq h m ↦ cleared q true m | Split.ne h m ↦ cleared q false m ∙ bare r d h ]
 
   -- the target is not inside the source
-  not_inside : (r : Path) → rest b q ≡ some r → b ≡ a ++ r → ⊥
-  not_inside [] d h = o.two (sym (h ∙ append-nil a))
-  not_inside (x ∷ r) d h = o.apart (rest_below a b x r (ap (rest a) h ∙ rest_app a (x ∷ r) (rest_is b q (x ∷ r) d).1))
+  other : (r : Path) → rest b q ≡ some r → b ≡ a ++ r → ⊥
+  other [] d h = o.two (sym (h ∙ append-nil a))
+  other (x ∷ r) d h = o.apart (rest_below a b x r (ap (rest a) h ∙ rest_app a (x ∷ r) (rest_is b q (x ∷ r) d).1))
 
   move_cleared : (z : Option Path) → rest b q ≡ z
       → or_else (by_rest z (λ s. upd f b none (a ++ s)) none) (by_rest (rest a q) (λ s. none) (upd f b none q)) ≡ by_rest z (λ s. f (a ++ s)) (by_rest (rest a q) (λ s. none) (f q))
   move_cleared none d = ap (by_rest (rest a q) (λ s. none)) (cleared q false (same_no b q (λ g. bot (cc (rest_self b)))))
-  move_cleared (some r) d = ap (λ (x : Option Node). or_else x (by_rest (rest a q) (λ s. none) (upd f b none q))) (cleared (a ++ r) false (same_no b (a ++ r) (not_inside r d)))
+  move_cleared (some r) d = ap (λ (x : Option Node). or_else x (by_rest (rest a q) (λ s. none) (upd f b none q))) (cleared (a ++ r) false (same_no b (a ++ r) (other r d)))
       ∙ else_none (f (a ++ r)) (by_rest (rest a q) (λ s. none) (upd f b none q)) (ap (by_rest (rest a q) (λ s. none)) (emptied r d) ∙ none_either (rest a q))
 
 module _ (s : Tree) (a b : Path) (o : RenameOk (lookup s) a b) where
@@ -339,7 +336,6 @@ module _ (t : Table) (l : Tree) (i : Inv t l) (a b : Path) where
     | a_dir m e ↦ cc (kind_at (shown t l) p (some (dir m)) e r)
     | a_file_lem m s d e ↦ cc (kind_at (shown t l) p (some (file m s d)) e r)
     | a_link_lem e ↦ e
-    | an_other m e ↦ cc (kind_at (shown t l) p (some (other m)) e r)
   ]
 
   pub kind_absent : (p : Path) → (p ≡ [] → ⊥) → kind (shown t l) p ≡ nothing → shown t l p ≡ none
@@ -348,5 +344,4 @@ module _ (t : Table) (l : Tree) (i : Inv t l) (a b : Path) where
     | a_dir m e ↦ cc (kind_at (shown t l) p (some (dir m)) e r)
     | a_file_lem m s d e ↦ cc (kind_at (shown t l) p (some (file m s d)) e r)
     | a_link_lem e ↦ cc (kind_at (shown t l) p (some link) e r)
-    | an_other m e ↦ cc (kind_at (shown t l) p (some (other m)) e r)
   ]

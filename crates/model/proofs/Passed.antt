@@ -7,8 +7,8 @@ use lib.ListN.{length}
 use Rattle.model.specs.Bytes.{same}
 use Rattle.model.specs.Path.{Path, below}
 use Rattle.model.specs.Map.{lookup, rekey}
-use Rattle.model.specs.Tree.{Table, Tree, View, shown, Kind, nothing, a_directory, a_file, a_link, kind, is_nothing, is_other}
-use Rattle.model.specs.Checks.{Check, pass, refuse, ◌then◌, unless, parent_checks, not_root, no_visible_child, Memory, charged}
+use Rattle.model.specs.Tree.{Table, Tree, View, shown, Kind, nothing, a_directory, a_file, a_link, kind, is_nothing}
+use Rattle.model.specs.Checks.{Check, pass, refuse, ◌then◌, parent_checks, not_root, no_visible_child, Memory, charged}
 use Rattle.model.specs.Rename.{not_link, not_deleted, no_clash, present, if_directory, plan, budget, walk_from, walked, carried, moved, keys_fit}
 use Rattle.model.specs.Rename.{rename_paths, rename_types, directory_memory, rename_memory, onto_itself, rename_checks}
 use Rattle.model.proofs.Orders.{Split, split, same_no, same_refl, bot, yea, nay, test, and_true}
@@ -30,7 +30,6 @@ pub record TypesPassed (t : Table) (l : Tree) (a b : Path) : Type 0 where
   pub destination_empty : if_directory (kind (shown t l) a) (if_directory (kind (shown t l) b) (no_visible_child 1 t l b)) ≡ pass
   pub not_below : cond (below a b) (refuse 10 0 (length a)) pass ≡ pass
   pub source_present : present (length a) (kind (shown t l) a) ≡ pass
-  pub source_no_other : unless 19 (not (is_other (shown t l) a)) ≡ pass
 
 -- `rename_memory`: what moving takes of the memory
 pub record MemoryPassed (m : Memory) (t : Table) (l : Tree) (a b : Path) : Type 0 where
@@ -119,23 +118,15 @@ module _ (t : Table) (l : Tree) (a b : Path) where
       let f = shown t l in
       let clash = then_pass (no_clash (length b) (kind f a) (kind f b)) _ h in
       let vacant = then_pass (if_directory (kind f a) (if_directory (kind f b) (no_visible_child 1 t l b))) _ clash.1 in
-      let apart = then_pass (cond (below a b) (refuse 10 0 (length a)) pass) _ vacant.1 in
-      let last = then_pass (present (length a) (kind f a)) (unless 19 (not (is_other f a))) apart.1 in
-      record {
-        types_agree = clash.0;
-        destination_empty = vacant.0;
-        not_below = apart.0;
-        source_present = last.0;
-        source_no_other = last.1;
-      }
+      let last = then_pass (cond (below a b) (refuse 10 0 (length a)) pass) (present (length a) (kind f a)) vacant.1 in
+      record { types_agree = clash.0; destination_empty = vacant.0; not_below = last.0; source_present = last.1 }
 
   pub passed_types : TypesPassed t l a b → rename_types t l a b ≡ pass
   passed_types p =
       let f = shown t l in
       then_both (no_clash (length b) (kind f a) (kind f b)) _ p.types_agree (
       then_both (if_directory (kind f a) (if_directory (kind f b) (no_visible_child 1 t l b))) _ p.destination_empty (
-      then_both (cond (below a b) (refuse 10 0 (length a)) pass) _ p.not_below (
-      then_both (present (length a) (kind f a)) _ p.source_present p.source_no_other)))
+      then_both (cond (below a b) (refuse 10 0 (length a)) pass) _ p.not_below p.source_present))
 
 module _ (m : Memory) (t : Table) (l : Tree) (a b : Path) where
   memory_passed : rename_memory m t l a b ≡ pass → MemoryPassed m t l a b

@@ -22,13 +22,13 @@ use Rattle.model.specs.Plain.{plain_effect}
 use Rattle.model.specs.Cause.{Cause, short_work, malformed_listing, exceeds, no_room}
 use Rattle.model.specs.Posix.{Posix}
 use Rattle.model.specs.Runs.{State, fed, step, after, begin, moved_to, WordedCall, WordedCalls, Throughout, entries_of, kept_bytes}
-use Rattle.model.specs.Runs.{AcceptedByRules, RefusedWithCause, LeavesOthers, WithinLimit, DoesAsPosix, LeavesNothing, DoesAsSaid}
+use Rattle.model.specs.Runs.{AcceptedByRules, RefusedWithCause, LeavesOthers, WithinLimit, DoesAsPosix, DoesAsSaid}
 use Rattle.model.proofs.Orders.{bot}
 use Rattle.model.proofs.Words.{IsBytes}
 use Rattle.model.proofs.Codec.{decoded, charge_exact, encoded, moved_table, opened_table}
 use Rattle.model.proofs.Invariant.{then_pass, unless_pass}
 use Rattle.model.proofs.Agree.{Sound, sound_empty, accepts, allows, keeps, Caused, passed, because}
-use Rattle.model.proofs.Effects.{stays, in_limit, posix, posix_leaves}
+use Rattle.model.proofs.Effects.{stays, in_limit, posix}
 use Rattle.model.proofs.Shapes.{not_refused, untouched}
 use Rattle.model.proofs.Formed.{FineTable, fine_is, fine_empty, listing_fine, changed_fine}
 
@@ -221,12 +221,6 @@ module _ (listing : Bytes) (E : ℕ) where
             subst⁻¹ (λ (t : Table). Posix (shown (entries_of x.store) (tree_in listing)) (shown t (tree_in listing)) q.call) m.read
             (posix (entries_of x.store) (tree_in listing) (r.sound p.well).inv l.held l.closed (limited x.store.rec.entry_size q.limit) q.call p.rule)
 
-    nothing_left : (x : State) (q : Request) → WordedCall q.call → Reached x → LeavesNothing listing x q
-    nothing_left x q w r a b v e n h p u =
-        let f = shown (entries_of x.store) (tree_in listing) in
-        let g = shown (entries_of (step listing q x).store) (tree_in listing) in
-        posix_leaves f g a b (subst (Posix f g) e (as_posix x q w r v h)) n p u
-
     -- a call in a reached state
     does_as_said : (x : State) (q : Request) → WordedCall q.call → Reached x → DoesAsSaid listing x q
     does_as_said x q w r = record {
@@ -236,7 +230,6 @@ module _ (listing : Bytes) (E : ℕ) where
       within_limit = limit_kept x q w r;
       refused_leaves = untouched listing q x.store;
       as_posix = as_posix x q w r;
-      leaves_nothing = nothing_left x q w r;
       malformed = λ z v h. both (is_listing listing) (accepted_passed q x.store v h).well z;
     }
 

@@ -11,12 +11,12 @@ use lib.ListN.{length}
 use lib.Dec.{eqb}
 use Rattle.model.specs.Path.{Path, below, child, slashless}
 use Rattle.model.specs.Map.{lookup}
-use Rattle.model.specs.Tree.{Node, dir, file, link, other, Entry, own, reference, directory, deleted, Table, Tree}
+use Rattle.model.specs.Tree.{Node, dir, file, link, Entry, own, reference, directory, deleted, Table, Tree}
 use Rattle.model.specs.Tree.{view, shown, a_directory, kind_of, kind}
 use Rattle.model.specs.Rules.{Rules}
 use Rattle.model.proofs.Orders.{bot, yea, nay, test, is_none_lem, is_some, opt, and_true, eqb_true}
 use Rattle.model.proofs.Invariant.{Closed, Inv, kind_at, entry_at, at_none, at_own, at_reference, at_directory, at_deleted}
-use Rattle.model.proofs.Invariant.{kind_is, is_nothing_lem, is_directory_lem, is_file_lem, is_link', node_at, no_node, a_dir, a_file_lem, a_link_lem, an_other}
+use Rattle.model.proofs.Invariant.{kind_is, is_nothing_lem, is_directory_lem, is_file_lem, is_link', node_at, no_node, a_dir, a_file_lem, a_link_lem}
 
 pub below_length : (k q : Path) → below k q ≡ true → length k < length q
 below_length [] [] h = absurd (bot (cc))
@@ -99,7 +99,6 @@ module _ (t : Table) (l : Tree) (c : Closed (lookup l)) (r : Rules t l) (root : 
             | no_node e ↦ bot (cc (kind_at (lookup l) d none e s))
             | a_file_lem i v u e ↦ bot (cc (kind_at (lookup l) d (some (file i v u)) e s))
             | a_link_lem e ↦ bot (cc (kind_at (lookup l) d (some link) e s))
-            | an_other i e ↦ bot (cc (kind_at (lookup l) d (some (other i)) e s))
             | a_dir i e ↦ elim (entry_at (lookup t d)) [
               | at_none v ↦ r.children k m j d (dir i) h g p.1 e v
               | at_directory v u ↦ ih d v i (omega arith) u e p.2

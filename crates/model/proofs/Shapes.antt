@@ -3,7 +3,7 @@
 -- Of the changing calls, the queries and opening, for every input: what the bytes are, and whether a call built them, is not asked.
 use mathlib.Core.Path.{◌∙◌, ◌≡◌, ap, ap₂, refl, subst₃, sym}
 use mathlib.Core.List.{List, [], ◌∷◌}
-use mathlib.Core.Bool.{Bool, true, false, cond, not, ◌||◌}
+use mathlib.Core.Bool.{Bool, true, false, cond, ◌||◌}
 use mathlib.Core.Option.{Option, none, some}
 use Prim.Native.Nat.{ℕ, ◌+◌, ◌≤◌, ◌-◌}
 use lib.Dec.{T, leb, ltb, eqb, leb→le}
@@ -11,13 +11,13 @@ use lib.ListN.{length}
 use Rattle.model.specs.Bytes.{Bytes, every, same}
 use Rattle.model.specs.Path.{Path, short, is_path, ancestors, below}
 use Rattle.model.specs.Map.{lookup, keys, rekey}
-use Rattle.model.specs.Tree.{Node, Entry, own, reference, directory, deleted, Table, Tree, View, shown, Kind, nothing, a_directory, a_file, a_link, kind, is_directory, is_other}
+use Rattle.model.specs.Tree.{Node, Entry, own, reference, directory, deleted, Table, Tree, View, shown, Kind, nothing, a_directory, a_file, a_link, kind, is_directory}
 use Rattle.model.specs.Table.{charge, is_table, table_in, sized}
 use Rattle.model.specs.Listing.{is_listing, tree_in}
 use Rattle.model.specs.Checks.{Check, pass, refuse, ◌then◌, unless, form, parent_at, parents_in, parent_checks, write_at, ancestor_at, ancestors_in, mkdir_parents, mkdir_at, unlink_at, unlink_entry, not_root, visible_child, no_visible_child, directory_at, rmdir_entry, Memory, limited, unlimited, charged}
-use Rattle.model.specs.Rename.{not_link, not_deleted, no_clash, present, if_directory, planned, plan, budget, Walk, sum, over_budget, at_link, at_other, stopped, walk_from, walked, keys_fit, carried, moved, rename_paths, rename_types, rename_memory, onto_itself, rename_checks}
+use Rattle.model.specs.Rename.{not_link, not_deleted, no_clash, present, if_directory, planned, plan, budget, Walk, sum, over_budget, at_link, stopped, walk_from, walked, keys_fit, carried, moved, rename_paths, rename_types, rename_memory, onto_itself, rename_checks}
 use Rattle.model.specs.Content.{is_own, needed, appended, append_memory, own_at}
-use Rattle.model.specs.Calls.{Call, write, append, write_inside, mkdir, unlink, rmdir, rename, changed, forms, rules, value_of, Query, says_at}
+use Rattle.model.specs.Calls.{Call, write, append, write_inside, mkdir, unlink, rmdir, rename, changed, forms, rules, value_of, Query, says}
 use Rattle.model.specs.Answer.{accepted, refused}
 use Rattle.model.specs.Outcome.{Store, Request, lent, room, verdict, settle, outcome, answered, ask, opened}
 use Rattle.model.proofs.Orders.{bot, yea, nay, test, mem, same_refl, mem_ancestors}
@@ -57,8 +57,6 @@ pub data Shaped (c : Call) : (number path len : ℕ) → Type 0 where
   -- #103: "Lent bytes whose count isn't the recorded size … are 17"; "an offset whose sum with the data length passes 2^64 − 1 is 18"
   lent_count : (p : Path) (m : ℕ) (d b : Bytes) → c ≡ append p m d b → Shaped c 17 0 0
   range_too_large : (p : Path) (m o : ℕ) (d : Bytes) → c ≡ write_inside p m o d → Shaped c 18 0 0
-  -- #108: "A rename whose source is of kind 4 is 19 …, and one met in the walk without an entry is 19"; "Numbers from 14 up … return 0, 0"
-  pipe_or_device : (a b : Path) → c ≡ rename a b → Shaped c 19 0 0
 
 -- a check that passes, or refuses with that shape
 data Well (c : Call) : Check → Type 0 where
@@ -175,6 +173,11 @@ module _ {c : Call} {p : Path} (at : Names c 0 p) where
   well_present a_file = passes
   well_present a_link = passes
 
+  well_walked : (x : Walk) → Well c (walked (length p) x)
+  well_walked (sum n) = passes
+  well_walked over_budget = refuses limit
+  well_walked (stopped at_link n) = here at 4 tt tt
+
 -- the ancestors of mkdir with parents
 module _ (p : Path) (ok : Bool) (m : ℕ) where
   well_ancestor : (q : Path) → below q p ≡ true → (k : Kind) → Well (mkdir p true ok m) (ancestor_at (length q) (length p) k)
@@ -199,12 +202,6 @@ well_if_directory : {c : Call} {x : Check} (k : Kind) → Well c x → Well c (i
 well_if_directory k h = well_cond (is_directory k) h passes
 
 module _ (a b : Path) where
-  well_walked : (x : Walk) → Well (rename a b) (walked (length a) x)
-  well_walked (sum n) = passes
-  well_walked over_budget = refuses limit
-  well_walked (stopped at_link n) = here (source a b) 4 tt tt
-  well_walked (stopped at_other n) = refuses (pipe_or_device a b refl)
-
   well_clash : (k j : Kind) → Well (rename a b) (no_clash (length b) k j)
   well_clash k nothing = passes
   well_clash k a_directory = well_cond (is_directory k) passes (here (destination a b) 8 tt tt)
@@ -239,11 +236,10 @@ module _ (a b : Path) where
       and well_if_directory (kind f a) (well_if_directory (kind f b) (well_empty (destination a b) t l))
       and well_cond (below a b) (refuses (below_source a b refl)) passes
       and well_present (source a b) (kind f a)
-      and well_unless 19 (not (is_other f a)) (pipe_or_device a b refl)
 
   well_memory : (m : Memory) (t : Table) (l : Tree) → Well (rename a b) (rename_memory m t l a b)
   well_memory m t l =
-      let walk = well_walked (walk_from t l (budget m t a b) a) in
+      let walk = well_walked (source a b) (walk_from t l (budget m t a b) a) in
       well_if_directory (kind (shown t l) a) (well_plan m t and well_if_directory (kind (lookup l) a) walk)
       and well_charged m (moved t l a b)
       and well_keys_fit m (rekey a b (carried t l a))
@@ -251,7 +247,7 @@ module _ (a b : Path) where
   well_rename : (m : Memory) (t : Table) (l : Tree) → Well (rename a b) (rename_checks m t l a b)
   well_rename m t l = well_paths t l and well_cond (onto_itself (shown t l) a b) passes (well_types t l and well_memory m t l)
 
--- 3, and 4 to 12, and 17 to 19, of each call
+-- 3, and 4 to 12, 17 and 18, of each call
 well_forms : (c : Call) → Well c (forms c)
 well_forms (write p m d) = well_form (written p m d)
 well_forms (append p m d b) = well_form (added p m d b)
@@ -269,9 +265,7 @@ well_rules m t l (write p d x) =
 well_rules m t l (append p e d b) =
     let f = shown t l in
     let at = added p e d b in
-    ((well_parents at f and well_write_at at (kind f p))
-    and well_cond (is_other f p) (here at 5 tt tt) passes
-    and well_unless 17 (eqb (length b) (needed (f p))) (lent_count p e d b refl))
+    ((well_parents at f and well_write_at at (kind f p)) and well_unless 17 (eqb (length b) (needed (f p))) (lent_count p e d b refl))
     and well_budget m t (f p) (length (appended (f p) d b))
     and well_charged m (changed t l (append p e d b))
 well_rules m t l (write_inside p e o d) =
@@ -331,7 +325,7 @@ pub data ShapedQuery : (number path len : ℕ) → Type 0 where
 
 pub shaped_query : (f : Query) (listing : Bytes) (p : Path) (s : Store) (n w k : ℕ) → ask f listing p s ≡ refused n w k → ShapedQuery n w k
 shaped_query f l p s n w k h =
-    go (is_table s.table s.rec) (is_listing l) (is_path p) (says_at f (shown (table_in s.table s.rec) (tree_in l)) p) h
+    go (is_table s.table s.rec) (is_listing l) (is_path p) (says f (kind (shown (table_in s.table s.rec) (tree_in l)) p)) h
   where
     go : (a b d y : Bool) → answered (unless 1 a then unless 2 b then cond d pass (refuse 3 0 0)) y ≡ refused n w k → ShapedQuery n w k
     go false b d y e = restated ShapedQuery n w k bad_table e

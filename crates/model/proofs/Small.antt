@@ -9,7 +9,7 @@ use lib.ListN.{length}
 use Rattle.model.specs.Bytes.{same}
 use Rattle.model.specs.Path.{Path, below, child, ancestors}
 use Rattle.model.specs.Map.{Map, lookup, put, puts, each, keys}
-use Rattle.model.specs.Tree.{Node, dir, file, link, other, Entry, own, reference, directory, deleted, Table, Tree, View, over, shown}
+use Rattle.model.specs.Tree.{Node, dir, file, link, Entry, own, reference, directory, deleted, Table, Tree, View, over, shown}
 use Rattle.model.specs.Tree.{Kind, nothing, a_directory, a_file, a_link, kind_of, kind, is_nothing}
 use Rattle.model.specs.Checks.{Check, pass, ◌then◌, parent_checks, write_at, write_checks, ancestor_at, ancestors_in, mkdir_at, mkdir_parents, missing, makes}
 use Rattle.model.specs.Checks.{unlink_at, unlink_checks, not_root, visible_child, no_visible_child, directory_at, rmdir_entry, rmdir_checks}
@@ -199,7 +199,6 @@ some_kind : (n : Node) → is_nothing (kind_of (some n)) ≡ false
 some_kind (dir m) = refl
 some_kind (file m z b) = refl
 some_kind link = refl
-some_kind (other m) = refl
 
 module _ (t : Table) (l : Tree) (p : Path) (w : ℕ) where
   pub childless : no_visible_child w t l p ≡ pass → (q : Path) (x : Node) → child p q ≡ true → shown t l q ≡ some x → ⊥

@@ -12,12 +12,12 @@ use lib.Dec.{eqb, leb, leb→le, nleb→lt}
 use Rattle.model.specs.Bytes.{cons_if}
 use Rattle.model.specs.Path.{Path, components, below, child, slashless}
 use Rattle.model.specs.Map.{is_none, lookup, only}
-use Rattle.model.specs.Tree.{Node, dir, file, link, other, Entry, Table, Tree, kind_of, is_directory}
-use Rattle.model.specs.Rename.{Stop, at_link, at_other, stops, Walk, sum, over_budget, stopped, in_budget, visit, visits, children, last_first, enter, walk, depth, walk_from}
+use Rattle.model.specs.Tree.{Node, dir, file, link, Entry, Table, Tree, kind_of, is_directory}
+use Rattle.model.specs.Rename.{Stop, at_link, stops, Walk, sum, over_budget, stopped, in_budget, visit, visits, children, last_first, enter, walk, depth, walk_from}
 use Rattle.model.proofs.Orders.{bot, yea, nay, test, and_true, eqb_eq, split, Split, mem, same_refl, below_trans}
 use Rattle.model.proofs.Maps.{Ascending, lookup_low, lookup_only, ascending_only}
 use Rattle.model.proofs.Texts.{on_first_length}
-use Rattle.model.proofs.Invariant.{Closed, kind_at, node_at, no_node, a_dir, a_file_lem, a_link_lem, an_other}
+use Rattle.model.proofs.Invariant.{Closed, kind_at, node_at, no_node, a_dir, a_file_lem, a_link_lem}
 use Rattle.model.proofs.Rules.{child_below, child_root, way}
 
 -- how deep a path stands
@@ -189,7 +189,6 @@ module _ (b : Option ℕ) where
   visit_stops (sum s) p (dir m) h = absurd (bot (cc))
   visit_stops (sum s) p (file m z c) h = absurd (bot (cc))
   visit_stops (sum s) p link h = tt
-  visit_stops (sum s) p (other m) h = tt
 
   visits_sum : (xs : Tree) (w : Walk) (s : ℕ) (q : Path) (n : Node) → visits b w xs ≡ sum s → lookup xs q ≡ some n → stops n ≡ true → ⊥
   visits_sum [] w s q n h e k = bot (cc)
@@ -206,7 +205,6 @@ module _ (b : Option ℕ) where
   visit_met x v s p (dir m) h = absurd (budget_stopped b (s + 3 * length p + 512) x v h)
   visit_met x v s p (file m z c) h = absurd (budget_stopped b (s + 2 * length p + 512) x v h)
   visit_met x v s p link h = refl
-  visit_met x v s p (other m) h = refl
 
   -- a node that stops the walk, found in a tree
   abbrev StopIn : Tree → Type 0
@@ -269,7 +267,6 @@ module _ (t : Table) (l : Tree) where
               | no_node v ↦ bot (cc (kind_at (lookup l) p none v o))
               | a_file_lem m a r v ↦ bot (cc (kind_at (lookup l) p (some (file m a r)) v o))
               | a_link_lem v ↦ bot (cc (kind_at (lookup l) p (some link) v o))
-              | an_other m v ↦ bot (cc (kind_at (lookup l) p (some (other m)) v o))
               | a_dir m v ↦
                   let a = found_in (children t l d) [] p m (in_children d p (dir m) z.1 (g p i z.2) v) in
                   let r = enter_sum (walk n t l b) (walk_ended n) (last_first (children t l d) []) (visits b w (children t l d)) s h p a in
@@ -364,10 +361,6 @@ module _ (B f : ℕ) where
   visit_beside p link _ _ (over s h g) = over_stopped at_link s h g
   visit_beside p link _ _ (both_stopped x s h g) = both_stopped x s h g
   visit_beside p link _ _ (over_stopped x s h g) = over_stopped x s h g
-  visit_beside p (other m) _ _ (both s h g) = both_stopped at_other s h g
-  visit_beside p (other m) _ _ (over s h g) = over_stopped at_other s h g
-  visit_beside p (other m) _ _ (both_stopped x s h g) = both_stopped x s h g
-  visit_beside p (other m) _ _ (over_stopped x s h g) = over_stopped x s h g
 
   visits_beside : (xs : Tree) (v w : Walk) → Beside B f v w → Beside B f (visits (some B) v xs) (visits none w xs)
   visits_beside [] v w h = h

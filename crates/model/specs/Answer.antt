@@ -4,7 +4,7 @@ use Rattle.model.specs.declared.Refusal.{Refusal}
 use Rattle.model.specs.declared.Refusal.TheVariants.{MalformedTable, MalformedListing, MalformedPath, LinkOrRoot}
 use Rattle.model.specs.declared.Refusal.TheVariants.{NotFound, Exists, NotADirectory, IsADirectory, NotEmpty}
 use Rattle.model.specs.declared.Refusal.TheVariants.{BelowSource, Limit, KeyTooLong, NoRoom, LentCount}
-use Rattle.model.specs.declared.Refusal.TheVariants.{RangeTooLarge, PipeOrDevice}
+use Rattle.model.specs.declared.Refusal.TheVariants.{RangeTooLarge}
 use Rattle.model.specs.declared.Answer.{Answer}
 use Rattle.model.specs.declared.Answer.TheVariants.{Accepted, Refused}
 use Rattle.model.specs.declared.Finding.{Finding}
@@ -32,7 +32,6 @@ told_refusal KeyTooLong = refused 12 0 0
 told_refusal NoRoom = refused 13 0 0
 told_refusal LentCount = refused 17 0 0
 told_refusal RangeTooLarge = refused 18 0 0
-told_refusal PipeOrDevice = refused 19 0 0
 
 -- a changing call's answer; a query's, 1 for yes and 0 for no
 abbrev pub told : Answer → Reply

@@ -1,11 +1,11 @@
--- The calls of document 01 and #103 on a table and a tree: the checks in their order, from 3 to 12 and from 17 to 19,
--- the table after an accepted call, and the queries.
-use Rattle.std.specs.Prelude.{Bool, true, false, cond, not, ◌&&◌, [], ℕ, length}
+-- The calls of document 01 and #103 on a table and a tree: the checks in their order from 3 to 12, 17 and 18, the table
+-- after an accepted call, and the queries.
+use Rattle.std.specs.Prelude.{Bool, true, false, cond, [], ℕ, length}
 use Rattle.model.specs.Bytes.{Bytes}
 use Rattle.model.specs.Path.{Path}
 use Rattle.model.specs.Map.{put, puts, each}
-use Rattle.model.specs.Tree.{own, directory, deleted, Table, Tree, View, shown, Kind, nothing, a_directory, a_file}
-use Rattle.model.specs.Tree.{a_link, kind, is_other}
+use Rattle.model.specs.Tree.{own, directory, deleted, Table, Tree, shown, Kind, nothing, a_directory, a_file, a_link}
+use Rattle.model.specs.Tree.{kind}
 use Rattle.model.specs.Checks.{Check, ◌then◌, form, write_checks, mkdir_at, mkdir_parents, makes, unlink_checks}
 use Rattle.model.specs.Checks.{rmdir_checks, Memory, charged}
 use Rattle.model.specs.Rename.{moved, onto_itself, rename_checks}
@@ -40,7 +40,7 @@ forms (unlink p) = form 0 p
 forms (rmdir p) = form 0 p
 forms (rename a b) = form 0 a then form 1 b
 
--- 4 to 12, and 17 to 19
+-- 4 to 12, 17 and 18
 abbrev pub rules : Memory → Table → Tree → Call → Check
 rules memory t l (write p m c) = write_checks (shown t l) p then charged memory (changed t l (write p m c))
 rules memory t l (append p m d b) =
@@ -84,9 +84,3 @@ says is_dir nothing = false
 says is_dir a_directory = true
 says is_dir a_file = false
 says is_dir a_link = false
-
--- #108, of a pipe or device: "Exists says yes, is_file no"
-abbrev pub says_at : Query → View → Path → Bool
-says_at exists f p = says exists (kind f p)
-says_at is_file f p = says is_file (kind f p) && not (is_other f p)
-says_at is_dir f p = says is_dir (kind f p)

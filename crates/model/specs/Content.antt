@@ -4,7 +4,7 @@ use Rattle.std.specs.Prelude.{Bool, true, false, cond, ◌||◌, [], ◌∷◌, 
 use Rattle.std.proofs.Math.Option.{Option, none, some}
 use Rattle.model.specs.Bytes.{Bytes}
 use Rattle.model.specs.Path.{Path}
-use Rattle.model.specs.Tree.{held, listed, Node, dir, file, link, other, Table, View, is_other}
+use Rattle.model.specs.Tree.{held, listed, Node, dir, file, link, Table, View}
 use Rattle.model.specs.Table.{padded, charge}
 use Rattle.model.specs.Checks.{Check, pass, refuse, ◌then◌, unless, write_checks, Memory, limited, unlimited}
 
@@ -15,7 +15,6 @@ is_own (some (dir m)) = false
 is_own (some (file m z (held c))) = true
 is_own (some (file m z (listed q))) = false
 is_own (some link) = false
-is_own (some (other m)) = false
 
 -- the bytes that a file holds, where b are those that the caller lends of a listed one
 abbrev pub content_of : Option Node → Bytes → Bytes
@@ -24,7 +23,6 @@ content_of (some (dir m)) b = []
 content_of (some (file m z (held c))) b = c
 content_of (some (file m z (listed q))) b = b
 content_of (some link) b = []
-content_of (some (other m)) b = []
 
 -- how many bytes are to be lent: "the recorded size (0 where no listed file's bytes are needed)"
 abbrev pub needed : Option Node → ℕ
@@ -33,19 +31,14 @@ needed (some (dir m)) = 0
 needed (some (file m z (held c))) = 0
 needed (some (file m z (listed q))) = z
 needed (some link) = 0
-needed (some (other m)) = 0
 
 -- append: the data d behind what the file holds
 abbrev pub appended : Option Node → Bytes → Bytes → Bytes
 appended o d b = content_of o b ++ d
 
--- as for write; #108: at a pipe or device "append gives 5 (before 17)"; "Lent bytes whose count isn't the recorded size
--- … are 17"
+-- "Lent bytes whose count isn't the recorded size … are 17"
 abbrev pub append_checks : View → Path → Bytes → Check
-append_checks f p b =
-    write_checks f p
-    then cond (is_other f p) (refuse 5 0 (length p)) pass
-    then unless 17 (eqb (length b) (needed (f p)))
+append_checks f p b = write_checks f p then unless 17 (eqb (length b) (needed (f p)))
 
 -- "The memory checks are those two functions' own": unless the file is an own one, `append_bytes` has its whole new
 -- content, of n bytes, beside the charge as it is

@@ -3,7 +3,7 @@ use Rattle.std.specs.Prelude.{Bool, cond, ◌&&◌, ◌||◌, List, [], ◌∷�
 use Rattle.model.specs.Bytes.{Bytes, every, number_at, same}
 use Rattle.model.specs.Path.{Path, is_path, ancestors}
 use Rattle.model.specs.Map.{lookup, ascends}
-use Rattle.model.specs.Tree.{listed, Node, dir, file, link, other, Tree, kind, is_directory}
+use Rattle.model.specs.Tree.{listed, Node, dir, file, link, Tree, kind, is_directory}
 
 -- mtime and size are the 64 bits that stand in the record
 pub record ListingRecord : Type 0 where
@@ -40,34 +40,21 @@ records_from s (suc n) at = record_at s at ∷ records_from s n (record_end s at
 abbrev pub records : Bytes → List ListingRecord
 records s = records_from s (record_count s) 9
 
-abbrev pub version : Bytes → ℕ
-version s = number_at s 3 2
-
--- which versions there are, and which kinds each has: "1 directory, 2 file, 3 link"; #108: "Listing version 2 has kind
--- 4, other"
-abbrev pub is_version : ℕ → Bool
-is_version v = eqb v 1 || eqb v 2
-
-abbrev pub has_kind : ℕ → ℕ → Bool
-has_kind v k = cond (eqb v 1) (leb k 3) (leb k 4)
-
 -- "mark `RDL`, a 16-bit version 1, a 32-bit count …"; "A listing has at most 16 MiB."
 abbrev pub headed : Bytes → Bool
-headed s = leb 9 (length s) && leb (length s) 16777216 && same (take 3 s) (82 ∷ 68 ∷ 76 ∷ []) && is_version (version s)
+headed s = leb 9 (length s) && leb (length s) 16777216 && same (take 3 s) (82 ∷ 68 ∷ 76 ∷ []) && eqb (number_at s 3 2) 1
 
--- "Size is at least 0 for a file, else 0; a link's mtime bits are 0."; #108: "other, with any mtime bits and with size
--- 0"
+-- "1 directory, 2 file, 3 link"; "Size is at least 0 for a file, else 0; a link's mtime bits are 0."
 abbrev pub ruled : ListingRecord → Bool
 ruled r =
     (eqb r.type 1 && eqb r.size 0)
     || (eqb r.type 2 && ltb r.size 0x8000_0000_0000_0000)
     || (eqb r.type 3 && eqb r.size 0 && eqb r.mtime 0)
-    || (eqb r.type 4 && eqb r.size 0)
 
 -- "a node for each record, a listed file held by its own path"
 abbrev pub node_of : ListingRecord → Node
 node_of r = cond (eqb r.type 1) (dir r.mtime) (cond (eqb r.type 2)
-    (file r.mtime r.size (listed r.path)) (cond (eqb r.type 3) link (other r.mtime)))
+    (file r.mtime r.size (listed r.path)) link)
 
 abbrev pub tree_from : List ListingRecord → Tree
 tree_from [] = []
@@ -84,7 +71,7 @@ placed l r = every (λ q. is_directory (kind (lookup l) q)) (ancestors r.path)
 abbrev pub formed_record : Tree → ListingRecord → Bool
 formed_record l r = is_path r.path && ruled r && placed l r
 
--- "Paths ascend strictly by bytes … and not empty": from the empty path on; each record's kind is one of the version's
+-- "Paths ascend strictly by bytes … and not empty": from the empty path on
 abbrev pub is_listing : Bytes → Bool
 is_listing s = let l = tree_in s in headed s && filled s (record_count s) 9 && ascends [] l
-    && every (formed_record l) (records s) && every (λ r. has_kind (version s) r.type) (records s)
+    && every (formed_record l) (records s)

@@ -2,11 +2,11 @@
 use Rattle.std.specs.Prelude.{◌≡◌, Bool, true, cond, ◌&&◌, [], ℕ, leb, length, replicate}
 use Rattle.model.specs.Bytes.{Bytes}
 use Rattle.model.specs.Path.{Path}
-use Rattle.model.specs.Tree.{Table, View, shown}
+use Rattle.model.specs.Tree.{Table, View, shown, kind}
 use Rattle.model.specs.Listing.{is_listing, tree_in}
 use Rattle.model.specs.Table.{encode, padded, record_of, sized, is_table, table_in}
 use Rattle.model.specs.Checks.{Check, pass, refuse, ◌then◌, unless, form, limited}
-use Rattle.model.specs.Calls.{Call, changed, forms, rules, value_of, Query, says_at}
+use Rattle.model.specs.Calls.{Call, changed, forms, rules, value_of, Query, says}
 use Rattle.model.specs.Answer.{Reply, accepted, refused}
 use Rattle.model.specs.declared.Record.{Record}
 
@@ -79,7 +79,7 @@ answered (refuse n w k) yes? = refused n w k
 abbrev pub ask : Query → Bytes → Path → Store → Reply
 ask q listing p s =
     answered (unless 1 (is_table s.table s.rec) then unless 2 (is_listing listing) then form 0 p)
-    (says_at q (shown_in listing s.table s.rec) p)
+    (says q (kind (shown_in listing s.table s.rec) p))
 
 -- "Opening zeroes the buffer and gives the empty record; its one refusal is 1, for E or a buffer above 16 MiB."
 -- The record is the empty one after a refusal too; with that buffer no call takes it.

@@ -4,9 +4,9 @@ use Rattle.std.proofs.Math.Option.{Option, none, some}
 use Rattle.model.specs.Bytes.{every, same, cons_if}
 use Rattle.model.specs.Path.{Path, components, short, ancestors, below, child}
 use Rattle.model.specs.Map.{is_none, lookup, puts, only, each, keys, rekey, mapped}
-use Rattle.model.specs.Tree.{held, listed, Node, dir, file, link, other, Entry, own, reference, directory}
-use Rattle.model.specs.Tree.{deleted, Table, Tree, View, shown, Kind, nothing, a_directory, a_file, a_link, kind_of}
-use Rattle.model.specs.Tree.{kind, is_nothing, is_directory, is_other}
+use Rattle.model.specs.Tree.{held, listed, Node, dir, file, link, Entry, own, reference, directory, deleted}
+use Rattle.model.specs.Tree.{Table, Tree, View, shown, Kind, nothing, a_directory, a_file, a_link, kind_of, kind}
+use Rattle.model.specs.Tree.{is_nothing, is_directory}
 use Rattle.model.specs.Table.{charge}
 use Rattle.model.specs.Checks.{Check, pass, refuse, ◌then◌, unless, parent_checks, not_root, no_visible_child, Memory}
 use Rattle.model.specs.Checks.{limited, unlimited, charged}
@@ -65,10 +65,9 @@ abbrev pub budget : Memory → Table → Path → Path → Option ℕ
 budget (limited E limit) t a b = some (limit - charge E t - planned a b t)
 budget unlimited t a b = none
 
--- what the walk stops at: "gives 4 at a link"; #108: "one met in the walk without an entry is 19 where a link would be
--- 4"
+-- "gives 4 at a link": what the walk stops at
 pub data Stop : Type 0 where
-  at_link at_other : Stop
+  at_link : Stop
 
 -- the walk has come to a sum, or has ended above its budget, or at a node that stops it, with the sum so far
 pub data Walk : Type 0 where
@@ -81,19 +80,17 @@ abbrev pub in_budget : Option ℕ → ℕ → Walk
 in_budget none s = sum s
 in_budget (some b) s = cond (leb s b) (sum s) over_budget
 
--- the nodes at which the walk stops
+-- "gives 4 at a link": the nodes at which the walk stops
 abbrev pub stops : Node → Bool
 stops (dir m) = false
 stops (file m z c) = false
 stops link = true
-stops (other m) = true
 
 -- "gives 4 at a link, and adds 2 × path length + 512 for a file, 3 × path length + 512 for a directory"
 abbrev pub visit : Option ℕ → Walk → Path → Node → Walk
 visit b (sum s) p (dir m) = in_budget b (s + 3 * length p + 512)
 visit b (sum s) p (file m z c) = in_budget b (s + 2 * length p + 512)
 visit b (sum s) p link = stopped at_link s
-visit b (sum s) p (other m) = stopped at_other s
 visit b over_budget p n = over_budget
 visit b (stopped x s) p n = stopped x s
 
@@ -132,15 +129,13 @@ abbrev pub walked : ℕ → Walk → Check
 walked n (sum s) = pass
 walked n over_budget = refuse 11 0 0
 walked n (stopped at_link s) = refuse 4 0 n
-walked n (stopped at_other s) = refuse 19 0 0
 
--- what a listed node is as an entry; one at which the walk has ended is none
+-- what a listed node is as an entry; a link, at which the walk has ended, is none
 abbrev pub as_entry : Node → Entry
 as_entry (dir m) = directory m
 as_entry (file m z (held c)) = own m c
 as_entry (file m z (listed p)) = reference m z p
 as_entry link = deleted
-as_entry (other m) = deleted
 
 -- neither q nor a path between a and q has an entry: the walk comes to q
 abbrev pub uncovered : Table → Path → Path → Bool
@@ -176,8 +171,7 @@ rename_paths t l a b =
     then not_deleted (length a) (lookup t a)
     then not_link 0 (length a) (kind f a)
 
--- "… type clash 8 or 7; 9 for a directory source; 10; source absent 5; …"; #108: "A rename whose source is of kind 4 is
--- 19 where an absent source is tested"
+-- "… type clash 8 or 7; 9 for a directory source; 10; source absent 5; …"
 abbrev pub rename_types : Table → Tree → Path → Path → Check
 rename_types t l a b =
     let f = shown t l in
@@ -185,7 +179,6 @@ rename_types t l a b =
     then if_directory (kind f a) (if_directory (kind f b) (no_visible_child 1 t l b))
     then cond (below a b) (refuse 10 0 (length a)) pass
     then present (length a) (kind f a)
-    then unless 19 (not (is_other f a))
 
 -- "the plan and the walk": the walk is through the listing, so where the source is a directory there
 abbrev pub plan_and_walk : Memory → Table → Tree → Path → Path → Check

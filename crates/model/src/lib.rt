@@ -11,8 +11,8 @@ pub struct Record {
     pub entry_size: u64,
 }
 
-// Document 01, "Turning a call down", row by row, then 17 and 18 of #103 and 19 of #108: a path is 0 (only, or source)
-// or 1 (destination), and comes before a length.
+// Document 01, "Turning a call down", row by row, then 17 and 18 of #103: a path is 0 (only, or source) or 1
+// (destination), and comes before a length.
 #[derive(Drop)]
 pub enum Refusal {
     MalformedTable,
@@ -30,7 +30,6 @@ pub enum Refusal {
     NoRoom,
     LentCount,
     RangeTooLarge,
-    PipeOrDevice,
 }
 
 // A changing call's answer: accepted with a value (the data's length for write, append and writing inside,
@@ -61,13 +60,8 @@ pub const MAX_BUFFER: usize = 16_777_216;
 
 pub const MAX_ENTRY_SIZE: u64 = 4_096;
 
-// The listing: where its version stands; the version without pipes and devices, and that with them (#108); where its
-// count stands, where its records begin, and the bytes of a record before its path.
-pub const LISTING_VERSION: usize = 3;
-
-pub const LISTING_VERSION_1: u64 = 1;
-
-pub const LISTING_VERSION_2: u64 = 2;
+// The listing: its version, where its count stands, where its records begin, and the bytes of a record before its path.
+pub const LISTING_VERSION: u64 = 1;
 
 pub const LISTING_COUNT: usize = 5;
 
@@ -75,14 +69,12 @@ pub const LISTING_HEAD: usize = 9;
 
 pub const RECORD_HEAD: usize = 19;
 
-// A record's "kind (8 bits: 1 directory, 2 file, 3 link)"; #108: "kind 4, other".
+// A record's "kind (8 bits: 1 directory, 2 file, 3 link)".
 pub const LISTED_DIRECTORY: u8 = 1;
 
 pub const LISTED_FILE: u8 = 2;
 
 pub const LISTED_LINK: u8 = 3;
-
-pub const LISTED_OTHER: u8 = 4;
 
 // The bytes of an entry before its key; the same as a number of 64 bits.
 pub const ENTRY_HEAD: usize = 24;

@@ -16,7 +16,7 @@ use Rattle.model.specs.Table.{encode, is_table, table_in, sized}
 use Rattle.model.specs.Listing.{is_listing, tree_in}
 use Rattle.model.specs.Checks.{Check, pass, refuse, ◌then◌, unless, form, limited}
 use Rattle.model.specs.Content.{content_of, appended, spliced}
-use Rattle.model.specs.Calls.{Call, write, append, write_inside, mkdir, unlink, rmdir, rename, changed, forms, rules, value_of, Query, says_at}
+use Rattle.model.specs.Calls.{Call, write, append, write_inside, mkdir, unlink, rmdir, rename, changed, forms, rules, value_of, Query, says}
 use Rattle.model.specs.Answer.{accepted, refused}
 use Rattle.model.specs.Outcome.{Store, Request, lent, room, verdict, settle, outcome, answered, ask, opened}
 use Rattle.model.proofs.Orders.{yea, nay, test, and_true}
@@ -167,7 +167,7 @@ module _ (l : Bytes) (q : Request) (s : Store) where
 
 -- every answer of a query, and of opening
 pub ask_fits : (f : Query) (l : Bytes) (p : Path) (s : Store) → Fits (ask f l p s)
-ask_fits f l p s = go (is_table s.table s.rec) (is_listing l) (is_path p) (says_at f (shown (table_in s.table s.rec) (tree_in l)) p)
+ask_fits f l p s = go (is_table s.table s.rec) (is_listing l) (is_path p) (says f (kind (shown (table_in s.table s.rec) (tree_in l)) p))
   where
     go : (a b d y : Bool) → Fits (answered (unless 1 a then unless 2 b then cond d pass (refuse 3 0 0)) y)
     go false b d y = (omega arith, omega arith, omega arith)

@@ -1,9 +1,8 @@
-// Runs the cases of document 01, of #103, #107 and #108, with corners beside them, and prints a line for each. What it
+// Runs the cases of document 01, of #103 and of #107, with corners beside them, and prints a line for each. What it
 // must print is worked out by hand from them: an entry is charged 256, its key, E and its body, which is rounded up to
 // a multiple of 16 bytes; it takes 24 bytes, its key and its body as it is.
 mod cases;
 mod contents;
-mod pipes;
 mod renames;
 mod scenes;
 
@@ -11,5 +10,4 @@ fn main() {
     cases::run();
     renames::run();
     contents::run();
-    pipes::run();
 }

@@ -46,14 +46,12 @@ fn name(kind: Kind) {
     }
 }
 
-// Words for the numbers of document 01, #103 and #108, in a column: from 13 on, from 7 on, then all.
+// Words for the numbers of document 01 and of #103, in a column: from 13 on, from 7 on, then all.
 fn words_from_13(number: u64) {
     if number == 17 {
         text(b" lent bytes miscounted   ");
     } else if number == 18 {
         text(b" offset too large        ");
-    } else if number == 19 {
-        text(b" pipe or device not moved");
     } else {
         text(b" table buffer too short  ");
     }

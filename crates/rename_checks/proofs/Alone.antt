@@ -1,5 +1,5 @@
 -- What each of rename's checks gives, from what the code has found: the root, a deleted source, a clash, a directory onto a directory; and their groups.
-use mathlib.Core.Path.{◌≡◌, refl, sym, ap, ap₂, ◌∙◌}
+use mathlib.Core.Path.{◌≡◌, refl, sym, ap, ◌∙◌}
 use mathlib.Core.Bool.{Bool, true, false, not, ◌&&◌}
 use mathlib.Core.List.{[], ◌∷◌}
 use mathlib.Core.Option.{Option, none, some}
@@ -8,15 +8,12 @@ use native.Mathlib.Omega.{arith}
 use lib.ListN.{length}
 use Rattle.model.specs.Bytes.{Bytes}
 use Rattle.model.specs.Path.{Path}
-use Rattle.model.specs.Tree.{Entry, own, reference, directory, deleted, View, Kind, a_directory, a_file, kind, is_directory, is_other}
-use Rattle.model.specs.Checks.{Check, pass, refuse, ◌then◌, unless, not_root}
-use Rattle.model.specs.Rename.{not_deleted, no_clash, present, if_directory}
+use Rattle.model.specs.Tree.{Entry, own, reference, directory, deleted, Kind, a_directory, a_file, is_directory}
+use Rattle.model.specs.Checks.{Check, pass, refuse, ◌then◌, not_root}
+use Rattle.model.specs.Rename.{not_deleted, no_clash, if_directory}
 use Rattle.model.proofs.Orders.{bot}
 use Rattle.table_entries.specs.declared.OverlayEntry.{OverlayEntry}
 use Rattle.table_entries.specs.Said as told
-use Rattle.view_at.specs.Sight.{visible_kind, visible_other, visible_in}
-use Rattle.view_at.specs.declared.Visible.{Visible}
-use Rattle.view_at.proofs.Sights.{kind_seen, other_seen}
 use Rattle.check_judged.proofs.Thens.{then_assoc, when, otherwise}
 
 pub at_root : (w : ℕ) (p : Path) → length p ≡ 0 → refuse 4 w 0 ≡ not_root w p
@@ -80,12 +77,6 @@ module _ (k m j i : Kind) (e : k ≡ j) (h : m ≡ i) (x : Check) where
 
   pub full_at : (c : Check) → x ≡ if_directory k (if_directory m c) → x ≡ if_directory j (if_directory i c)
   full_at c z = z ∙ ap (λ (y : Kind). if_directory y (if_directory m c)) e ∙ ap (λ (y : Kind). if_directory j (if_directory y c)) h
-
--- whether the source can be moved: v is what was found at it, x what the code gives
-pub movable_at : (n : ℕ) (f : View) (p : Path) (v : Visible) → v ≡ visible_in f p → (x : Check)
-    → x ≡ (present n (visible_kind v) then unless 19 (not (visible_other v))) → x ≡ (present n (kind f p) then unless 19 (not (is_other f p)))
-movable_at n f p v e x z =
-    z ∙ ap₂ (λ (k : Kind) (b : Bool). present n k then unless 19 (not b)) (kind_seen f p v e) (other_seen f p v e)
 
 -- the checks of the paths, in the groups in which they are made
 pub grouped : (a b c d e : Check) → ((a then b) then (c then d) then e) ≡ (a then b then c then d then e)

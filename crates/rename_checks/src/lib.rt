@@ -2,7 +2,7 @@
 // those of each path by itself and those of both together stands whether it is a move onto itself (#104). Assumes a
 // listing, a table and two paths that were checked: only this repository's crates call. Each check is a constant number
 // of passes over table and listing.
-ghost use Rattle.std.specs.Prelude.{◌≡◌, true, cond, not, length};
+ghost use Rattle.std.specs.Prelude.{◌≡◌, true, cond, length};
 ghost use Rattle.std.proofs.Math.Option.{Option};
 ghost use Rattle.model.specs.Bytes.{Bytes};
 ghost use Rattle.model.specs.Path.{is_path, below};
@@ -10,12 +10,12 @@ ghost use Rattle.model.specs.Map.{lookup};
 ghost use Rattle.model.specs.Tree.{Entry, kind};
 ghost use Rattle.model.specs.Listing.{tree_in};
 ghost use Rattle.model.specs.Table.{table_in};
-ghost use Rattle.model.specs.Checks.{pass, refuse, ◌then◌, unless, parent_checks, not_root, no_visible_child};
+ghost use Rattle.model.specs.Checks.{pass, refuse, ◌then◌, parent_checks, not_root, no_visible_child};
 ghost use Rattle.model.specs.Rename.{not_link, not_deleted, no_clash, present, if_directory, rename_paths, rename_types};
 ghost use Rattle.model.specs.Rename.{onto_itself};
 ghost use Rattle.model.specs.Outcome.{Given, shown_in};
 ghost use Rattle.table_entries.specs.Said.{said, said_of};
-ghost use Rattle.view_at.specs.Sight.{visible_kind, visible_other};
+ghost use Rattle.view_at.specs.Sight.{visible_kind};
 ghost use Rattle.check_judged.specs.Judged.{check_of};
 
 use check_judged::Judged;
@@ -59,9 +59,6 @@ fn reject_link(visible: Visible, which: u64, len: u64) -> Judged
         }
         Visible::Link => {
             return Judged::Refused(Refusal::LinkOrRoot(which, len));
-        }
-        Visible::Other => {
-            return Judged::Pass;
         }
     }
 }
@@ -199,12 +196,6 @@ fn reject_rename_type_mismatch(source: Visible, destination: Visible, len: u64) 
         Visible::Link => {
             return Judged::Pass;
         }
-        Visible::Other => {
-            if directory {
-                return Judged::Refused(Refusal::NotADirectory(1, len));
-            }
-            return Judged::Pass;
-        }
     }
 }
 
@@ -241,9 +232,9 @@ fn reject_below(source: &[u8], destination: &[u8]) -> Judged
     Judged::Pass
 }
 
-// 5 for a source of `len` bytes that shows nothing; 19 for a pipe or device.
-fn reject_unmovable(visible: Visible, len: u64) -> Judged
-    ensures { check_of result ≡ (present len (visible_kind visible) then unless 19 (not (visible_other visible))) }
+// 5 for a source of `len` bytes that shows nothing.
+fn reject_absent(visible: Visible, len: u64) -> Judged
+    ensures { check_of result ≡ present len (visible_kind visible) }
 {
     match visible {
         Visible::Nothing => {
@@ -258,13 +249,10 @@ fn reject_unmovable(visible: Visible, len: u64) -> Judged
         Visible::Link => {
             return Judged::Pass;
         }
-        Visible::Other => {
-            return Judged::Refused(Refusal::PipeOrDevice);
-        }
     }
 }
 
-// Both together: type clash 8 or 7; 9 for a directory source; 10; source absent 5, a pipe or device 19.
+// Both together: type clash 8 or 7; 9 for a directory source; 10; source absent 5.
 pub fn check_types(
     listing: &[u8],
     table: &[u8],
@@ -290,5 +278,5 @@ pub fn check_types(
     if check_judged::is_refused(inside) {
         return inside;
     }
-    reject_unmovable(from, source.len() as u64)
+    reject_absent(from, source.len() as u64)
 }

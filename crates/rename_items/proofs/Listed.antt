@@ -6,12 +6,13 @@ use mathlib.Core.Option.{some}
 use Prim.Native.Nat.{ℕ}
 use lib.Dec.{eqb}
 use Rattle.model.specs.Bytes.{Bytes}
-use Rattle.model.specs.Tree.{listed, dir, file, link, other}
+use Rattle.model.specs.Tree.{listed, dir, file, link}
 use Rattle.model.specs.Listing.{ListingRecord, node_of}
 use Rattle.model.specs.Table.{type_of, mtime_of, size_of, body_of}
 use Rattle.model.specs.Rename.{as_entry}
+use Rattle.model.specs.Calls.{is_file, says}
 use Rattle.model.proofs.Orders.{yea, nay, test}
-use Rattle.listing_records.specs.Found.{found_of, file_found}
+use Rattle.listing_records.specs.Found.{found_of, found_kind}
 use Rattle.listing_records.specs.declared.Found.{Found}
 use Rattle.listing_records.specs.declared.Found.TheVariants as found
 
@@ -20,14 +21,13 @@ data Node_of (q : ListingRecord) : Type 0 where
   a_dir : node_of q ≡ dir q.mtime → Node_of q
   a_file_lem : node_of q ≡ file q.mtime q.size (listed q.path) → Node_of q
   a_link_lem : node_of q ≡ link → Node_of q
-  an_other : node_of q ≡ other q.mtime → Node_of q
 
 node_of_lem : (q : ListingRecord) → Node_of q
 node_of_lem q = elim (test (eqb q.type 1)) [
   | yea z ↦ a_dir (rw z)
   | nay z ↦ elim (test (eqb q.type 2)) [
     | yea y ↦ a_file_lem (rw (z, y))
-    | nay y ↦ elim (test (eqb q.type 3)) [ yea x ↦ a_link_lem (rw (z, y, x)) | nay x ↦ an_other (rw (z, y, x)) ]
+    | nay y ↦ a_link_lem (rw (z, y))
   ]
 ]
 
@@ -36,35 +36,32 @@ abbrev kind_in : Found → ℕ
 kind_in (found.Directory m) = 3
 kind_in (found.File m z) = 2
 kind_in found.Link = 4
-kind_in (found.Other m) = 4
 kind_in found.Absent = 4
 
 abbrev mtime_in : Found → ℕ
 mtime_in (found.Directory m) = m
 mtime_in (found.File m z) = m
 mtime_in found.Link = 0
-mtime_in (found.Other m) = 0
 mtime_in found.Absent = 0
 
 abbrev size_in : Found → ℕ
 size_in (found.Directory m) = 0
 size_in (found.File m z) = z
 size_in found.Link = 0
-size_in (found.Other m) = 0
 size_in found.Absent = 0
 
 module _ (q : ListingRecord) where
   kind_stored : kind_in (found_of (some (node_of q))) ≡ type_of (as_entry (node_of q))
-  kind_stored = elim (node_of_lem q) [ a_dir e ↦ (rw e) | a_file_lem e ↦ (rw e) | a_link_lem e ↦ (rw e) | an_other e ↦ (rw e) ]
+  kind_stored = elim (node_of_lem q) [ a_dir e ↦ (rw e) | a_file_lem e ↦ (rw e) | a_link_lem e ↦ (rw e) ]
 
   mtime_stored : mtime_in (found_of (some (node_of q))) ≡ mtime_of (as_entry (node_of q))
-  mtime_stored = elim (node_of_lem q) [ a_dir e ↦ (rw e) | a_file_lem e ↦ (rw e) | a_link_lem e ↦ (rw e) | an_other e ↦ (rw e) ]
+  mtime_stored = elim (node_of_lem q) [ a_dir e ↦ (rw e) | a_file_lem e ↦ (rw e) | a_link_lem e ↦ (rw e) ]
 
   size_stored : size_in (found_of (some (node_of q))) ≡ size_of (as_entry (node_of q))
-  size_stored = elim (node_of_lem q) [ a_dir e ↦ (rw e) | a_file_lem e ↦ (rw e) | a_link_lem e ↦ (rw e) | an_other e ↦ (rw e) ]
+  size_stored = elim (node_of_lem q) [ a_dir e ↦ (rw e) | a_file_lem e ↦ (rw e) | a_link_lem e ↦ (rw e) ]
 
-  body_stored : cond (file_found (found_of (some (node_of q)))) q.path [] ≡ body_of (as_entry (node_of q))
-  body_stored = elim (node_of_lem q) [ a_dir e ↦ (rw e) | a_file_lem e ↦ (rw e) | a_link_lem e ↦ (rw e) | an_other e ↦ (rw e) ]
+  body_stored : cond (says is_file (found_kind (found_of (some (node_of q))))) q.path [] ≡ body_of (as_entry (node_of q))
+  body_stored = elim (node_of_lem q) [ a_dir e ↦ (rw e) | a_file_lem e ↦ (rw e) | a_link_lem e ↦ (rw e) ]
 
 -- the fields, in a case that is told
 pub in_case : (f x : Found) → f ≡ x → (q : ListingRecord) → f ≡ found_of (some (node_of q))
@@ -74,14 +71,14 @@ in_case f x e q h =
     (ap kind_in u ∙ kind_stored q, ap mtime_in u ∙ mtime_stored q, ap size_in u ∙ size_stored q)
 
 -- whether it is a file, in a case that is told
-pub file_case : (f x : Found) → f ≡ x → file_found x ≡ file_found f
-file_case f x e = ap file_found (sym e)
+pub file_case : (f x : Found) → f ≡ x → says is_file (found_kind x) ≡ says is_file (found_kind f)
+file_case f x e = ap (λ (y : Found). says is_file (found_kind y)) (sym e)
 
 -- the body: a file's is its path, and nothing is there else
-module _ (q : ListingRecord) (f : Found) (b : Bool) (h : f ≡ found_of (some (node_of q))) (e : b ≡ file_found f) where
+module _ (q : ListingRecord) (f : Found) (b : Bool) (h : f ≡ found_of (some (node_of q))) (e : b ≡ says is_file (found_kind f)) where
   by_test : cond b q.path [] ≡ body_of (as_entry (node_of q))
   by_test =
-      ap (λ (x : Bool). cond x q.path []) (e ∙ ap file_found h) ∙ body_stored q
+      ap (λ (x : Bool). cond x q.path []) (e ∙ ap (λ (x : Found). says is_file (found_kind x)) h) ∙ body_stored q
 
   pub file_body : b ≡ true → (p : Bytes) → p ≡ q.path → p ≡ body_of (as_entry (node_of q))
   file_body z p i = i ∙ ap (λ (x : Bool). cond x q.path []) (sym z) ∙ by_test

@@ -6,7 +6,8 @@ ghost use Rattle.std.proofs.Math.Option.{some};
 ghost use Rattle.model.specs.Listing.{ListingRecord, node_of};
 ghost use Rattle.model.specs.Table.{type_of, mtime_of, size_of, body_of};
 ghost use Rattle.model.specs.Rename.{as_entry};
-ghost use Rattle.listing_records.specs.Found.{found_of, file_found};
+ghost use Rattle.model.specs.Calls.{is_file, says};
+ghost use Rattle.listing_records.specs.Found.{found_of, found_kind};
 ghost use Rattle.listing_records.specs.Place as listing;
 ghost use Rattle.table_entries.specs.Place.{Standing};
 ghost use Rattle.rename_carried.specs.Streams.{Next, item_at, remaining};
@@ -17,19 +18,18 @@ use table_entries::Fields;
 
 // Whether a listed node is a file.
 fn is_file(found: listing_records::Found) -> bool
-    ensures { result ≡ file_found found }
+    ensures { result ≡ says is_file (found_kind found) }
 {
     match found {
         listing_records::Found::Directory(_) => return false,
         listing_records::Found::File(_, _) => return true,
         listing_records::Found::Link => return false,
-        listing_records::Found::Other(_) => return false,
         listing_records::Found::Absent => return false,
     }
 }
 
-// A listed node's fields as an entry: a directory, a file as a reference to its path; one at which the walk has ended
-// as a deleted one.
+// A listed node's fields as an entry: a directory, a file as a reference to its path; a link, at which the walk has
+// ended, as a deleted one.
 fn listed_fields(found: listing_records::Found) -> Fields
     ensures { (q : ListingRecord) → found ≡ found_of (some (node_of q)) → (result.kind ≡ type_of (as_entry (node_of q)))
         × (result.mtime ≡ mtime_of (as_entry (node_of q))) × (result.size ≡ size_of (as_entry (node_of q))) }
@@ -50,13 +50,6 @@ fn listed_fields(found: listing_records::Found) -> Fields
             };
         }
         listing_records::Found::Link => {
-            return Fields {
-                kind: DELETED,
-                mtime: 0,
-                size: 0,
-            };
-        }
-        listing_records::Found::Other(_) => {
             return Fields {
                 kind: DELETED,
                 mtime: 0,

@@ -64,10 +64,7 @@ pub node_body : (r : ListingRecord) → length r.path ≤ 512 → length (body_o
 node_body r h =
     elim (test (eqb r.type 1)) [
       | yea e ↦ rw e (omega arith)
-      | nay e ↦ elim (test (eqb r.type 2)) [
-        | yea d ↦ rw (e, d) h
-        | nay d ↦ elim (test (eqb r.type 3)) [ yea f ↦ rw (e, d, f) (omega arith) | nay f ↦ rw (e, d, f) (omega arith) ]
-      ]
+      | nay e ↦ elim (test (eqb r.type 2)) [ yea d ↦ rw (e, d) h | nay d ↦ rw (e, d) (omega arith) ]
     ]
 
 module _ (own part table : Bytes) (a : Path) (f : List Bool) (s : Stream) (w : Streaming own part table a f s) where

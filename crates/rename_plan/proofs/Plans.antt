@@ -13,13 +13,14 @@ use Rattle.model.specs.Map.{only, keys}
 use Rattle.model.specs.Tree.{Table}
 use Rattle.model.specs.Table.{charge}
 use Rattle.model.specs.Checks.{Check, refuse, ◌then◌, limited}
-use Rattle.model.specs.Rename.{new_key, planned, plan, budget, stopped, walked}
+use Rattle.model.specs.Rename.{new_key, planned, plan, budget, walked}
 use Rattle.base_budget.specs.Budget.{shrunk}
 use Rattle.base_budget.specs.declared.MemoryBudget.{MemoryBudget}
 use Rattle.base_budget.specs.declared.Shrunk.TheVariants.{Left, MemoryUsageLimitExceeded}
 use Rattle.base_budget.proofs.Budgets.{left_is, exceeded_is}
-use Rattle.rename_walk.specs.Walked.{stop_of, walk_of}
+use Rattle.rename_walk.specs.Walked.{walk_of}
 use Rattle.rename_walk.specs.declared.Stop.{Stop}
+use Rattle.rename_walk.specs.declared.Stop.TheVariants.{AtLink}
 use Rattle.rename_walk.specs.declared.Walked.{Walked}
 use Rattle.rename_walk.specs.declared.Walked.TheVariants.{Stopped}
 use Rattle.model.proofs.Orders.{yea, nay, test}
@@ -35,13 +36,9 @@ planned_below a b (x ∷ xs) =
       | nay e ↦ rw e (omega arith)
     ]
 
--- a stop gives its number, whatever the sum
-pub stop_gives : (n : ℕ) (x y : Stop) (c : Check) → x ≡ y → ((s : ℕ) → c ≡ walked n (stopped (stop_of y) s)) → (s : ℕ) → c ≡ walked n (stopped (stop_of x) s)
-stop_gives n x y c e h s = h s ∙ sym (ap (λ (z : Stop). walked n (stopped (stop_of z) s)) e)
-
--- and so does a walk that was stopped
-pub stopped_gives : (n : ℕ) (w : Walked) (x : Stop) (s : ℕ) (c : Check) → w ≡ Stopped x s → ((s : ℕ) → c ≡ walked n (stopped (stop_of x) s)) → c ≡ walked n (walk_of w)
-stopped_gives n w x s c e h = h s ∙ sym (ap (λ (v : Walked). walked n (walk_of v)) e)
+-- a walk that was stopped gives 4, whatever its sum
+pub stopped_gives : (n : ℕ) (w : Walked) (x : Stop) (s : ℕ) → w ≡ Stopped x s → refuse 4 0 n ≡ walked n (walk_of w)
+stopped_gives n w AtLink s e = sym (ap (λ (v : Walked). walked n (walk_of v)) e)
 
 -- p is the part of t below a, and s the sum over it
 pub planned-part :

@@ -2,7 +2,7 @@
 // it may take. Assumes a listing, a table and two paths that were checked: only this repository's crates call. The plan
 // reads heads and keys of the table up to the last below the source, and those below it twice; rename_walk says what
 // the walk costs.
-ghost use Rattle.std.specs.Prelude.{◌≡◌, true, ℕ, ◌≤◌, length};
+ghost use Rattle.std.specs.Prelude.{◌≡◌, true, ◌≤◌, length};
 ghost use Rattle.std.proofs.Math.Option.{some};
 ghost use Rattle.model.specs.Path.{is_path};
 ghost use Rattle.model.specs.Map.{lookup};
@@ -14,7 +14,7 @@ ghost use Rattle.model.specs.Rename.{if_directory, planned, walk_from, plan_and_
 ghost use Rattle.model.specs.Rename as rename;
 ghost use Rattle.model.specs.Outcome.{Given};
 ghost use Rattle.check_judged.specs.Judged.{check_of};
-ghost use Rattle.rename_walk.specs.Walked.{stop_of, walk_of};
+ghost use Rattle.rename_walk.specs.Walked.{walk_of};
 
 use base_budget::{MemoryBudget, Shrunk};
 use check_judged::Judged;
@@ -47,20 +47,6 @@ pub fn is_listed_directory(listing: &[u8], path: &[u8]) -> bool
     listing_records::is_dir(target)
 }
 
-// What a walk gives that was stopped, for a source of `len` bytes: 4 at a link, 19 at a pipe or device.
-fn check_stop(stop: rename_walk::Stop, len: u64) -> Judged
-    ensures { (sum : ℕ) → check_of result ≡ rename.walked len (rename.stopped (stop_of stop) sum) }
-{
-    match stop {
-        rename_walk::Stop::AtLink => {
-            return Judged::Refused(Refusal::LinkOrRoot(0, len));
-        }
-        rename_walk::Stop::AtOther => {
-            return Judged::Refused(Refusal::PipeOrDevice);
-        }
-    }
-}
-
 // What the walk gives, for a source of `len` bytes.
 fn check_walked(walk: rename_walk::Walked, len: u64) -> Judged
     ensures { check_of result ≡ rename.walked len (walk_of walk) }
@@ -72,8 +58,8 @@ fn check_walked(walk: rename_walk::Walked, len: u64) -> Judged
         rename_walk::Walked::OverBudget => {
             return Judged::Refused(Refusal::Limit);
         }
-        rename_walk::Walked::Stopped(stop, _) => {
-            return check_stop(stop, len);
+        rename_walk::Walked::Stopped(rename_walk::Stop::AtLink, _) => {
+            return Judged::Refused(Refusal::LinkOrRoot(0, len));
         }
     }
 }

@@ -45,9 +45,6 @@ fn listed_len(listing: &[u8], source: &[u8]) -> u64
         Found::Link => {
             return 0;
         }
-        Found::Other(_) => {
-            return 0;
-        }
         Found::Absent => {
             return 0;
         }

@@ -7,8 +7,8 @@ use native.Mathlib.Omega.{arith}
 use lib.ListN.{length}
 use borrow.Author.Tests.{leb-true, leb-false, le-leb, lt-leb}
 use Rattle.model.specs.Path.{Path}
-use Rattle.model.specs.Tree.{Node, dir, file, link, other, kind_of, is_directory}
-use Rattle.model.specs.Rename.{at_link, at_other, Walk, sum, over_budget, stopped, in_budget, visit}
+use Rattle.model.specs.Tree.{Node, dir, file, link, kind_of, is_directory}
+use Rattle.model.specs.Rename.{at_link, Walk, sum, over_budget, stopped, in_budget, visit}
 use Rattle.model.proofs.Orders.{bot}
 use Rattle.listing_records.specs.Found.{found_of}
 use Rattle.base_budget.specs.Budget.{covers, shrunk}
@@ -32,26 +32,17 @@ module _ (b s : ℕ) where
     at_dir (dir k) m h r f = let z : s + (3 * n + 512) ≡ s + 3 * length p + 512 = omega arith in f ∙ ap (in_budget (some b)) z
     at_dir (file k y c) m h r f = absurd (bot (cc))
     at_dir link m h r f = absurd (bot (cc))
-    at_dir (other k) m h r f = absurd (bot (cc))
 
     pub at_file : (x : Node) (m y : ℕ) → found.File m y ≡ found_of (some x) → (r : Walk) → r ≡ in_budget (some b) (s + (2 * n + 512))
         → r ≡ visit (some b) (sum s) p x
     at_file (dir k) m y h r f = absurd (bot (cc))
     at_file (file k z c) m y h r f = let z : s + (2 * n + 512) ≡ s + 2 * length p + 512 = omega arith in f ∙ ap (in_budget (some b)) z
     at_file link m y h r f = absurd (bot (cc))
-    at_file (other k) m y h r f = absurd (bot (cc))
 
   pub at_link_lem : (p : Path) (x : Node) → found.Link ≡ found_of (some x) → stopped at_link s ≡ visit (some b) (sum s) p x
   at_link_lem p (dir k) h = absurd (bot (cc))
   at_link_lem p (file k z c) h = absurd (bot (cc))
   at_link_lem p link h = refl
-  at_link_lem p (other k) h = absurd (bot (cc))
-
-  pub at_other_lem : (p : Path) (x : Node) (m : ℕ) → found.Other m ≡ found_of (some x) → stopped at_other s ≡ visit (some b) (sum s) p x
-  at_other_lem p (dir k) m h = absurd (bot (cc))
-  at_other_lem p (file k z c) m h = absurd (bot (cc))
-  at_other_lem p link m h = absurd (bot (cc))
-  at_other_lem p (other k) m h = refl
 
 -- a walk that has ended is visited without change
 pub ended_visit : (b : Option ℕ) (p : Path) (x : Node) (w v : Walk) → w ≡ v → ended v ≡ true → w ≡ visit b w p x
@@ -64,31 +55,21 @@ pub never_absent : (x : Node) → found.Absent ≡ found_of (some x) → ⊥
 never_absent (dir k) h = bot (cc)
 never_absent (file k z c) h = bot (cc)
 never_absent link h = bot (cc)
-never_absent (other k) h = bot (cc)
 
 pub dir_is : (x : Node) (m : ℕ) → found.Directory m ≡ found_of (some x) → true ≡ is_directory (kind_of (some x))
 dir_is (dir k) m h = refl
 dir_is (file k z c) m h = absurd (bot (cc))
 dir_is link m h = absurd (bot (cc))
-dir_is (other k) m h = absurd (bot (cc))
 
 pub file_is : (x : Node) (m z : ℕ) → found.File m z ≡ found_of (some x) → false ≡ is_directory (kind_of (some x))
 file_is (dir k) m z h = absurd (bot (cc))
 file_is (file k y c) m z h = refl
 file_is link m z h = absurd (bot (cc))
-file_is (other k) m z h = absurd (bot (cc))
 
 pub link_is : (x : Node) → found.Link ≡ found_of (some x) → false ≡ is_directory (kind_of (some x))
 link_is (dir k) h = absurd (bot (cc))
 link_is (file k y c) h = absurd (bot (cc))
 link_is link h = refl
-link_is (other k) h = absurd (bot (cc))
-
-pub other_is : (x : Node) (m : ℕ) → found.Other m ≡ found_of (some x) → false ≡ is_directory (kind_of (some x))
-other_is (dir k) m h = absurd (bot (cc))
-other_is (file k y c) m h = absurd (bot (cc))
-other_is link m h = absurd (bot (cc))
-other_is (other k) m h = refl
 
 -- the budget b was shrunk by the sum s to r, and t is whether r covers the cost c
 module _ (b : MemoryBudget) (s c : ℕ) (r : MemoryBudget) (e : shrunk b s ≡ Left r) (t : Bool) (f : t ≡ covers r c) where

@@ -1,6 +1,6 @@
 -- What the walk answers in code, as a walk of the definition.
 use Rattle.std.specs.Prelude.{Bool, true, false}
-use Rattle.model.specs.Rename.{at_link, at_other, Walk, sum, over_budget, stopped}
+use Rattle.model.specs.Rename.{at_link, Walk, sum, over_budget, stopped}
 use Rattle.model.specs.Rename as rename
 use Rattle.rename_walk.specs.declared.Stop.{Stop}
 use Rattle.rename_walk.specs.declared.Stop.TheVariants as stop
@@ -10,7 +10,6 @@ use Rattle.rename_walk.specs.declared.Walked.TheVariants as walked
 -- what has stopped it, as a stop of the definition
 abbrev pub stop_of : Stop → rename.Stop
 stop_of stop.AtLink = at_link
-stop_of stop.AtOther = at_other
 
 abbrev pub walk_of : Walked → Walk
 walk_of (walked.Sum n) = sum n

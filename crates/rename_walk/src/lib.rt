@@ -26,7 +26,6 @@ use base_budget::{MemoryBudget, Shrunk};
 #[derive(Drop)]
 pub enum Stop {
     AtLink,
-    AtOther,
 }
 
 // What the walk comes to: a sum, or its end above the budget, or at a node that stops it, with the sum so far.
@@ -79,8 +78,7 @@ fn added(total: u64, cost: u64, budget: MemoryBudget) -> Walked
     Walked::OverBudget
 }
 
-// One node visited, at a path of `len` bytes: a link stops the walk, and so does a pipe or device. A listed node is
-// never absent.
+// One node visited, at a path of `len` bytes: a link stops the walk. A listed node is never absent.
 fn visit_from(total: u64, found: listing_records::Found, len: u64, budget: MemoryBudget) -> Walked
     requires { len ≤ 16777216 }
     ensures { (p : Path) (n : Node) → found ≡ found_of (some n) → len ≡ length p → walk_of result
@@ -95,9 +93,6 @@ fn visit_from(total: u64, found: listing_records::Found, len: u64, budget: Memor
         }
         listing_records::Found::Link => {
             return Walked::Stopped(Stop::AtLink, total);
-        }
-        listing_records::Found::Other(_) => {
-            return Walked::Stopped(Stop::AtOther, total);
         }
         listing_records::Found::Absent => {
             return Walked::Sum(total);
@@ -153,9 +148,6 @@ fn is_directory(found: listing_records::Found) -> bool
             return false;
         }
         listing_records::Found::Link => {
-            return false;
-        }
-        listing_records::Found::Other(_) => {
             return false;
         }
         listing_records::Found::Absent => {

@@ -186,16 +186,12 @@ abbrev pub found_entry : Found → Path → Entry
 found_entry (found.Directory m) p = directory m
 found_entry (found.File m z) p = reference m z p
 found_entry found.Link p = deleted
-found_entry (found.Other m) p = deleted
 found_entry found.Absent p = deleted
 
 node_entry : (r : ListingRecord) (p : Path) → r.path ≡ p → found_entry (found_of (some (node_of r))) p ≡ as_entry (node_of r)
 node_entry r p e = elim (test (eqb r.type 1)) [
   | yea h ↦ rw h
-  | nay h ↦ elim (test (eqb r.type 2)) [
-    | yea g ↦ rw (h, g) (ap (reference r.mtime r.size) (sym e))
-    | nay g ↦ elim (test (eqb r.type 3)) [ yea f ↦ rw (h, g, f) | nay f ↦ rw (h, g, f) ]
-  ]
+  | nay h ↦ elim (test (eqb r.type 2)) [ yea g ↦ rw (h, g) (ap (reference r.mtime r.size) (sym e)) | nay g ↦ rw (h, g) ]
 ]
 
 found_entry_lem : (rs : List ListingRecord) (p : Path) → found_entry (found_of (lookup (tree_from rs) p)) p ≡ top_of none (lookup (tree_from rs) p)

@@ -296,8 +296,8 @@ fn put_stored(
     )
 }
 
-// What is listed at the source, at the destination, as an entry; a deleted one where it is a link, a pipe, a device or
-// nothing, and no caller comes there.
+// What is listed at the source, at the destination, as an entry; a deleted one where it is a link or nothing, and no
+// caller comes there.
 fn put_listed(
     work: &mut [u8],
     table: &[u8],
@@ -341,9 +341,6 @@ fn put_listed(
             );
         }
         listing_records::Found::Link => {
-            return put_source_deletion(work, table, destination, merge);
-        }
-        listing_records::Found::Other(_) => {
             return put_source_deletion(work, table, destination, merge);
         }
         listing_records::Found::Absent => {

@@ -28,9 +28,6 @@ fn is_link(target: RealTarget) -> bool
         RealTarget::Symlink => {
             return true;
         }
-        RealTarget::Other => {
-            return false;
-        }
         RealTarget::Absent => {
             return false;
         }

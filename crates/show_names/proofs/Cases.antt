@@ -12,7 +12,6 @@ use Rattle.model.specs.Answer.{accepted, refused}
 use Rattle.model.specs.Output.{Written}
 use Rattle.model.specs.declared.Record.{Record}
 use Rattle.model.proofs.Case.{path, dir_at, file_at, link_at, listing_bytes}
-use Rattle.model.proofs.PipeCases.{piped}
 use Rattle.show_names.specs.Names.{name_bytes, showing}
 
 -- `é` in UTF-8
@@ -65,17 +64,6 @@ turns_down t p size number len = record {
   path = p;
   output = replicate size 7;
   gives = record { reply = refused number 0 len; output = replicate size 7 };
-}
-
--- the same over a listing with pipes
-abbrev on_pipes : Case → Case
-on_pipes c = record {
-  listing = listing_bytes piped;
-  table = c.table;
-  rec = c.rec;
-  path = c.path;
-  output = c.output;
-  gives = c.gives;
 }
 
 -- the names as bytes, one by one
@@ -137,13 +125,6 @@ cases =
     -- and a link that an entry covers is no link; a listed directory below a deleted one is shown
     ∷ shows ((path "a/l", own 7 []) ∷ []) "a" 9 (path "b" ∷ path "f" ∷ path "l" ∷ []) 0
     ∷ shows ((path "a", deleted) ∷ []) "a/b" 3 (path "c" ∷ []) 0
-    -- #108: leaves a pipe out, takes it for a directory, or for a link on the way
-    ∷ on_pipes (shows [] "" 12 (path "a" ∷ path "b" ∷ path "p" ∷ path "z" ∷ []) 0)
-    ∷ on_pipes (shows [] "a" 7 (path "f" ∷ path "p" ∷ []) 1)
-    ∷ on_pipes (shows ((path "p", deleted) ∷ []) "" 9 (path "a" ∷ path "b" ∷ path "z" ∷ []) 0)
-    ∷ on_pipes (turns_down [] (path "p") 3 7 1)
-    ∷ on_pipes (turns_down [] (path "a/p") 0 7 3)
-    ∷ on_pipes (turns_down [] (path "p/x") 3 5 3)
     -- 3, before 5 and 13
     ∷ turns_down [] (path ".") 0 3 0
     ∷ turns_down [] (path "/") 3 3 0

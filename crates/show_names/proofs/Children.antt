@@ -14,7 +14,7 @@ use borrow.Author.Tests.{lt-ltb, ltb-true}
 use Rattle.model.specs.Bytes.{Bytes, every, number, before}
 use Rattle.model.specs.Path.{Path, is_path, child, slashless}
 use Rattle.model.specs.Map.{lookup, ascends}
-use Rattle.model.specs.Tree.{Node, dir, file, link, other, Table, Tree, shown, kind_of}
+use Rattle.model.specs.Tree.{Node, dir, file, link, Table, Tree, shown, kind_of}
 use Rattle.model.specs.Calls.{exists, says}
 use Rattle.model.specs.Plain.{visible_tree}
 use Rattle.model.proofs.Orders.{bot, yea, nay, test, eqb_true, eqb_eq, and_true, same_refl, Split, split, Lt, Lt_after}
@@ -64,7 +64,6 @@ pub shows_node : (v : Node) → not (is_link (kind_of (some v))) ≡ shows (some
 shows_node (dir m) = refl
 shows_node (file m z b) = refl
 shows_node link = refl
-shows_node (other m) = refl
 
 -- a name is among those of the children exactly if it has no slash and the child that it names is there
 module _ (p n : Path) where

@@ -29,12 +29,6 @@ fn link(path: &[u8]) {
     bytes(STDOUT_FILENO, path);
 }
 
-// A pipe or device.
-fn other(path: &[u8]) {
-    text(b"     other  ");
-    bytes(STDOUT_FILENO, path);
-}
-
 // Where the content of the file at a path is listed, if that is another path.
 fn source(path: &[u8], listed: &[u8]) {
     if base_fields::is_same(path, listed) {
@@ -75,9 +69,6 @@ fn of_record(part: &[u8], records: listing_records::Place)
         }
         Found::File(mtime, size) => {
             file(path, size);
-        }
-        Found::Other(mtime) => {
-            other(path);
         }
         Found::Link | Found::Absent => {
             link(path);

@@ -5,22 +5,21 @@ ghost use Rattle.std.specs.Prelude.{◌≡◌, true, ◌+◌, ◌≤◌, ◌<◌
 ghost use Rattle.std.proofs.Math.Option.{Option};
 ghost use Rattle.model.specs.Bytes.{Bytes};
 ghost use Rattle.model.specs.Path.{Path, ends_here};
-ghost use Rattle.model.specs.Tree.{Entry, Node, shown, is_nothing, is_directory};
+ghost use Rattle.model.specs.Tree.{Entry, Node, shown, kind_of, kind, is_nothing, is_directory};
 ghost use Rattle.model.specs.Tree as tree;
 ghost use Rattle.model.specs.Listing.{tree_in, is_listing};
 ghost use Rattle.model.specs.Table.{table_in, is_table};
-ghost use Rattle.listing_records.specs.Found.{target_of};
+ghost use Rattle.listing_records.specs.Found.{target_kind};
 ghost use Rattle.table_entries.specs.Said.{said, said_of};
-ghost use Rattle.view_at.specs.Sight.{visible_kind, visible_target, visible_of, visible_in, Sees};
+ghost use Rattle.view_at.specs.Sight.{visible_kind, Sees};
 
-// What is visible at a path. A link, a pipe and a device are only ever listed: no entry is one.
+// What is visible at a path. A link is only ever listed: no entry is one.
 #[derive(Drop)]
 pub enum Visible {
     Nothing,
     Directory,
     File,
     Link,
-    Other,
 }
 
 // From where the table and the listing are searched on.
@@ -38,7 +37,7 @@ pub struct Seen {
 
 // What is visible where only the listing has something.
 fn of_target(target: listing_records::RealTarget) -> Visible
-    ensures { result ≡ visible_target target }
+    ensures { visible_kind result ≡ target_kind target }
 {
     match target {
         listing_records::RealTarget::Dir => {
@@ -50,9 +49,6 @@ fn of_target(target: listing_records::RealTarget) -> Visible
         listing_records::RealTarget::Symlink => {
             return Visible::Link;
         }
-        listing_records::RealTarget::Other => {
-            return Visible::Other;
-        }
         listing_records::RealTarget::Absent => {
             return Visible::Nothing;
         }
@@ -61,8 +57,8 @@ fn of_target(target: listing_records::RealTarget) -> Visible
 
 // What is visible where the table has this entry, or none, and the listing this.
 fn over(entry: table_entries::OverlayEntry, target: listing_records::RealTarget) -> Visible
-    ensures { (s : Bytes) (e : Option Entry) (n : Option Node) → said_of s entry ≡ said e → target ≡ target_of n
-        → result ≡ visible_of (tree.over e n) }
+    ensures { (s : Bytes) (e : Option Entry) (n : Option Node) → said_of s entry ≡ said e → target_kind target
+        ≡ kind_of n → visible_kind result ≡ kind_of (tree.over e n) }
 {
     match entry {
         table_entries::OverlayEntry::File { mtime, at, len } => {
@@ -113,8 +109,8 @@ pub fn look(
 ) -> Seen
     requires sees { Sees listing.now table.now rec path.now sight end }
     requires end_nonzero { (0 < end) × (end ≤ length path.now) × (ends_here (drop end path.now) ≡ true) }
-    ensures visible_value { result.visible ≡ visible_in (shown (table_in table.now rec) (tree_in listing.now))
-        (take end path.now) }
+    ensures visible_value { visible_kind result.visible ≡ kind (shown (table_in table.now rec)
+        (tree_in listing.now)) (take end path.now) }
     ensures sees_2 { Sees listing.now table.now rec path.now result.sight (end + 1) }
 {
     let place = sight.place;
@@ -140,7 +136,7 @@ pub fn look(
 pub fn visible_at(listing: &[u8], table: &[u8], rec: model::Record, path: &[u8]) -> Visible
     requires listing_value { is_listing listing.now ≡ true }
     requires rec_value { is_table table.now rec ≡ true }
-    ensures { result ≡ visible_in (shown (table_in table.now rec) (tree_in listing.now))
+    ensures { visible_kind result ≡ kind (shown (table_in table.now rec) (tree_in listing.now))
         path.now }
 {
     if path.len() == 0 {
@@ -168,9 +164,6 @@ pub fn is_nothing(visible: Visible) -> bool
         Visible::Link => {
             return false;
         }
-        Visible::Other => {
-            return false;
-        }
     }
 }
 
@@ -189,9 +182,6 @@ pub fn is_directory(visible: Visible) -> bool
             return false;
         }
         Visible::Link => {
-            return false;
-        }
-        Visible::Other => {
             return false;
         }
     }

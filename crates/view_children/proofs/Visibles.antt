@@ -6,7 +6,7 @@ use mathlib.Core.Option.{Option, none, some}
 use Rattle.model.specs.Bytes.{Bytes}
 use Rattle.model.specs.Path.{Path, child}
 use Rattle.model.specs.Map.{lookup, is_none, keys}
-use Rattle.model.specs.Tree.{Entry, own, reference, directory, deleted, Table, Node, dir, file, link, other, Tree, view, over, shown, kind_of, kind, is_nothing}
+use Rattle.model.specs.Tree.{Entry, own, reference, directory, deleted, Table, Node, dir, file, link, Tree, view, over, shown, kind_of, kind, is_nothing}
 use Rattle.model.specs.Table.{table_in, is_table}
 use Rattle.model.specs.Checks.{visible_child}
 use Rattle.model.specs.declared.Record.{Record}
@@ -31,7 +31,6 @@ node_kind none h = absurd (bot (cc))
 node_kind (some (dir m)) h = refl
 node_kind (some (file m z b)) h = refl
 node_kind (some link) h = refl
-node_kind (some (other m)) h = refl
 
 module _ (t : Table) (l : Tree) (d : Path) where
   -- a child is not the root

@@ -10,8 +10,7 @@ use borrow.Author.Tests.{eqb-true, eqb-false}
 use Rattle.model.specs.Bytes.{Bytes, same}
 use Rattle.model.specs.Map.{is_none}
 use Rattle.model.specs.Path.{Path}
-use Rattle.model.specs.Tree.{listed, Node, dir, file, link, other, Entry, own, reference, directory, deleted, view}
-use Rattle.model.specs.Rename.{stops}
+use Rattle.model.specs.Tree.{listed, Node, dir, file, link, Entry, own, reference, directory, deleted, view}
 use Rattle.model.specs.Listing.{ListingRecord, node_of}
 use Rattle.model.specs.Table.{type_of, mtime_of, size_of, body_of}
 use Rattle.model.proofs.Orders.{bot, yea, nay, test, same_refl}
@@ -82,15 +81,11 @@ data Lists (r : ListingRecord) : Type 0 where
   a_directory_lem : node_of r ≡ dir r.mtime → Lists r
   a_file_lem : node_of r ≡ file r.mtime r.size (listed r.path) → Lists r
   a_link_lem : node_of r ≡ link → Lists r
-  an_other : node_of r ≡ other r.mtime → Lists r
 
 lists : (r : ListingRecord) → Lists r
 lists r = elim (test (eqb r.type 1)) [
   | yea e ↦ a_directory_lem (rw e)
-  | nay e ↦ elim (test (eqb r.type 2)) [
-    | yea f ↦ a_file_lem (rw (e, f))
-    | nay f ↦ elim (test (eqb r.type 3)) [ yea g ↦ a_link_lem (rw (e, f, g)) | nay g ↦ an_other (rw (e, f, g)) ]
-  ]
+  | nay e ↦ elim (test (eqb r.type 2)) [ yea f ↦ a_file_lem (rw (e, f)) | nay f ↦ a_link_lem (rw (e, f)) ]
 ]
 
 -- the node n by what was found
@@ -98,7 +93,6 @@ node_directory : (n : Node) (f : Found) (m : ℕ) → f ≡ found_of (some n) �
 node_directory (dir x) f m h g = cc
 node_directory (file x z b) f m h g = absurd (bot (cc))
 node_directory link f m h g = absurd (bot (cc))
-node_directory (other x) f m h g = absurd (bot (cc))
 
 node_file : (r : ListingRecord) (f : Found) (m z : ℕ) (k : Path) → f ≡ found_of (some (node_of r)) → f ≡ found.File m z
     → k ≡ r.path → node_of r ≡ file m z (listed k)
@@ -106,33 +100,19 @@ node_file r f m z k h g e = elim (lists r) [
   | a_directory_lem i ↦ (let j : f ≡ found.Directory r.mtime = h ∙ ap (λ (n : Node). found_of (some n)) i in absurd (bot (cc)))
   | a_file_lem i ↦ (let j : f ≡ found.File r.mtime r.size = h ∙ ap (λ (n : Node). found_of (some n)) i in cc)
   | a_link_lem i ↦ (let j : f ≡ found.Link = h ∙ ap (λ (n : Node). found_of (some n)) i in absurd (bot (cc)))
-  | an_other i ↦ (let j : f ≡ found.Other r.mtime = h ∙ ap (λ (n : Node). found_of (some n)) i in absurd (bot (cc)))
 ]
 
--- no entry shows a link, a pipe or a device, and something was found
-never_shown : (e : Entry) (n : Node) → stops n ≡ true → view e ≡ some n → ⊥
-never_shown (own m c) n h v = bot (cc)
-never_shown (reference m z p) n h v = bot (cc)
-never_shown (directory m) n h v = bot (cc)
-never_shown deleted n h v = bot (cc)
-
-link_stops : (n : Node) (f : Found) → f ≡ found_of (some n) → f ≡ found.Link → stops n ≡ true
-link_stops (dir x) f h g = absurd (bot (cc))
-link_stops (file x z b) f h g = absurd (bot (cc))
-link_stops link f h g = refl
-link_stops (other x) f h g = refl
-
-other_stops : (n : Node) (f : Found) (m : ℕ) → f ≡ found_of (some n) → f ≡ found.Other m → stops n ≡ true
-other_stops (dir x) f m h g = absurd (bot (cc))
-other_stops (file x z b) f m h g = absurd (bot (cc))
-other_stops link f m h g = refl
-other_stops (other x) f m h g = refl
+-- no entry shows a link, and something was found
+no_link : (e : Entry) (n : Node) (f : Found) → f ≡ found_of (some n) → f ≡ found.Link → view e ≡ some n → ⊥
+no_link (own m c) n f h g v = let j : f ≡ found_of (view (own m c)) = h ∙ ap found_of (sym v) in bot (cc)
+no_link (reference m z p) n f h g v = let j : f ≡ found_of (view (reference m z p)) = h ∙ ap found_of (sym v) in bot (cc)
+no_link (directory m) n f h g v = let j : f ≡ found_of (view (directory m)) = h ∙ ap found_of (sym v) in bot (cc)
+no_link deleted n f h g v = bot (cc)
 
 not_absent : (n : Node) (f : Found) → f ≡ found_of (some n) → f ≡ found.Absent → ⊥
 not_absent (dir x) f h g = bot (cc)
 not_absent (file x z b) f h g = bot (cc)
 not_absent link f h g = bot (cc)
-not_absent (other x) f h g = bot (cc)
 
 -- whether the entry e shows what the record r lists, by the cases of what was found there
 module _ (r : ListingRecord) (e : Entry) (f : Found) (h : f ≡ found_of (some (node_of r))) where
@@ -145,10 +125,7 @@ module _ (r : ListingRecord) (e : Entry) (f : Found) (h : f ≡ found_of (some (
   as_file b m z k g i t = rw (node_file r f m z k h g i) t
 
   pub as_link : f ≡ found.Link → Tells false (view e ≡ some (node_of r))
-  as_link g = tells_no false refl (never_shown e (node_of r) (link_stops (node_of r) f h g))
-
-  pub as_other : (m : ℕ) → f ≡ found.Other m → Tells false (view e ≡ some (node_of r))
-  as_other m g = tells_no false refl (never_shown e (node_of r) (other_stops (node_of r) f m h g))
+  as_link g = tells_no false refl (no_link e (node_of r) f h g)
 
   pub as_absent : f ≡ found.Absent → Tells false (view e ≡ some (node_of r))
   as_absent g = absurd (not_absent (node_of r) f h g)

@@ -68,9 +68,6 @@ fn is_as_listed(own: &[u8], part: &[u8], merge: Merge) -> bool
         Found::Link => {
             return false;
         }
-        Found::Other(_) => {
-            return false;
-        }
         Found::Absent => {
             return false;
         }

@@ -1,19 +1,20 @@
 -- What is told to be next: which of two paths is smaller, by how they compare; and what is visible there, by the stored kind.
 use mathlib.Core.Path.{◌≡◌, ap, ap₂, sym, ◌∙◌}
-use mathlib.Core.Bool.{Bool, true, false, not}
+use mathlib.Core.Bool.{Bool, true, false, not, ◌||◌}
 use mathlib.Core.Option.{some}
-use Prim.Native.Nat.{ℕ}
+use Prim.Native.Nat.{ℕ, ◌+◌}
 use lib.Dec.{eqb}
+use lib.ListN.{get_or}
 use Rattle.model.specs.Bytes.{Bytes, by_order, order, before}
 use Rattle.model.specs.Path.{Path}
 use Rattle.model.specs.Tree.{Entry, own, reference, directory, deleted, view, kind_of}
-use Rattle.model.specs.Listing.{ListingRecord, node_of}
+use Rattle.model.specs.Listing.{record_at, node_of}
 use Rattle.model.specs.Table.{type_of}
 use Rattle.model.specs.Calls.{exists, says}
 use Rattle.view_merge.specs.Merges.{head_path, head_node}
 use Rattle.view_merge.specs.declared.Merge.{Merge}
 use Rattle.view_merge.specs.declared.Head.{Head}
-use Rattle.model.proofs.Orders.{Cmp, cmp, bot, eqb_eq, yea, nay, test}
+use Rattle.model.proofs.Orders.{Cmp, cmp, bot, yea, nay, test}
 use Rattle.base_fields.proofs.Common.{Lt_before}
 
 -- c is how the paths a and b compare, which are x and y
@@ -49,13 +50,21 @@ live (reference m z p) k h = rw h
 live (directory m) k h = rw h
 live deleted k h = rw h
 
--- a record of kind 3 is a link, and every other is none
-pub no_link : (r : ListingRecord) (k : ℕ) → k ≡ r.type → not (eqb k 3) ≡ says exists (kind_of (some (node_of r)))
-no_link r k h = ap (λ (n : ℕ). not (eqb n 3)) h ∙ elim (test (eqb r.type 1)) [
-  | yea e ↦ (let f : eqb r.type 3 ≡ false = ap (λ (n : ℕ). eqb n 3) (eqb_eq r.type 1 e) in rw (e, f))
-  | nay e ↦ elim (test (eqb r.type 2)) [
-    | yea f ↦ (let g : eqb r.type 3 ≡ false = ap (λ (n : ℕ). eqb n 3) (eqb_eq r.type 2 f) in rw (e, f, g))
-    | nay f ↦ elim (test (eqb r.type 3)) [ yea g ↦ rw (e, f, g) | nay g ↦ rw (e, f, g) ]
+-- a record of kind 1 is a directory, one of kind 2 a file, every other a link
+pub no_link : (s : Bytes) (at k : ℕ) → k ≡ get_or s (at + 2) 0 → (eqb k 1 || eqb k 2) ≡ says exists (kind_of (some (node_of (record_at s at))))
+no_link s at k h = elim (test (eqb k 1)) [
+  | yea e ↦ (let f : eqb (get_or s (at + 2) 0) 1 ≡ true = rw h at e in rw (e, f))
+  | nay e ↦ elim (test (eqb k 2)) [
+    | yea g ↦ (
+        let f : eqb (get_or s (at + 2) 0) 1 ≡ false = rw h at e in
+        let i : eqb (get_or s (at + 2) 0) 2 ≡ true = rw h at g in
+        rw (e, g, f, i)
+        )
+    | nay g ↦ (
+        let f : eqb (get_or s (at + 2) 0) 1 ≡ false = rw h at e in
+        let i : eqb (get_or s (at + 2) 0) 2 ≡ false = rw h at g in
+        rw (e, g, f, i)
+        )
   ]
 ]
 

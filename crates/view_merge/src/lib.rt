@@ -151,7 +151,8 @@ fn is_no_link(part: &[u8], records: listing_records::Place) -> bool
     requires left_nonzero { 0 < records.left }
     ensures { result ≡ says exists (kind_of (some (node_of (record_at part.now records.at)))) }
 {
-    part[records.at + 2] != model::LISTED_LINK
+    let kind = part[records.at + 2];
+    (kind == model::LISTED_DIRECTORY) | (kind == model::LISTED_FILE)
 }
 
 // Whether something other than a link is visible at what is next.

@@ -40,18 +40,6 @@ enum-told-4 c = search rules
 returns-4 : tie.Need-returns-4
 returns-4 c = let a = c.before.before.args in at_case a.len a.exist-ok a.visible _ c.enum-told4.given.1
 
-enum-told-5 : tie.Need-enum-told-5
-enum-told-5 c = search rules
-
-taken-requires-3 : tie.Need-taken-requires-3
-taken-requires-3 c κs = search rules
-
-returns-5 : tie.Need-returns-5
-returns-5 c =
-    let a = c.before.before.before.args in
-    let x = c.taken3 in
-    at_taken a.len a.exist-ok a.visible _ c.before.enum-told5.given.1 x.result x.ensures
-
 pub at-path-spec : {M : Type 1} → statement M
 at-path-spec =
     tie.close
@@ -65,7 +53,4 @@ at-path-spec =
     taken-requires-2
     returns-3
     enum-told-4
-    returns-4
-    enum-told-5
-    taken-requires-3
-    returns-5)
+    returns-4)

@@ -6,7 +6,6 @@ use Rattle.model.specs.Tree.{kind}
 use Rattle.model.specs.Checks.{mkdir_parents}
 use Rattle.model.specs.Outcome.{shown_in}
 use Rattle.view_at.specs.Sight.{visible_kind}
-use Rattle.view_at.proofs.Sights.{kind_seen}
 use Rattle.call_mkdir.proofs.Steps.{make_nothing, there_makes, at_make, at_there, at_refused, never_there, there_not_make, refused_not_make, refused_not_there}
 use Rattle.call_mkdir.proofs.judge_at.Statement.{statement}
 use Rattle.call_mkdir.proofs.judge_at.Tie as tie
@@ -27,7 +26,7 @@ make-at-requires c κs =
     let f = shown_in a.listing.now a.table.now a.rec in
     let v = c.before.before.before.visible-at in
     let x = c.before.before.at_path in
-    let n = make_nothing (length a.path.now) a.exist-ok (visible_kind v.result) (kind f a.path.now) x.result (kind_seen f a.path.now _ v.ensures) x.ensures c.enum_told.given.1 in
+    let n = make_nothing (length a.path.now) a.exist-ok (visible_kind v.result) (kind f a.path.now) x.result v.ensures x.ensures c.enum_told.given.1 in
     (o.requires.0, (o.requires.1, n))
 
 returns : tie.Need-returns
@@ -39,7 +38,7 @@ returns c =
     let x = c.before.before.before.at_path in
     let y = c.make-at in
     let d = mkdir_parents f p a.parents in (
-      at_make (length p) a.exist-ok (visible_kind v.result) (kind f p) x.result (kind_seen f p _ v.ensures) x.ensures d y.result.step c.before.enum_told.given.1 y.ensures.0,
+      at_make (length p) a.exist-ok (visible_kind v.result) (kind f p) x.result v.ensures x.ensures d y.result.step c.before.enum_told.given.1 y.ensures.0,
       (
         y.ensures.1,
         λ e. absurd (never_there d y.result.step y.ensures.0 e),
@@ -60,10 +59,10 @@ returns-2 c =
     let v = c.before.before.before.before.visible-at in
     let x = c.before.before.before.at_path in
     let g = c.before.enum-told2.given.1 in (
-      at_there (length p) a.exist-ok (visible_kind v.result) (kind f p) x.result (kind_seen f p _ v.ensures) x.ensures (mkdir_parents f p a.parents) g,
+      at_there (length p) a.exist-ok (visible_kind v.result) (kind f p) x.result v.ensures x.ensures (mkdir_parents f p a.parents) g,
       (
         λ e. absurd (there_not_make e),
-        λ e. there_makes (length p) a.exist-ok (visible_kind v.result) (kind f p) x.result (kind_seen f p _ v.ensures) x.ensures g f p refl,
+        λ e. there_makes (length p) a.exist-ok (visible_kind v.result) (kind f p) x.result v.ensures x.ensures g f p refl,
       ),
     )
 
@@ -80,7 +79,7 @@ returns-3 c =
     let p = a.path.now in
     let v = c.before.before.before.before.before.visible-at in
     let x = c.before.before.before.before.at_path in (
-      at_refused (length p) a.exist-ok (visible_kind v.result) (kind f p) x.result (kind_seen f p _ v.ensures) x.ensures (mkdir_parents f p a.parents) _ c.before.before.step.given.1,
+      at_refused (length p) a.exist-ok (visible_kind v.result) (kind f p) x.result v.ensures x.ensures (mkdir_parents f p a.parents) _ c.before.before.step.given.1,
       (
         λ e. absurd (refused_not_make _ e),
         λ e. absurd (refused_not_there _ e),

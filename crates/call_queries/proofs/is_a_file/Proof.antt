@@ -29,13 +29,7 @@ enum-told-4 c = search rules
 returns-4 : tie.Need-returns-4
 returns-4 c = case_said calls.is_file c.before.before.args.visible _ c.enum-told4.given.1
 
-enum-told-5 : tie.Need-enum-told-5
-enum-told-5 c = search rules
-
-returns-5 : tie.Need-returns-5
-returns-5 c = case_said calls.is_file c.before.before.args.visible _ c.enum-told5.given.1
-
 pub is-a-file-spec : {M : Type 1} → statement M
 is-a-file-spec =
     tie.close
-    (tie.spec enum_told returns enum-told-2 returns-2 enum-told-3 returns-3 enum-told-4 returns-4 enum-told-5 returns-5)
+    (tie.spec enum_told returns enum-told-2 returns-2 enum-told-3 returns-3 enum-told-4 returns-4)

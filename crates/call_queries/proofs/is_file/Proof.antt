@@ -4,6 +4,7 @@ use borrow.Author.Rules.{rules}
 use lib.ListN.{length}
 use Rattle.model.specs.Answer.{told_finding}
 use Rattle.model.specs.Calls as calls
+use Rattle.view_at.specs.Sight.{visible_kind}
 use Rattle.check_lent.proofs.Firsts.{known}
 use Rattle.call_queries.proofs.Asks.{ask_refused, ask_answered}
 use Rattle.call_queries.proofs.is_file.Statement.{statement}
@@ -46,7 +47,7 @@ returns-2 c =
     let v = c.before.visible-at in
     let x = c.is-a-file in
     ask_answered a.listing.now a.table.now a.rec (length a.table.now) a.path.now j.result r.result j.ensures r.ensures
-    calls.is_file refl (told_finding x.result) c.before.before.if1.false v.result v.ensures x.ensures
+    calls.is_file refl (told_finding x.result) c.before.before.if1.false (visible_kind v.result) v.ensures x.ensures
 
 pub is-file-spec : {M : Type 1} → statement M
 is-file-spec =

@@ -6,7 +6,6 @@ use Rattle.model.specs.Table.{table_in}
 use Rattle.model.specs.Checks.{limited}
 use Rattle.model.specs.Rename.{plan_and_walk}
 use Rattle.view_at.specs.Sight.{visible_kind}
-use Rattle.view_at.proofs.Sights.{kind_seen}
 use Rattle.check_judged.specs.Judged.{check_of}
 use Rattle.call_rename.proofs.Verdicts.{is_planned, not_planned}
 use Rattle.call_rename.proofs.plan_directory.Statement.{statement}
@@ -33,7 +32,7 @@ returns c =
     let d = c.before.before.is-directory in
     let p = c.plan-checks in
     is_planned (visible_kind v.result) (kind (shown t l) x) d.result
-    (plan_and_walk m t l x y) (check_of p.result) (kind_seen (shown t l) x _ v.ensures) d.ensures c.before.if1.true p.ensures
+    (plan_and_walk m t l x y) (check_of p.result) v.ensures d.ensures c.before.if1.true p.ensures
 
 returns-2 : tie.Need-returns-2
 returns-2 c =
@@ -46,7 +45,7 @@ returns-2 c =
     let v = c.before.before.visible-at in
     let d = c.before.is-directory in
     not_planned (visible_kind v.result) (kind (shown t l) x) d.result
-    (plan_and_walk m t l x y) (kind_seen (shown t l) x _ v.ensures) d.ensures c.if1.false
+    (plan_and_walk m t l x y) v.ensures d.ensures c.if1.false
 
 pub plan-directory-spec : {M : Type 1} → statement M
 plan-directory-spec =

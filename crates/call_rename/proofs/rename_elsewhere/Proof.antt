@@ -1,10 +1,8 @@
 -- `rename_elsewhere` meets its contract: refused by the checks of both paths, the plan or the walk, by 11, 12 or 13, or written anew.
 use borrow.Author.Rules.{rules}
-use Rattle.model.specs.Tree.{shown}
 use Rattle.model.specs.Listing.{tree_in}
 use Rattle.model.specs.Table.{table_in}
 use Rattle.view_at.specs.Sight.{visible_kind}
-use Rattle.view_at.proofs.Sights.{kind_seen}
 use Rattle.rename_checks.proofs.Passed.{kind_whole}
 use Rattle.call_rename.proofs.Verdicts.{move_refused, paths, early, settled_refused, settled_fits, settled_done}
 use Rattle.call_rename.proofs.rename_elsewhere.Statement.{statement}
@@ -63,7 +61,7 @@ last-checks-requires c κs =
     let e = early l s a.rec w x y a.limit o.requires.0 o.requires.1.0 o.requires.1.1.0 o.requires.1.1.1 j.result j.ensures g in
     let v = c.before.before.visible-at in
     let d = c.before.is-directory in
-    (o.requires.0, (k, (e, kind_whole (table_in s a.rec) (tree_in l) x y e (visible_kind v.result) (kind_seen (shown (table_in s a.rec) (tree_in l)) x _ v.ensures) d.result d.ensures)))
+    (o.requires.0, (k, (e, kind_whole (table_in s a.rec) (tree_in l) x y e (visible_kind v.result) v.ensures d.result d.ensures)))
 
 enum-known-settled : tie.Need-enum-known-settled
 enum-known-settled c = search rules
@@ -104,7 +102,7 @@ write-move-requires c κs =
     let d = c.before.before.before.before.before.before.before.is-directory in
     let m = c.before.before.before.before.before.last-checks in
     let f = settled_fits l s a.rec w x y a.limit o.requires.0 o.requires.1.0 o.requires.1.1.0 o.requires.1.1.1 j.result j.ensures g m.result m.ensures.0 _ c.before.before.before.settled2.given.1 in
-    let n = kind_whole (table_in s a.rec) (tree_in l) x y e (visible_kind v.result) (kind_seen (shown (table_in s a.rec) (tree_in l)) x _ v.ensures) d.result d.ensures in
+    let n = kind_whole (table_in s a.rec) (tree_in l) x y e (visible_kind v.result) v.ensures d.result d.ensures in
     (o.requires.0, (e, (n, (f.0, (f.1, o.requires.1.0)))))
 
 same-length-3 : tie.Need-same-length-3

@@ -94,12 +94,6 @@ enum-told-7 c = search rules
 refused-requires-15 : tie.Need-refused-requires-15
 refused-requires-15 c κs = search rules
 
-enum-told-8 : tie.Need-enum-told-8
-enum-told-8 c = search rules
-
-refused-requires-16 : tie.Need-refused-requires-16
-refused-requires-16 c κs = search rules
-
 returns : tie.Need-returns
 returns c = by_refusal c.before.before.before.args.refusal _ c.before.enum_told.given.1 c.refused.ensures
 
@@ -145,9 +139,6 @@ returns-14 c = by_refusal c.before.before.before.args.refusal _ c.before.enum-to
 returns-15 : tie.Need-returns-15
 returns-15 c = by_refusal c.before.before.before.args.refusal _ c.before.enum-told7.given.1 c.refused15.ensures
 
-returns-16 : tie.Need-returns-16
-returns-16 c = by_refusal c.before.before.before.args.refusal _ c.before.enum-told8.given.1 c.refused16.ensures
-
 pub told-refusal-spec : {M : Type 1} → statement M
 told-refusal-spec =
     tie.close
@@ -182,8 +173,6 @@ told-refusal-spec =
     refused-requires-14
     enum-told-7
     refused-requires-15
-    enum-told-8
-    refused-requires-16
     returns
     returns-2
     returns-3
@@ -198,5 +187,4 @@ told-refusal-spec =
     returns-12
     returns-13
     returns-14
-    returns-15
-    returns-16)
+    returns-15)

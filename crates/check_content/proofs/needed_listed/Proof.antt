@@ -1,4 +1,4 @@
--- `needed_listed` meets its contract: each case of what is found says what is asked for.
+-- `needed_listed` meets its contract: each case of what is found says how many bytes are needed.
 use mathlib.Core.Path.{refl}
 use borrow.Author.Rules.{rules}
 use Rattle.check_content.proofs.Owned.{by_found}
@@ -44,15 +44,6 @@ returns-4 c =
     let f = c.before.before.find in
     by_found a.listing.now a.path.now f.result _ f.ensures c.enum-told3.given.1 _ refl
 
-enum-told-4 : tie.Need-enum-told-4
-enum-told-4 c = search rules
-
-returns-5 : tie.Need-returns-5
-returns-5 c =
-    let a = c.before.before.before.before.before.args in
-    let f = c.before.before.find in
-    by_found a.listing.now a.path.now f.result _ f.ensures c.enum-told4.given.1 _ refl
-
 pub needed-listed-spec : {M : Type 1} → statement M
 needed-listed-spec =
     tie.close
@@ -65,6 +56,4 @@ needed-listed-spec =
     enum-told-2
     returns-3
     enum-told-3
-    returns-4
-    enum-told-4
-    returns-5)
+    returns-4)

@@ -37,23 +37,7 @@ returns-4 c =
     let a = c.before.before.args in
     sym (ap (λ (v : Visible). unlink_at a.len (visible_kind v)) c.enum-told4.given.1)
 
-enum-told-5 : tie.Need-enum-told-5
-enum-told-5 c = search rules
-
-returns-5 : tie.Need-returns-5
-returns-5 c = search rules
-
 pub unlink-target-spec : {M : Type 1} → statement M
 unlink-target-spec =
     tie.close
-    (tie.spec
-    enum_told
-    returns
-    enum-told-2
-    returns-2
-    enum-told-3
-    returns-3
-    enum-told-4
-    returns-4
-    enum-told-5
-    returns-5)
+    (tie.spec enum_told returns enum-told-2 returns-2 enum-told-3 returns-3 enum-told-4 returns-4)

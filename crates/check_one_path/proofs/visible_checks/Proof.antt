@@ -5,7 +5,6 @@ use Rattle.model.specs.Tree.{kind}
 use Rattle.model.specs.Checks.{parent_checks}
 use Rattle.model.specs.Outcome.{shown_in}
 use Rattle.view_at.specs.Sight.{visible_kind}
-use Rattle.view_at.proofs.Sights.{kind_seen}
 use Rattle.check_judged.specs.Judged.{check_of}
 use Rattle.check_judged.proofs.Thens.{ends, goes_on_at}
 use Rattle.check_one_path.specs.Change.{target_at}
@@ -43,7 +42,7 @@ returns-2 c =
     let t = c.check-target in
     goes_on_at (parent_checks 0 f a.path.now) (check_of p.result) r.result p.ensures r.ensures
     (target_at a.change (length a.path.now)) (visible_kind v.result) (kind f a.path.now) (check_of t.result) c.before.before.if1.false
-    t.ensures (kind_seen f a.path.now _ v.ensures)
+    t.ensures v.ensures
 
 pub visible-checks-spec : {M : Type 1} → statement M
 visible-checks-spec =

@@ -3,7 +3,7 @@
 use mathlib.Core.Path.{◌≡◌, sym, ◌∙◌}
 use Prim.Native.Nat.{◌-◌, ◌≤◌}
 use native.Mathlib.Omega.{arith}
-use lib.ListN.{length, take}
+use lib.ListN.{length}
 use borrow.Author.Rules.{rules}
 use borrow.Author.Tests.{not-true, not-false}
 use Rattle.model.specs.Tree.{shown, kind}
@@ -13,7 +13,6 @@ use Rattle.model.specs.Checks.{parent_checks, parents_in}
 use Rattle.model.proofs.Codec.{path_short}
 use Rattle.base_paths.specs.Ancestors.{ancestors_from}
 use Rattle.view_at.specs.Sight.{visible_kind}
-use Rattle.view_at.proofs.Sights.{kind_seen}
 use Rattle.check_judged.specs.Judged.{check_of}
 use Rattle.check_parents.proofs.Parents.{Along, along_first, along_look, along_next, parents_first, parents_last, parents_next, parents_stop}
 use Rattle.check_parents.proofs.ensure_parent_exists.Statement.{statement}
@@ -69,7 +68,7 @@ returns c =
     let d = c.before.before.is-directory in
     let f = shown (table_in a.table.now a.rec) (tree_in a.listing.now) in
     parents_stop a.which f a.path.now l.at (visible_kind o.look.result.visible) l.invariant.1.slash (search rules) l.invariant.2
-    (kind_seen f (take l.at a.path.now) _ o.look.ensures.0) (check_of c.check-parent.result) (sym d.ensures ∙ not-true d.result c.before.if1.true)
+    o.look.ensures.0 (check_of c.check-parent.result) (sym d.ensures ∙ not-true d.result c.before.if1.true)
     c.check-parent.ensures
 
 add-next-ancestor : tie.Need-overflow-add-next-ancestor invariant-loop decreases-loop
@@ -95,7 +94,7 @@ loop-again c =
       along_next a.listing.now a.table.now a.rec a.path.now l.sight l.at l.invariant.1 (search rules) o.look.result.sight
           n.result o.look.ensures.1 n.ensures.0 n.ensures.1.0 n.ensures.1.1,
       parents_next a.which f a.path.now l.at (visible_kind o.look.result.visible) l.invariant.1.slash (search rules) l.invariant.2
-          (kind_seen f (take l.at a.path.now) _ o.look.ensures.0) n.result n.ensures.0 (sym d.ensures ∙ not-false d.result c.before.before.if1.false),
+          o.look.ensures.0 n.result n.ensures.0 (sym d.ensures ∙ not-false d.result c.before.before.if1.false),
     )
 
 returns-2 : tie.Need-returns-2 invariant-loop decreases-loop

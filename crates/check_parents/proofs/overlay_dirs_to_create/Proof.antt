@@ -3,14 +3,13 @@
 use mathlib.Core.Path.{ap, sym, ◌∙◌}
 use Prim.Native.Nat.{◌-◌, ◌≤◌}
 use native.Mathlib.Omega.{arith}
-use lib.ListN.{length, take}
+use lib.ListN.{length}
 use borrow.Author.Rules.{rules}
 use Rattle.model.specs.Tree.{shown, kind}
 use Rattle.model.specs.Listing.{tree_in}
 use Rattle.model.specs.Table.{table_in}
 use Rattle.model.proofs.Codec.{path_short}
 use Rattle.view_at.specs.Sight.{visible_kind}
-use Rattle.view_at.proofs.Sights.{kind_seen}
 use Rattle.check_judged.specs.Judged.{check_of}
 use Rattle.base_paths.specs.Dirs.{ends_of, climbs}
 use Rattle.check_judged.proofs.Checked.{refused_not_passed}
@@ -68,15 +67,14 @@ returns c =
     let a = o.before.before.before.before.before.before.before.before.args in
     let d = c.before.is-refused in
     let k = c.before.before.check-ancestor in
-    let f = shown (table_in a.table.now a.rec) (tree_in a.listing.now) in
-    let g = kind f in
+    let g = kind (shown (table_in a.table.now a.rec) (tree_in a.listing.now)) in
     let p = a.path.now in
     let es = ends_of l.dirs in
     let n = l.dirs.count in
     let x = visible_kind o.look.result.visible in
     let r = sym d.ensures ∙ c.if1.true in
     let h = going_room g p l.end es n l.invariant.2 l.invariant.1.slash (search rules) in (
-      going_stop g p l.end es n l.invariant.2 l.invariant.1.slash (search rules) x (kind_seen f (take l.end p) _ o.look.ensures.0) (check_of k.result) k.ensures r,
+      going_stop g p l.end es n l.invariant.2 l.invariant.1.slash (search rules) x o.look.ensures.0 (check_of k.result) k.ensures r,
       (
         λ e. absurd (refused_not_passed (check_of k.result) r e),
         (omega (arith, h), going_climbed g p l.end es n l.invariant.2),
@@ -110,13 +108,12 @@ loop-again c =
     let o = c.before.before.before.before.before.before in
     let l = o.before.before.loop in
     let a = o.before.before.before.before.before.before.before.before.args in
-    let f = shown (table_in a.table.now a.rec) (tree_in a.listing.now) in
-    let g = kind f in
+    let g = kind (shown (table_in a.table.now a.rec) (tree_in a.listing.now)) in
     let x = visible_kind o.look.result.visible in (
       n.ensures.1.1,
       along_next a.listing.now a.table.now a.rec a.path.now l.sight l.end l.invariant.1 (search rules) o.look.result.sight
           n.result o.look.ensures.1 n.ensures.0 n.ensures.1.0 n.ensures.1.1,
-      going_next g a.path.now l.end (ends_of l.dirs) l.dirs.count l.invariant.2 l.invariant.1.slash (search rules) x (kind_seen f (take l.end a.path.now) _ o.look.ensures.0)
+      going_next g a.path.now l.end (ends_of l.dirs) l.dirs.count l.invariant.2 l.invariant.1.slash (search rules) x o.look.ensures.0
           (check_of k.result) k.ensures n.result (ends_of w.result) w.result.count (sym d.ensures ∙ c.before.before.before.if1.false) n.ensures.0
           n.ensures.1.0 n.ensures.1.1 w.ensures.0 w.ensures.1,
     )

@@ -1,11 +1,9 @@
 -- `report_move` meets its contract: what plan and walk need, and what the call leaves, give the two numbers.
 use borrow.Author.Rules.{rules}
-use Rattle.model.specs.Tree.{shown}
 use Rattle.model.specs.Listing.{tree_in}
 use Rattle.model.specs.Table.{table_in}
 use Rattle.model.proofs.Codec.{decoded}
 use Rattle.view_at.specs.Sight.{visible_kind}
-use Rattle.view_at.proofs.Sights.{kind_seen}
 use Rattle.rename_checks.proofs.Passed.{kind_whole}
 use Rattle.least_rename.proofs.Reporting.{move_stopped, move_known}
 use Rattle.least_rename.proofs.report_move.Statement.{statement}
@@ -26,7 +24,7 @@ directory-need-requires c κs =
     let p = e.requires in
     let v = c.before.visible-at in
     let d = c.is-directory in
-    let k = kind_whole t l a.source.now a.destination.now p.1.1 (visible_kind v.result) (kind_seen (shown t l) a.source.now _ v.ensures) d.result d.ensures in
+    let k = kind_whole t l a.source.now a.destination.now p.1.1 (visible_kind v.result) v.ensures d.result d.ensures in
     (p.0, (p.1.0, k))
 
 enum_told : tie.Need-enum-told
@@ -54,7 +52,7 @@ foretell-requires c κs =
     let p = e.requires in
     let v = c.before.before.before.before.before.visible-at in
     let d = c.before.before.before.before.is-directory in
-    let k = kind_whole t l a.source.now a.destination.now p.1.1 (visible_kind v.result) (kind_seen (shown t l) a.source.now _ v.ensures) d.result d.ensures in
+    let k = kind_whole t l a.source.now a.destination.now p.1.1 (visible_kind v.result) v.ensures d.result d.ensures in
     (p.0, (p.1.0, (p.1.1, k)))
 
 report-of-requires : tie.Need-report-of-requires

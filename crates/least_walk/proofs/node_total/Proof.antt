@@ -2,7 +2,7 @@
 use mathlib.Core.Path.{sym, ◌∙◌}
 use native.Mathlib.Omega.{arith}
 use borrow.Author.Rules.{rules}
-use Rattle.least_walk.proofs.Adding.{at_dir, at_file, at_link_lem, at_other_lem, never_absent}
+use Rattle.least_walk.proofs.Adding.{at_dir, at_file, at_link_lem, never_absent}
 use Rattle.least_walk.proofs.node_total.Statement.{statement}
 use Rattle.least_walk.proofs.node_total.Tie as tie
 
@@ -46,13 +46,7 @@ enum-told-4 : tie.Need-enum-told-4
 enum-told-4 c = search rules
 
 returns-4 : tie.Need-returns-4
-returns-4 c = (omega arith, λ p n e f. at_other_lem p n _ (sym c.enum-told4.given.1 ∙ e))
-
-enum-told-5 : tie.Need-enum-told-5
-enum-told-5 c = search rules
-
-returns-5 : tie.Need-returns-5
-returns-5 c = (omega arith, λ p n e f. absurd (never_absent n (sym c.enum-told5.given.1 ∙ e)))
+returns-4 c = (omega arith, λ p n e f. absurd (never_absent n (sym c.enum-told4.given.1 ∙ e)))
 
 pub node-total-spec : {M : Type 1} → statement M
 node-total-spec =
@@ -69,6 +63,4 @@ node-total-spec =
     enum-told-3
     returns-3
     enum-told-4
-    returns-4
-    enum-told-5
-    returns-5)
+    returns-4)

@@ -1,9 +1,5 @@
 -- `listing_check::is_ruled` meets its contract: it tests the numbers that stand in the record.
-use mathlib.Core.Path.{ap, ◌∙◌}
-use Prim.Native.Nat.{ℕ, ◌+◌}
-use lib.ListN.{get_or}
 use borrow.Author.Rules.{rules}
-use Rattle.model.specs.Listing.{has_kind}
 use Rattle.listing_check.proofs.Heads.{by_numbers}
 use Rattle.listing_check.proofs.is_ruled.Statement.{statement}
 use Rattle.listing_check.proofs.is_ruled.Tie as tie
@@ -26,21 +22,10 @@ add-le64-2 c = search rules
 le64-requires-2 : tie.Need-le64-requires-2
 le64-requires-2 c κs = search rules
 
-le16-requires : tie.Need-le16-requires
-le16-requires c κs = search rules
-
-has-kind-requires : tie.Need-has-kind-requires
-has-kind-requires c κs = search rules
-
 returns : tie.Need-returns
 returns c =
-    let a = c.before.before.before.before.before.before.args in
-    let m = c.before.before.before.le64 in
-    let z = c.before.before.le642 in
-    let v = c.before.le16 in
-    let k = c.has-kind in
-    by_numbers a.s.now a.at m.result z.result k.result m.ensures z.ensures
-    (k.ensures ∙ ap (λ (n : ℕ). has_kind n (get_or a.s.now (a.at + 2) 0)) v.ensures.0)
+    let a = c.before.before.before.before.args in
+    by_numbers a.s.now a.at c.before.le64.result c.le642.result c.before.le64.ensures c.le642.ensures
 
 pub is-ruled-spec : {M : Type 1} → statement M
 is-ruled-spec =
@@ -52,6 +37,4 @@ is-ruled-spec =
     le64-requires
     add-le64-2
     le64-requires-2
-    le16-requires
-    has-kind-requires
     returns)

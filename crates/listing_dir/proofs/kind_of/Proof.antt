@@ -38,8 +38,9 @@ use denote.Triple.Walked.{says, needs, Stays, stay_none_slice, walk_of, Goes-non
 use denote.Exit.{yes}
 use denote.Triple.Clauses.{ensured, lasts}
 use Rattle.model.specs.Map.{lookup}
+use Rattle.model.specs.Tree.{kind}
 use Rattle.model.specs.Listing.{is_listing, record_count, tree_in}
-use Rattle.listing_records.specs.Found.{target_in}
+use Rattle.listing_records.specs.Found.{target_kind}
 use Rattle.listing_records.specs.declared.RealTarget.{RealTarget}
 use Rattle.listing_records.specs.contracts.RealTarget as S
 use Rattle.listing_records.proofs.RealTarget.TheLaws as S'
@@ -71,7 +72,7 @@ abbrev Asked : List ℕ → ℕ → Type 0
 Asked s n = (is_listing s ≡ true) × (n ≡ record_count s)
 
 abbrev Told : List ℕ → List ℕ → RealTarget → Type 0
-Told s p r = r ≡ target_in (lookup (tree_in s)) p
+Told s p r = target_kind r ≡ kind (lookup (tree_in s)) p
 
 module _ {M : Type 1} {𝓤 : Ura M} (𝓛 : Logic 𝓤) (mem : Memory → SProp 𝓤) (run : Routine → Fun 𝓤) where
   -- the contracts that the proof cites

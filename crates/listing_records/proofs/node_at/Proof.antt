@@ -1,6 +1,6 @@
 -- `node_at` meets its contract: the kind decides, as in the definition.
 use borrow.Author.Rules.{rules}
-use Rattle.listing_records.proofs.Places.{node_dir, node_file, node_link, node_other}
+use Rattle.listing_records.proofs.Places.{node_dir, node_file, node_link}
 use Rattle.listing_records.proofs.node_at.Statement.{statement}
 use Rattle.listing_records.proofs.node_at.Tie as tie
 
@@ -36,14 +36,8 @@ returns-2 c =
 
 returns-3 : tie.Need-returns-3
 returns-3 c =
-    let a = c.before.before.before.before.before.before.args in
-    node_link a.listing.now a.at c.if3.true
-
-returns-4 : tie.Need-returns-4
-returns-4 c =
-    let a = c.before.before.before.before.before.before.args in
-    let m = c.before.before.before.le64 in
-    node_other a.listing.now a.at m.result c.before.before.if1.false c.before.if2.false c.if3.false m.ensures
+    let a = c.before.before.before.before.before.args in
+    node_link a.listing.now a.at c.before.if1.false c.if2.false
 
 pub node_at_spec : {M : Type 1} → statement M
 node_at_spec =
@@ -57,5 +51,4 @@ node_at_spec =
     add-le64-2
     le64-requires-2
     returns-2
-    returns-3
-    returns-4)
+    returns-3)

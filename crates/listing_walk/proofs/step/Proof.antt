@@ -45,9 +45,9 @@ use denote.Triple.Clauses.{ensured, lasts}
 use denote.Exit.{yes}
 use Rattle.model.specs.Path.{ends_here}
 use Rattle.model.specs.Map.{lookup}
-use Rattle.model.specs.Tree.{is_directory}
+use Rattle.model.specs.Tree.{kind as kind_at, is_directory}
 use Rattle.model.specs.Listing.{is_listing, tree_in}
-use Rattle.listing_records.specs.Found.{target_kind, target_in}
+use Rattle.listing_records.specs.Found.{target_kind}
 use Rattle.listing_records.specs.Walk.{Walks}
 use Rattle.listing_records.specs.declared.ComponentWalk.{ComponentWalk}
 use Rattle.listing_records.specs.declared.Stepped.{Stepped}
@@ -158,7 +158,7 @@ module _ {M : Type 1} {𝓤 : Ura M} (𝓛 : Logic 𝓤) (at_mem : Memory → SP
   -- of the callee's `ensured`, the clauses alone: it has no `&mut`, so what is said of last values is dropped
   said : (r : Stepped) → ent 𝓤 (ensured 𝓛 callee.ended (callee.clauses 𝓛 at_mem run) (κ₁, (κ₂, tt)) (h, (s, (p, (n, tt)))) tt r) (fact 𝓤 (Told r))
   said r = ex_e 𝓤 _ (λ ws. via 𝓤 _ (snd∗ 𝓤 (sem 𝓛 (lasts callee.ended (κ₁, (κ₂, tt)) (h, (s, (p, (n, tt)))) ws)) _)
-      (learned 𝓤 (r.target ≡ target_in (lookup (tree_in s.now)) (takeN n p.now)) (r.walk.exhausted ≡ not (is_directory (target_kind r.target))) (h.exhausted ≡ true → r.walk ≡ h) (Walks s.now p.now r.walk (n + 1))
+      (learned 𝓤 (target_kind r.target ≡ kind_at (lookup (tree_in s.now)) (takeN n p.now)) (r.walk.exhausted ≡ not (is_directory (target_kind r.target))) (h.exhausted ≡ true → r.walk ≡ h) (Walks s.now p.now r.walk (n + 1))
       (λ a b c d. record { found = a; ended = b; stays = c; goes_on = d })))
 
   exits : (r : Stepped) (u : Val) → Is S.the_row r (u ∷ []) → Told r

@@ -7,7 +7,6 @@ use Rattle.model.specs.Tree.{shown, kind}
 use Rattle.model.specs.Checks.{parent_checks}
 use Rattle.model.specs.Rename.{not_link}
 use Rattle.view_at.specs.Sight.{visible_kind}
-use Rattle.view_at.proofs.Sights.{kind_seen}
 use Rattle.check_judged.specs.Judged.{check_of}
 use Rattle.check_judged.proofs.Thens.{ends, goes_on_at}
 use Rattle.rename_checks.proofs.check_destination.Statement.{statement}
@@ -44,7 +43,7 @@ returns-2 c =
     let t = c.reject-link in
     goes_on_at (parent_checks 1 f a.path.now) (check_of p.result) r.result p.ensures r.ensures
     (not_link 1 (length a.path.now)) (visible_kind v.result) (kind f a.path.now) (check_of t.result) c.before.before.if1.false
-    t.ensures (kind_seen f a.path.now _ v.ensures)
+    t.ensures v.ensures
 
 pub check-destination-spec : {M : Type 1} → statement M
 check-destination-spec =

@@ -8,7 +8,6 @@ use Rattle.model.specs.Tree.{shown, kind}
 use Rattle.model.specs.Checks.{◌then◌, parent_checks}
 use Rattle.model.specs.Rename.{not_link, not_deleted}
 use Rattle.view_at.specs.Sight.{visible_kind}
-use Rattle.view_at.proofs.Sights.{kind_seen}
 use Rattle.check_judged.specs.Judged.{check_of}
 use Rattle.check_judged.proofs.Thens.{ends, goes_on, goes_on_at}
 use Rattle.rename_checks.proofs.check_source.Statement.{statement}
@@ -80,7 +79,7 @@ returns-3 c =
     let y = c.reject-link in
     goes_on (parent_checks 0 f x) (check_of p.result) r.result p.ensures r.ensures (n then k) (check_of y.result) c.before.before.before.before.before.before.if1.false
     (goes_on_at n (check_of d.result) q.result (d.ensures a.table.now (lookup t x) g.ensures) q.ensures
-    (not_link 0 (length x)) (visible_kind v.result) (kind f x) (check_of y.result) c.before.before.if2.false y.ensures (kind_seen f x _ v.ensures))
+    (not_link 0 (length x)) (visible_kind v.result) (kind f x) (check_of y.result) c.before.before.if2.false y.ensures v.ensures)
 
 pub check-source-spec : {M : Type 1} → statement M
 check-source-spec =

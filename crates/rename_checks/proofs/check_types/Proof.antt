@@ -1,18 +1,17 @@
--- `check_types` meets its contract: the clash, a directory onto one that is not empty, a destination below the source, an absent source, a pipe or device.
+-- `check_types` meets its contract: the clash, a directory onto one that is not empty, a destination below the source, an absent source.
 use borrow.Author.Rules.{rules}
-use mathlib.Core.Bool.{cond, not}
+use mathlib.Core.Bool.{cond}
 use lib.ListN.{length}
 use Rattle.model.specs.Path.{below}
 use Rattle.model.specs.Listing.{tree_in}
 use Rattle.model.specs.Table.{table_in}
-use Rattle.model.specs.Tree.{shown, kind, is_other}
-use Rattle.model.specs.Checks.{pass, refuse, ◌then◌, unless, no_visible_child}
+use Rattle.model.specs.Tree.{shown, kind}
+use Rattle.model.specs.Checks.{pass, refuse, ◌then◌, no_visible_child}
 use Rattle.model.specs.Rename.{no_clash, present, if_directory}
 use Rattle.view_at.specs.Sight.{visible_kind}
-use Rattle.view_at.proofs.Sights.{kind_seen}
 use Rattle.check_judged.specs.Judged.{check_of}
-use Rattle.check_judged.proofs.Thens.{ends, goes_on}
-use Rattle.rename_checks.proofs.Alone.{clash_at, full_at, movable_at}
+use Rattle.check_judged.proofs.Thens.{ends, goes_on, goes_on_at}
+use Rattle.rename_checks.proofs.Alone.{clash_at, full_at}
 use Rattle.rename_checks.proofs.check_types.Statement.{statement}
 use Rattle.rename_checks.proofs.check_types.Tie as tie
 
@@ -35,18 +34,17 @@ returns c =
     let l = tree_in a.listing.now in
     let x = a.source.now in
     let y = a.destination.now in
-    let f = shown t l in
-    let k = kind f x in
-    let m = kind f y in
+    let k = kind (shown t l) x in
+    let m = kind (shown t l) y in
     let u = no_clash (length y) k m in
     let w = if_directory k (if_directory m (no_visible_child 1 t l y)) in
     let z = cond (below x y) (refuse 10 0 (length x)) pass in
-    let o = present (length x) k then unless 19 (not (is_other f x)) in
+    let o = present (length x) k in
     let v = c.before.before.before.before.visible-at in
     let d = c.before.before.before.visible-at2 in
     let g = c.before.before.reject-rename-type-mismatch in
     let r = c.before.is-refused in
-    let e = clash_at (visible_kind v.result) (visible_kind d.result) k m (kind_seen f x _ v.ensures) (kind_seen f y _ d.ensures) (check_of g.result) (length y) g.ensures in
+    let e = clash_at (visible_kind v.result) (visible_kind d.result) k m v.ensures d.ensures (check_of g.result) (length y) g.ensures in
     ends u (check_of g.result) r.result e r.ensures (w then z then o) c.if1.true
 
 reject-rename-onto-nonempty-dir-requires : tie.Need-reject-rename-onto-nonempty-dir-requires
@@ -62,22 +60,21 @@ returns-2 c =
     let l = tree_in a.listing.now in
     let x = a.source.now in
     let y = a.destination.now in
-    let f = shown t l in
-    let k = kind f x in
-    let m = kind f y in
+    let k = kind (shown t l) x in
+    let m = kind (shown t l) y in
     let u = no_clash (length y) k m in
     let w = if_directory k (if_directory m (no_visible_child 1 t l y)) in
     let z = cond (below x y) (refuse 10 0 (length x)) pass in
-    let o = present (length x) k then unless 19 (not (is_other f x)) in
+    let o = present (length x) k in
     let v = c.before.before.before.before.before.before.before.visible-at in
     let d = c.before.before.before.before.before.before.visible-at2 in
     let g = c.before.before.before.before.before.reject-rename-type-mismatch in
     let r = c.before.before.before.before.is-refused in
-    let e = clash_at (visible_kind v.result) (visible_kind d.result) k m (kind_seen f x _ v.ensures) (kind_seen f y _ d.ensures) (check_of g.result) (length y) g.ensures in
+    let e = clash_at (visible_kind v.result) (visible_kind d.result) k m v.ensures d.ensures (check_of g.result) (length y) g.ensures in
     let h = c.before.before.reject-rename-onto-nonempty-dir in
     let s = c.before.is-refused2 in
     let i =
-    full_at (visible_kind v.result) (visible_kind d.result) k m (kind_seen f x _ v.ensures) (kind_seen f y _ d.ensures) (check_of h.result) (no_visible_child 1 t l y) h.ensures in
+    full_at (visible_kind v.result) (visible_kind d.result) k m v.ensures d.ensures (check_of h.result) (no_visible_child 1 t l y) h.ensures in
     goes_on u (check_of g.result) r.result e r.ensures (w then z then o) (check_of h.result) c.before.before.before.if1.false
     (ends w (check_of h.result) s.result i s.ensures (z then o) c.if2.true)
 
@@ -94,30 +91,29 @@ returns-3 c =
     let l = tree_in a.listing.now in
     let x = a.source.now in
     let y = a.destination.now in
-    let f = shown t l in
-    let k = kind f x in
-    let m = kind f y in
+    let k = kind (shown t l) x in
+    let m = kind (shown t l) y in
     let u = no_clash (length y) k m in
     let w = if_directory k (if_directory m (no_visible_child 1 t l y)) in
     let z = cond (below x y) (refuse 10 0 (length x)) pass in
-    let o = present (length x) k then unless 19 (not (is_other f x)) in
+    let o = present (length x) k in
     let v = c.before.before.before.before.before.before.before.before.before.before.visible-at in
     let d = c.before.before.before.before.before.before.before.before.before.visible-at2 in
     let g = c.before.before.before.before.before.before.before.before.reject-rename-type-mismatch in
     let r = c.before.before.before.before.before.before.before.is-refused in
-    let e = clash_at (visible_kind v.result) (visible_kind d.result) k m (kind_seen f x _ v.ensures) (kind_seen f y _ d.ensures) (check_of g.result) (length y) g.ensures in
+    let e = clash_at (visible_kind v.result) (visible_kind d.result) k m v.ensures d.ensures (check_of g.result) (length y) g.ensures in
     let h = c.before.before.before.before.before.reject-rename-onto-nonempty-dir in
     let s = c.before.before.before.before.is-refused2 in
     let i =
-    full_at (visible_kind v.result) (visible_kind d.result) k m (kind_seen f x _ v.ensures) (kind_seen f y _ d.ensures) (check_of h.result) (no_visible_child 1 t l y) h.ensures in
+    full_at (visible_kind v.result) (visible_kind d.result) k m v.ensures d.ensures (check_of h.result) (no_visible_child 1 t l y) h.ensures in
     let j = c.before.before.reject-below in
     let q = c.before.is-refused3 in
     goes_on u (check_of g.result) r.result e r.ensures (w then z then o) (check_of j.result) c.before.before.before.before.before.before.if1.false
     (goes_on w (check_of h.result) s.result i s.ensures (z then o) (check_of j.result) c.before.before.before.if2.false
     (ends z (check_of j.result) q.result j.ensures q.ensures o c.if3.true))
 
-reject-unmovable-requires : tie.Need-reject-unmovable-requires
-reject-unmovable-requires c κs = search rules
+reject-absent-requires : tie.Need-reject-absent-requires
+reject-absent-requires c κs = search rules
 
 returns-4 : tie.Need-returns-4
 returns-4 c =
@@ -126,29 +122,28 @@ returns-4 c =
     let l = tree_in a.listing.now in
     let x = a.source.now in
     let y = a.destination.now in
-    let f = shown t l in
-    let k = kind f x in
-    let m = kind f y in
+    let k = kind (shown t l) x in
+    let m = kind (shown t l) y in
     let u = no_clash (length y) k m in
     let w = if_directory k (if_directory m (no_visible_child 1 t l y)) in
     let z = cond (below x y) (refuse 10 0 (length x)) pass in
-    let o = present (length x) k then unless 19 (not (is_other f x)) in
+    let o = present (length x) k in
     let v = c.before.before.before.before.before.before.before.before.before.before.before.visible-at in
     let d = c.before.before.before.before.before.before.before.before.before.before.visible-at2 in
     let g = c.before.before.before.before.before.before.before.before.before.reject-rename-type-mismatch in
     let r = c.before.before.before.before.before.before.before.before.is-refused in
-    let e = clash_at (visible_kind v.result) (visible_kind d.result) k m (kind_seen f x _ v.ensures) (kind_seen f y _ d.ensures) (check_of g.result) (length y) g.ensures in
+    let e = clash_at (visible_kind v.result) (visible_kind d.result) k m v.ensures d.ensures (check_of g.result) (length y) g.ensures in
     let h = c.before.before.before.before.before.before.reject-rename-onto-nonempty-dir in
     let s = c.before.before.before.before.before.is-refused2 in
     let i =
-    full_at (visible_kind v.result) (visible_kind d.result) k m (kind_seen f x _ v.ensures) (kind_seen f y _ d.ensures) (check_of h.result) (no_visible_child 1 t l y) h.ensures in
+    full_at (visible_kind v.result) (visible_kind d.result) k m v.ensures d.ensures (check_of h.result) (no_visible_child 1 t l y) h.ensures in
     let j = c.before.before.before.reject-below in
     let q = c.before.before.is-refused3 in
-    let b = c.reject-unmovable in
+    let b = c.reject-absent in
     goes_on u (check_of g.result) r.result e r.ensures (w then z then o) (check_of b.result) c.before.before.before.before.before.before.before.if1.false
     (goes_on w (check_of h.result) s.result i s.ensures (z then o) (check_of b.result) c.before.before.before.before.if2.false
-    (goes_on z (check_of j.result) q.result j.ensures q.ensures o (check_of b.result) c.before.if3.false
-    (movable_at (length x) f x v.result v.ensures (check_of b.result) b.ensures)))
+    (goes_on_at z (check_of j.result) q.result j.ensures q.ensures (present (length x)) (visible_kind v.result) k (check_of b.result)
+    c.before.if3.false b.ensures v.ensures))
 
 pub check-types-spec : {M : Type 1} → statement M
 check-types-spec =
@@ -165,5 +160,5 @@ check-types-spec =
     reject-below-requires
     is-refused-requires-3
     returns-3
-    reject-unmovable-requires
+    reject-absent-requires
     returns-4)

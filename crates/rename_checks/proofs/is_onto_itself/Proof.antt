@@ -5,7 +5,6 @@ use borrow.Author.Rules.{rules}
 use Rattle.model.specs.Bytes.{same}
 use Rattle.model.specs.Tree.{kind, is_nothing}
 use Rattle.model.specs.Outcome.{shown_in}
-use Rattle.view_at.proofs.Sights.{kind_seen}
 use Rattle.rename_checks.proofs.Alone.{at_itself, not_itself}
 use Rattle.rename_checks.proofs.is_onto_itself.Statement.{statement}
 use Rattle.rename_checks.proofs.is_onto_itself.Tie as tie
@@ -25,9 +24,8 @@ returns c =
     let i = c.before.before.before.is_same in
     let v = c.before.visible-at in
     let n = c.is-nothing in
-    let f = shown_in a.listing.now a.table.now a.rec in
-    at_itself (same a.source.now a.destination.now) (is_nothing (kind f a.source.now))
-    i.result n.result i.ensures c.before.before.if1.true (n.ensures ∙ ap is_nothing (kind_seen f a.source.now _ v.ensures))
+    at_itself (same a.source.now a.destination.now) (is_nothing (kind (shown_in a.listing.now a.table.now a.rec) a.source.now))
+    i.result n.result i.ensures c.before.before.if1.true (n.ensures ∙ ap is_nothing v.ensures)
 
 returns-2 : tie.Need-returns-2
 returns-2 c =

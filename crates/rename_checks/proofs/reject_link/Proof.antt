@@ -33,23 +33,7 @@ returns-4 c =
     let a = c.before.before.args in
     sym (ap (λ (v : Visible). not_link a.which a.len (visible_kind v)) c.enum-told4.given.1)
 
-enum-told-5 : tie.Need-enum-told-5
-enum-told-5 c = search rules
-
-returns-5 : tie.Need-returns-5
-returns-5 c = search rules
-
 pub reject-link-spec : {M : Type 1} → statement M
 reject-link-spec =
     tie.close
-    (tie.spec
-    enum_told
-    returns
-    enum-told-2
-    returns-2
-    enum-told-3
-    returns-3
-    enum-told-4
-    returns-4
-    enum-told-5
-    returns-5)
+    (tie.spec enum_told returns enum-told-2 returns-2 enum-told-3 returns-3 enum-told-4 returns-4)

@@ -1,5 +1,4 @@
--- `reject_rename_type_mismatch` meets its contract: onto a directory anything but a directory clashes, onto a file, a pipe or a
--- device a directory does.
+-- `reject_rename_type_mismatch` meets its contract: onto a directory anything but a directory clashes, onto a file a directory does.
 use borrow.Author.Rules.{rules}
 use mathlib.Core.Path.{ap}
 use Rattle.view_at.specs.Sight.{visible_kind}
@@ -46,18 +45,6 @@ enum-told-4 c = search rules
 returns-6 : tie.Need-returns-6
 returns-6 c = search rules
 
-enum-told-5 : tie.Need-enum-told-5
-enum-told-5 c = search rules
-
-returns-7 : tie.Need-returns-7
-returns-7 c =
-    let a = c.before.before.before.before.args in
-    let d = c.before.before.before.is-directory in
-    clash_file a.len (visible_kind a.source) (visible_kind a.destination) d.result d.ensures (ap visible_kind c.before.enum-told5.given.1) c.if3.true
-
-returns-8 : tie.Need-returns-8
-returns-8 c = search rules
-
 pub reject-rename-type-mismatch-spec : {M : Type 1} → statement M
 reject-rename-type-mismatch-spec =
     tie.close
@@ -72,7 +59,4 @@ reject-rename-type-mismatch-spec =
     returns-4
     returns-5
     enum-told-4
-    returns-6
-    enum-told-5
-    returns-7
-    returns-8)
+    returns-6)

@@ -28,12 +28,6 @@ enum-told-4 c = search rules
 returns-4 : tie.Need-returns-4
 returns-4 c = file_case _ _ c.enum-told4.given.1
 
-enum-told-5 : tie.Need-enum-told-5
-enum-told-5 c = search rules
-
-returns-5 : tie.Need-returns-5
-returns-5 c = file_case _ _ c.enum-told5.given.1
-
 pub is-file-spec : {M : Type 1} → statement M
 is-file-spec =
     tie.close
@@ -45,6 +39,4 @@ is-file-spec =
     enum-told-3
     returns-3
     enum-told-4
-    returns-4
-    enum-told-5
-    returns-5)
+    returns-4)

@@ -28,12 +28,6 @@ enum-told-2 c = search rules
 returns-4 : tie.Need-returns-4
 returns-4 c = in_case _ _ c.enum-told2.given.1
 
-enum-told-3 : tie.Need-enum-told-3
-enum-told-3 c = search rules
-
-returns-5 : tie.Need-returns-5
-returns-5 c = in_case _ _ c.enum-told3.given.1
-
 pub listed-fields-spec : {M : Type 1} → statement M
 listed-fields-spec =
     tie.close
@@ -45,6 +39,4 @@ listed-fields-spec =
     enum_told
     returns-3
     enum-told-2
-    returns-4
-    enum-told-3
-    returns-5)
+    returns-4)

@@ -4,7 +4,6 @@ use borrow.Author.Rules.{rules}
 use Rattle.model.specs.Rename.{walked}
 use Rattle.rename_walk.specs.Walked.{walk_of}
 use Rattle.rename_walk.specs.declared.Walked.{Walked}
-use Rattle.check_judged.specs.Judged.{check_of}
 use Rattle.rename_plan.proofs.Plans.{stopped_gives}
 use Rattle.rename_plan.proofs.check_walked.Statement.{statement}
 use Rattle.rename_plan.proofs.check_walked.Tie as tie
@@ -25,17 +24,14 @@ returns-2 c =
     let a = c.before.before.args in
     sym (ap (λ (w : Walked). walked a.len (walk_of w)) c.enum-told2.given.1)
 
-enum-known-walk : tie.Need-enum-known-walk
-enum-known-walk c = search rules
-
-check-stop-requires : tie.Need-check-stop-requires
-check-stop-requires c κs = search rules
+enum-told-3 : tie.Need-enum-told-3
+enum-told-3 c = search rules
 
 returns-3 : tie.Need-returns-3
 returns-3 c =
-    let a = c.before.before.before.before.args in
-    stopped_gives a.len a.walk _ _ (check_of c.check-stop.result) c.before.before.walk.given.1 c.check-stop.ensures
+    let a = c.before.before.args in
+    stopped_gives a.len a.walk _ _ c.enum-told3.given.1
 
 pub check-walked-spec : {M : Type 1} → statement M
 check-walked-spec =
-    tie.close (tie.spec enum_told returns enum-told-2 returns-2 enum-known-walk check-stop-requires returns-3)
+    tie.close (tie.spec enum_told returns enum-told-2 returns-2 enum-told-3 returns-3)

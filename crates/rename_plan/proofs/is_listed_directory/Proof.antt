@@ -1,10 +1,7 @@
 -- `is_listed_directory` meets its contract: the kind at the path is asked whether it is a directory.
 use mathlib.Core.Path.{ap, ◌∙◌}
 use borrow.Author.Rules.{rules}
-use Rattle.model.specs.Map.{lookup}
 use Rattle.model.specs.Tree.{is_directory}
-use Rattle.model.specs.Listing.{tree_in}
-use Rattle.listing_records.proofs.Steps.{kind_in_lem}
 use Rattle.rename_plan.proofs.is_listed_directory.Statement.{statement}
 use Rattle.rename_plan.proofs.is_listed_directory.Tie as tie
 
@@ -15,10 +12,7 @@ is-dir-requires : tie.Need-is-dir-requires
 is-dir-requires c κs = search rules
 
 returns : tie.Need-returns
-returns c =
-    let a = c.before.before.before.before.args in
-    let t = c.before.kind-of in
-    c.is-dir.ensures ∙ ap is_directory (kind_in_lem (lookup (tree_in a.listing.now)) a.path.now t.result t.ensures)
+returns c = c.is-dir.ensures ∙ ap is_directory c.before.kind-of.ensures
 
 pub is-listed-directory-spec : {M : Type 1} → statement M
 is-listed-directory-spec = tie.close (tie.spec kind-of-requires is-dir-requires returns)

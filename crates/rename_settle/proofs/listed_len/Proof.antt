@@ -47,15 +47,6 @@ returns-4 c =
     ap (λ (e : Entry). length (body_of e))
     (told_entry a.listing.now a.source.now _ _ c.before.before.find.ensures c.enum-told4.given.1)
 
-enum-told-5 : tie.Need-enum-told-5
-enum-told-5 c = search rules
-
-returns-5 : tie.Need-returns-5
-returns-5 c =
-    let a = c.before.before.before.before.before.args in
-    ap (λ (e : Entry). length (body_of e))
-    (told_entry a.listing.now a.source.now _ _ c.before.before.find.ensures c.enum-told5.given.1)
-
 pub listed-len-spec : {M : Type 1} → statement M
 listed-len-spec =
     tie.close
@@ -68,6 +59,4 @@ listed-len-spec =
     enum-told-3
     returns-3
     enum-told-4
-    returns-4
-    enum-told-5
-    returns-5)
+    returns-4)

@@ -1,7 +1,7 @@
 -- `is_directory` meets its contract: each case of an answer tells the node's kind.
 use mathlib.Core.Path.{sym, ◌∙◌}
 use borrow.Author.Rules.{rules}
-use Rattle.rename_walk.proofs.Budgets.{never_absent, dir_is, file_is, link_is, other_is}
+use Rattle.rename_walk.proofs.Budgets.{never_absent, dir_is, file_is, link_is}
 use Rattle.rename_walk.proofs.is_directory.Statement.{statement}
 use Rattle.rename_walk.proofs.is_directory.Tie as tie
 
@@ -27,25 +27,9 @@ enum-told-4 : tie.Need-enum-told-4
 enum-told-4 c = search rules
 
 returns-4 : tie.Need-returns-4
-returns-4 c = λ n e. other_is n _ (sym c.enum-told4.given.1 ∙ e)
-
-enum-told-5 : tie.Need-enum-told-5
-enum-told-5 c = search rules
-
-returns-5 : tie.Need-returns-5
-returns-5 c = λ n e. absurd (never_absent n (sym c.enum-told5.given.1 ∙ e))
+returns-4 c = λ n e. absurd (never_absent n (sym c.enum-told4.given.1 ∙ e))
 
 pub is-directory-spec : {M : Type 1} → statement M
 is-directory-spec =
     tie.close
-    (tie.spec
-    enum_told
-    returns
-    enum-told-2
-    returns-2
-    enum-told-3
-    returns-3
-    enum-told-4
-    returns-4
-    enum-told-5
-    returns-5)
+    (tie.spec enum_told returns enum-told-2 returns-2 enum-told-3 returns-3 enum-told-4 returns-4)

@@ -1,7 +1,7 @@
 -- `visit_from` meets its contract: each case of an answer tells what the visit of its node adds.
 use mathlib.Core.Path.{sym, ◌∙◌}
 use borrow.Author.Rules.{rules}
-use Rattle.rename_walk.proofs.Budgets.{at_dir, at_file, at_link_lem, at_other_lem, never_absent}
+use Rattle.rename_walk.proofs.Budgets.{at_dir, at_file, at_link_lem, never_absent}
 use Rattle.rename_walk.proofs.visit_from.Statement.{statement}
 use Rattle.rename_walk.proofs.visit_from.Tie as tie
 
@@ -49,13 +49,7 @@ enum-told-4 : tie.Need-enum-told-4
 enum-told-4 c = search rules
 
 returns-4 : tie.Need-returns-4
-returns-4 c = λ p n e f. let a = c.before.before.args in at_other_lem a.budget.available a.total p n _ (sym c.enum-told4.given.1 ∙ e)
-
-enum-told-5 : tie.Need-enum-told-5
-enum-told-5 c = search rules
-
-returns-5 : tie.Need-returns-5
-returns-5 c = λ p n e f. absurd (never_absent n (sym c.enum-told5.given.1 ∙ e))
+returns-4 c = λ p n e f. absurd (never_absent n (sym c.enum-told4.given.1 ∙ e))
 
 pub visit-from-spec : {M : Type 1} → statement M
 visit-from-spec =
@@ -74,6 +68,4 @@ visit-from-spec =
     enum-told-3
     returns-3
     enum-told-4
-    returns-4
-    enum-told-5
-    returns-5)
+    returns-4)

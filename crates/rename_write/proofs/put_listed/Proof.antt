@@ -107,27 +107,6 @@ returns-4 c =
     let p = c.before.before.put-source-deletion2 in
     one_done a.table.now a.work.now p.new.0 a.merge p.result a.destination.now _ _ y p.ensures
 
-enum-told-3 : tie.Need-enum-told-3
-enum-told-3 c = search rules
-
-put-source-deletion-requires-3 : tie.Need-put-source-deletion-requires-3
-put-source-deletion-requires-3 c κs =
-    let e = c.before.before.before.before.before.before.before.before.before in
-    let a = e.args in
-    let y = told_entry a.listing.now a.source.now _ _ c.before.before.before.find.ensures c.before.enum-told3.given.1 in
-    one_fits a.table.now a.work.now a.merge a.destination.now _ _ y e.requires.1
-
-same-length-5 : tie.Need-same-length-5
-same-length-5 c = search rules
-
-returns-5 : tie.Need-returns-5
-returns-5 c =
-    let a = c.before.before.before.before.before.before.before.before.before.before.before.before.args in
-    let y = told_entry a.listing.now a.source.now _ _ c.before.before.before.before.before.before.find.ensures
-    c.before.before.before.before.enum-told3.given.1 in
-    let p = c.before.before.put-source-deletion3 in
-    one_done a.table.now a.work.now p.new.0 a.merge p.result a.destination.now _ _ y p.ensures
-
 pub put-listed-spec : {M : Type 1} → statement M
 put-listed-spec =
     tie.close
@@ -149,8 +128,4 @@ put-listed-spec =
     enum-told-2
     put-source-deletion-requires-2
     same-length-4
-    returns-4
-    enum-told-3
-    put-source-deletion-requires-3
-    same-length-5
-    returns-5)
+    returns-4)

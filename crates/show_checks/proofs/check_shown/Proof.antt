@@ -1,11 +1,9 @@
 -- `check_shown` meets its contract: the path's entry and the links on its way, then what is visible at the path.
 use borrow.Author.Rules.{rules}
 use Rattle.model.specs.Map.{lookup}
-use Rattle.model.specs.Tree.{shown}
 use Rattle.model.specs.Listing.{tree_in}
 use Rattle.model.specs.Table.{table_in}
 use Rattle.view_at.specs.Sight.{visible_kind}
-use Rattle.view_at.proofs.Sights.{kind_seen}
 use Rattle.check_judged.specs.Judged.{check_of}
 use Rattle.show_checks.proofs.Shown.{link_refused, way_passed}
 use Rattle.show_checks.proofs.check_shown.Statement.{statement}
@@ -48,7 +46,7 @@ returns-2 c =
     let v = c.before.visible-at in
     let d = c.check-directory in
     way_passed t (tree_in a.listing.now) p n.result w.result (n.ensures a.table.now (lookup t p) g.ensures) w.ensures o.if1.false
-    (check_of d.result) (visible_kind v.result) d.ensures (kind_seen (shown t (tree_in a.listing.now)) p _ v.ensures)
+    (check_of d.result) (visible_kind v.result) d.ensures v.ensures
 
 pub check-shown-spec : {M : Type 1} → statement M
 check-shown-spec =

@@ -3,14 +3,12 @@
 use mathlib.Core.Path.{◌≡◌, sym, ◌∙◌}
 use Prim.Native.Nat.{◌-◌, ◌≤◌}
 use native.Mathlib.Omega.{arith}
-use lib.ListN.{length, take}
+use lib.ListN.{length}
 use borrow.Author.Rules.{rules}
 use borrow.Author.Tests.{not-true, not-false}
-use Rattle.model.specs.Map.{lookup}
 use Rattle.model.specs.Listing.{tree_in}
 use Rattle.model.proofs.Codec.{path_short}
 use Rattle.listing_records.specs.Found.{target_kind}
-use Rattle.listing_records.proofs.Steps.{kind_in_lem}
 use Rattle.show_names.specs.Names.{link_on_way}
 use Rattle.show_checks.proofs.Ways.{Down, down_first, down_step, down_next, link_from, link_first_lem, link_last_lem, link_next, link_stop}
 use Rattle.show_checks.proofs.has_link_on_way.Statement.{statement}
@@ -62,7 +60,7 @@ returns c =
     let s = o.step-once in
     let d = c.before.before.is-dir in
     link_stop a.listing.now a.path.now l.at (target_kind s.result.target) l.invariant.1.slash (search rules) l.invariant.2
-    (kind_in_lem (lookup (tree_in a.listing.now)) (take l.at a.path.now) s.result.target s.ensures.found) s.result.walk c.is-link.result (sym d.ensures ∙ not-true d.result c.before.if1.true)
+    s.ensures.found s.result.walk c.is-link.result (sym d.ensures ∙ not-true d.result c.before.if1.true)
     s.ensures.ended s.ensures.goes_on c.is-link.ensures
 
 add-next-ancestor : tie.Need-overflow-add-next-ancestor invariant-loop decreases-loop
@@ -88,7 +86,7 @@ loop-again c =
       down_next a.listing.now a.path.now l.walk l.at l.invariant.1 (search rules) s.result.walk n.result s.ensures.goes_on
           n.ensures.0 n.ensures.1.0 n.ensures.1.1,
       link_next a.listing.now a.path.now l.at (target_kind s.result.target) l.invariant.1.slash (search rules) l.invariant.2
-          (kind_in_lem (lookup (tree_in a.listing.now)) (take l.at a.path.now) s.result.target s.ensures.found) n.result n.ensures.0 (sym d.ensures ∙ not-false d.result c.before.before.if1.false),
+          s.ensures.found n.result n.ensures.0 (sym d.ensures ∙ not-false d.result c.before.before.if1.false),
     )
 
 returns-2 : tie.Need-returns-2 invariant-loop decreases-loop

@@ -2,7 +2,8 @@
 use mathlib.Core.Path.{sym}
 use lib.Seq.{length-take-le}
 use borrow.Author.Rules.{rules}
-use Rattle.view_at.proofs.Sights.{seen_front, sees_next}
+use Rattle.view_at.specs.Sight.{visible_kind}
+use Rattle.view_at.proofs.Sights.{seen_kind, sees_next}
 use Rattle.view_at.proofs.look.Statement.{statement}
 use Rattle.view_at.proofs.look.Tie as tie
 
@@ -29,8 +30,8 @@ returns c =
     let g = c.before.before.before.before.get_from in
     let i = c.before.before.before.before.before.before.before.before.before.before.before in
     let a = i.args in (
-      seen_front a.listing.now a.table.now a.rec a.path.now a.sight a.end i.requires.0 i.requires.1.0 i.requires.1.1 g.result.place
-          g.ensures.1 o.result g.result.entry t.result.target g.ensures.0 t.ensures.found o.ensures,
+      seen_kind a.listing.now a.table.now a.rec a.path.now a.sight a.end i.requires.0 i.requires.1.0 i.requires.1.1 g.result.place
+          g.ensures.1 (visible_kind o.result) g.result.entry t.result.target g.ensures.0 t.ensures.found o.ensures,
       sees_next a.listing.now a.table.now a.rec a.path.now a.sight a.end i.requires.0 i.requires.1.0 i.requires.1.1 g.result.place
           g.ensures.1 t.result.walk t.ensures.goes_on,
     )

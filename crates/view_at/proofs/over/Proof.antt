@@ -2,7 +2,6 @@
 use mathlib.Core.Path.{ap, sym, ◌∙◌}
 use borrow.Author.Rules.{rules}
 use Rattle.table_entries.specs.Said.{said_of}
-use Rattle.view_at.specs.Sight.{visible_target}
 use Rattle.view_at.proofs.Sights.{over_file, over_reference, over_directory, over_deleted, over_absent}
 use Rattle.view_at.proofs.over.Statement.{statement}
 use Rattle.view_at.proofs.over.Tie as tie
@@ -38,7 +37,7 @@ of-target-requires : tie.Need-of-target-requires
 of-target-requires c κs = search rules
 
 returns-5 : tie.Need-returns-5
-returns-5 c = λ s e n h i. over_absent e n _ (sym (ap (said_of s) c.before.enum-told2.given.1) ∙ h) (c.of-target.ensures ∙ ap visible_target i)
+returns-5 c = λ s e n h i. over_absent e n _ (sym (ap (said_of s) c.before.enum-told2.given.1) ∙ h) (c.of-target.ensures ∙ i)
 
 pub over-spec : {M : Type 1} → statement M
 over-spec =

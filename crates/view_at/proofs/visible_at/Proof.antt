@@ -3,14 +3,16 @@ use borrow.Author.Rules.{rules}
 use Rattle.model.specs.Table.{table_in}
 use Rattle.model.specs.Listing.{tree_in}
 use Rattle.model.specs.Tree.{shown}
-use Rattle.view_at.proofs.Sights.{root_seen, seen_whole}
+use Rattle.listing_dir.proofs.Targets.{root_kind}
+use Rattle.view_at.specs.Sight.{visible_kind}
+use Rattle.view_at.proofs.Sights.{whole_kind}
 use Rattle.view_at.proofs.visible_at.Statement.{statement}
 use Rattle.view_at.proofs.visible_at.Tie as tie
 
 returns : tie.Need-returns
 returns c =
     let a = c.before.before.before.before.args in
-    root_seen (shown (table_in a.table.now a.rec) (tree_in a.listing.now)) a.path.now c.if1.true
+    root_kind (shown (table_in a.table.now a.rec) (tree_in a.listing.now)) a.path.now c.if1.true
 
 get-requires : tie.Need-get-requires
 get-requires c κs = search rules
@@ -26,7 +28,7 @@ returns-2 c =
     let a = c.before.before.before.before.before.before.before.args in
     let g = c.before.before.get in
     let t = c.before.kind-of in
-    seen_whole a.listing.now a.table.now a.rec a.path.now c.before.before.before.if1.false c.over.result g.result
+    whole_kind a.listing.now a.table.now a.rec a.path.now c.before.before.before.if1.false (visible_kind c.over.result) g.result
     t.result g.ensures t.ensures c.over.ensures
 
 pub visible-at-spec : {M : Type 1} → statement M

@@ -1,7 +1,7 @@
 -- `is_as_listed` meets its contract, by the cases of what is listed.
 use Rattle.model.specs.Listing.{record_at}
 use Rattle.model.specs.Table.{entry_at}
-use Rattle.view_marks.proofs.Marked.{node_there, as_directory, as_file, as_link, as_other, as_absent}
+use Rattle.view_marks.proofs.Marked.{node_there, as_directory, as_file, as_link, as_absent}
 use borrow.Author.Rules.{rules}
 use Rattle.view_marks.proofs.is_as_listed.Statement.{statement}
 use Rattle.view_marks.proofs.is_as_listed.Tie as tie
@@ -65,19 +65,7 @@ returns-4 c =
     let r = record_at a.part.now a.merge.records.at in
     let e = entry_at a.own.now a.merge.entries.at in
     let n = c.before.before.node_at in
-    as_other r e n.result n.ensures _ c.enum-told2.given.1
-
-enum-told-3 : tie.Need-enum-told-3
-enum-told-3 c = search rules
-
-returns-5 : tie.Need-returns-5
-returns-5 c =
-    let i = c.before.before.before.before.before.before.before in
-    let a = i.args in
-    let r = record_at a.part.now a.merge.records.at in
-    let e = entry_at a.own.now a.merge.entries.at in
-    let n = c.before.before.node_at in
-    as_absent r e n.result n.ensures c.enum-told3.given.1
+    as_absent r e n.result n.ensures c.enum-told2.given.1
 
 pub is-as-listed-spec : {M : Type 1} → statement M
 is-as-listed-spec =
@@ -93,6 +81,4 @@ is-as-listed-spec =
     enum_told
     returns-3
     enum-told-2
-    returns-4
-    enum-told-3
-    returns-5)
+    returns-4)

@@ -1,22 +1,21 @@
 -- `is_no_link` meets its contract: the kind decides, as in the definition.
 use mathlib.Core.Path.{refl}
 use native.Mathlib.Omega.{arith}
-use Rattle.model.specs.Listing.{record_at}
 use Rattle.listing_records.proofs.Places.{stands}
 use Rattle.view_merge.proofs.Told.{no_link}
 use Rattle.view_merge.proofs.is_no_link.Statement.{statement}
 use Rattle.view_merge.proofs.is_no_link.Tie as tie
 
-add-result : tie.Need-overflow-add-result
-add-result c =
+add-kind : tie.Need-overflow-add-kind
+add-kind c =
     let i = c.before in
     let a = i.args in
     let h = (stands a.part.now a.records.left a.records.at i.requires.1 i.requires.0).head in
     let s = i.requires.0.small in
     omega arith
 
-shared-slice-read-result : tie.Need-shared-slice-read-result
-shared-slice-read-result c =
+shared-slice-read-kind : tie.Need-shared-slice-read-kind
+shared-slice-read-kind c =
     let i = c.before.before in
     let a = i.args in
     let h = (stands a.part.now a.records.left a.records.at i.requires.1 i.requires.0).head in
@@ -25,7 +24,7 @@ shared-slice-read-result c =
 returns : tie.Need-returns
 returns c =
     let a = c.before.before.args in
-    no_link (record_at a.part.now a.records.at) _ refl
+    no_link a.part.now a.records.at _ refl
 
 pub is-no-link-spec : {M : Type 1} → statement M
-is-no-link-spec = tie.close (tie.spec add-result shared-slice-read-result returns)
+is-no-link-spec = tie.close (tie.spec add-kind shared-slice-read-kind returns)

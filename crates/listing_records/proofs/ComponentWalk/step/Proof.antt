@@ -7,7 +7,7 @@ use borrow.Author.Rules.{rules}
 use Rattle.model.proofs.Orders.{bot}
 use lib.Seq.{length-take-le}
 use Rattle.listing_records.proofs.Places.{seek_stands}
-use Rattle.listing_records.proofs.Steps.{walks_on, exhausted_target, step_target, step_walks}
+use Rattle.listing_records.proofs.Steps.{walks_on, exhausted_kind, step_kind_lem, step_walks}
 use Rattle.listing_records.proofs.ComponentWalk.step.Statement.{statement}
 use Rattle.listing_records.proofs.ComponentWalk.step.Tie as tie
 
@@ -16,7 +16,7 @@ returns c =
     let e = c.before.before.before in
     let a = e.args in
     let v = e.requires.1.0 in (
-      exhausted_target a.listing.now a.path.now a.self a.end v (search rules) (search rules) c.if1.true,
+      exhausted_kind a.listing.now a.path.now a.self a.end v (search rules) (search rules) c.if1.true,
       (c.if1.true, (λ z. refl, walks_on a.listing.now a.path.now a.self a.end (a.end + 1) (omega arith) v)),
     )
 
@@ -47,7 +47,7 @@ returns-2 c =
     let d = c.before.before.found_at in
     let t = c.before.classify-target in
     let b = c.is-dir in
-    let k = step_target a.listing.now a.path.now a.self a.end v (search rules) (search rules) e.requires.0 e.requires.1.1.1
+    let k = step_kind_lem a.listing.now a.path.now a.self a.end v (search rules) (search rules) e.requires.0 e.requires.1.1.1
     q.result q.ensures d.result t.result d.ensures t.ensures in (
       k,
       (

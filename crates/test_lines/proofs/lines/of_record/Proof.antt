@@ -25,12 +25,6 @@ enum-known-found-2 c = search rules
 file-requires : tie.Need-file-requires
 file-requires c κs = search rules
 
-enum-known-found-3 : tie.Need-enum-known-found-3
-enum-known-found-3 c = search rules
-
-other-requires : tie.Need-other-requires
-other-requires c κs = search rules
-
 link-requires : tie.Need-link-requires
 link-requires c κs = search rules
 
@@ -43,9 +37,6 @@ returns-2 c = search rules
 returns-3 : tie.Need-returns-3
 returns-3 c = search rules
 
-returns-4 : tie.Need-returns-4
-returns-4 c = search rules
-
 pub of-record-spec : {M : Type 1} → statement M
 of-record-spec =
     tie.close
@@ -56,10 +47,7 @@ of-record-spec =
     directory-requires
     enum-known-found-2
     file-requires
-    enum-known-found-3
-    other-requires
     link-requires
     returns
     returns-2
-    returns-3
-    returns-4)
+    returns-3)

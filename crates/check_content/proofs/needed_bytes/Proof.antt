@@ -1,9 +1,9 @@
--- `needed_at` meets its contract: what its path's entry says decides, and without one what is listed.
+-- `needed_bytes` meets its contract: what its path's entry says decides, and without one what is listed.
 use mathlib.Core.Path.{refl}
 use borrow.Author.Rules.{rules}
 use Rattle.check_content.proofs.Owned.{by_entry}
-use Rattle.check_content.proofs.needed_at.Statement.{statement}
-use Rattle.check_content.proofs.needed_at.Tie as tie
+use Rattle.check_content.proofs.needed_bytes.Statement.{statement}
+use Rattle.check_content.proofs.needed_bytes.Tie as tie
 
 get-requires : tie.Need-get-requires
 get-requires c κs = search rules
@@ -56,8 +56,8 @@ returns-5 c =
     let g = c.before.before.before.get in
     by_entry a.listing.now a.table.now a.rec a.path.now g.result _ g.ensures c.before.enum-told2.given.1 c.needed-listed.result c.needed-listed.ensures
 
-pub needed-at-spec : {M : Type 1} → statement M
-needed-at-spec =
+pub needed-bytes-spec : {M : Type 1} → statement M
+needed-bytes-spec =
     tie.close
     (tie.spec
     get-requires
