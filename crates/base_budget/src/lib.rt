@@ -1,16 +1,18 @@
 // MemoryBudget of common.rs: what a call may still charge. The Rust's listing and host reading are left out, and so is
 // `halved`, which only listing uses. A budget is a value: to shrink it is to make another.
+#![tactic(auto)]
+
 ghost use Rattle.std.specs.Prelude.{◌≡◌};
 ghost use Rattle.base_budget.specs.Budget.{covers, shrunk};
 
-#[derive(Drop)]
+#[derive(Clone, Copy)]
 pub struct MemoryBudget {
     pub available: u64,
     pub limit: u64,
 }
 
 // The Rust's Result of `shrink`: the budget that is left, or the error with the limit.
-#[derive(Drop)]
+#[derive(Clone, Copy)]
 pub enum Shrunk {
     Left(MemoryBudget),
     MemoryUsageLimitExceeded(u64),

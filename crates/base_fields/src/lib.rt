@@ -1,6 +1,8 @@
 // Little-endian numbers in byte slices; comparing, copying and zeroing byte slices.
 // A caller sees to it that what is read or written lies within the slice; nothing else is assumed.
 // A number costs a few reads or writes, and every other function one pass over the bytes that its result depends on.
+#![tactic(auto)]
+
 ghost use Rattle.std.specs.Prelude.{◌≡◌, ◌++◌, ◌+◌, ◌-◌, ◌≤◌, ◌<◌, length, take, drop, replicate};
 ghost use Rattle.model.specs.Bytes.{number_at, bytes, order, by_order, same, before};
 ghost use Rattle.base_fields.specs.Read.{common, zeros};

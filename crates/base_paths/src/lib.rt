@@ -1,5 +1,7 @@
 // Paths: whether bytes are one, in one pass, and what is asked of paths. All functions on paths alone stand in this
 // crate. The counterpart of path_security.rs.
+#![tactic(auto)]
+
 mod names;
 mod prefixes;
 mod relations;

@@ -5,7 +5,7 @@ ghost use Rattle.model.specs.Path.{allowed};
 ghost use Rattle.base_paths.specs.Scan.{ended, completes};
 
 // The component that is being read, and those before it.
-#[derive(Drop)]
+#[derive(Clone, Copy)]
 pub struct Names {
     // All so far are in order.
     pub ok: bool,

@@ -40,7 +40,7 @@ const CLASS: [u8; 64] = [
 ];
 
 // What a text still needs to end its character: need bytes, the next from low to high, the others from 80 to BF.
-#[derive(Drop)]
+#[derive(Clone, Copy)]
 pub struct Tail {
     pub need: u8,
     pub low: u8,

@@ -1,5 +1,7 @@
 // How a call is answered once an insertion was tried; specs/ has what it is for a call to meet the outcome that the
 // definition gives.
+#![tactic(auto)]
+
 ghost use Rattle.std.specs.Prelude.{◌≡◌};
 ghost use Rattle.call_answer.specs.Meets.{answered_of};
 

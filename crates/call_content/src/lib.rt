@@ -4,6 +4,8 @@
 // were checked and a work buffer that is not shorter than the table: for these 1 and 2 are not asked again. A refused
 // call leaves all as it was; an accepted one leaves the work buffer all 0. Each is a constant number of passes over
 // what it is lent.
+#![tactic(auto)]
+
 ghost use Rattle.std.specs.Prelude.{◌≡◌, true, false, [], ◌++◌, ℕ, ◌+◌, ◌≤◌, leb, eqb, length};
 ghost use Rattle.std.proofs.Math.Option.{some};
 ghost use Rattle.model.specs.Bytes.{Bytes, before};

@@ -3,6 +3,8 @@
 // that were checked and a work buffer that is not shorter than the table, and 1 and 2 are not asked again. A refused
 // call leaves all as it was; an accepted one leaves the work buffer all 0. It is a constant number of passes over what
 // it is lent.
+#![tactic(auto)]
+
 ghost use Rattle.std.specs.Prelude.{◌≡◌, true, cond, [], ℕ, ◌≤◌, ◌<◌, length};
 ghost use Rattle.model.specs.Path.{is_path};
 ghost use Rattle.model.specs.Map.{puts, each};
@@ -25,7 +27,7 @@ use model::{Answer, Answered, Record, Refusal};
 use view_at::Visible;
 
 // What mkdir does once its checks are made: make directories, accept what is there, or refuse.
-#[derive(Drop)]
+#[derive(Clone, Copy)]
 pub enum Step {
     Make,
     There,

@@ -3,6 +3,8 @@
 // named *_admitted, that assumes a listing and a table that were checked and a work buffer that is not shorter than the
 // table: for these 1 and 2 are not asked again. A refused call leaves all as it was; an accepted one leaves the work
 // buffer all 0. Each is a constant number of passes over what it is lent.
+#![tactic(auto)]
+
 ghost use Rattle.std.specs.Prelude.{◌≡◌, true, [], ◌≤◌, length};
 ghost use Rattle.model.specs.Bytes.{before};
 ghost use Rattle.model.specs.Listing.{tree_in};

@@ -1,6 +1,8 @@
 // A changing call, given as a value, made by one function.
 // Any bytes can be given as listing, table, work buffer, paths and data, and any numbers as record and order.
 // It costs what the call itself costs.
+#![tactic(auto)]
+
 ghost use Rattle.model.specs.Outcome.{outcome};
 ghost use Rattle.call_answer.specs.Meets.{requested, stored, Meets};
 ghost use Rattle.call_values.specs.Values.{call_of};

@@ -1,6 +1,8 @@
 // The calls of document 01 that ask: exists, is_file and is_dir of overlay.rs.
 // Any bytes can be given as listing, table and path, and any numbers as record.
 // Nothing is changed. Each is a constant number of passes over what it is lent.
+#![tactic(auto)]
+
 ghost use Rattle.std.specs.Prelude.{◌≡◌, true, cond};
 ghost use Rattle.model.specs.Calls as calls;
 ghost use Rattle.model.specs.Answer.{accepted, told_finding};

@@ -4,6 +4,8 @@
 // shorter than the table, and does not ask 1 and 2 again. A refused call leaves all as it was: nothing is written
 // before 13 is decided. An accepted one leaves the work buffer all 0. It is a constant number of passes over what it is
 // lent, but for the walk (rename_walk).
+#![tactic(auto)]
+
 ghost use Rattle.std.specs.Prelude.{◌≡◌, true, false, ◌≤◌, length};
 ghost use Rattle.model.specs.Path.{is_path};
 ghost use Rattle.model.specs.Listing.{tree_in};

@@ -1,11 +1,13 @@
 // A changing call as a value, and an answer as a row of document 01's table.
+#![tactic(auto)]
+
 ghost use Rattle.std.specs.Prelude.{◌≡◌};
 ghost use Rattle.model.specs.Answer as replies;
 ghost use Rattle.call_values.specs.Values.{row_of};
 
 use model::{Answer, Refusal};
 
-#[derive(Drop)]
+#[derive(Clone, Copy)]
 pub enum Kind {
     Write,
     Append,
@@ -18,7 +20,7 @@ pub enum Kind {
 
 // What a call takes beside its paths and data. The flags are mkdir's, the offset is that of writing inside, and the
 // mtime is for the calls that set one: write, append, writing inside and mkdir. The other calls take no notice of them.
-#[derive(Drop)]
+#[derive(Clone, Copy)]
 pub struct Order {
     pub kind: Kind,
     pub parents: bool,
@@ -29,7 +31,7 @@ pub struct Order {
 }
 
 // An answer as a row. Accepted: 0, 0 and the value; refused: number, path and length.
-#[derive(Drop)]
+#[derive(Clone, Copy)]
 pub struct Row {
     pub number: u64,
     pub path: u64,

@@ -1,6 +1,8 @@
 // The checks of adding to a file and of writing inside it, in #103's order: 4 to 8 and 17 for the one, 5 and 18 for the
 // other. Assumes a listing and a table that were checked, and for adding a path too (crate check_lent): only this
 // repository's crates call. Each is a constant number of passes over table and listing.
+#![tactic(auto)]
+
 ghost use Rattle.std.specs.Prelude.{◌≡◌, true, false, length};
 ghost use Rattle.std.proofs.Math.Option.{Option};
 ghost use Rattle.model.specs.Bytes.{Bytes};

@@ -1,9 +1,11 @@
 // What a check answers: it passes, or refuses with one of document 01's numbers.
+#![tactic(auto)]
+
 ghost use Rattle.std.specs.Prelude.{◌≡◌};
 ghost use Rattle.check_judged.specs.Judged.{check_of, refuses};
 
 // What a check answers.
-#[derive(Drop)]
+#[derive(Clone, Copy)]
 pub enum Judged {
     Pass,
     Refused(model::Refusal),

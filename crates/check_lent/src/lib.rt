@@ -1,5 +1,7 @@
 // 1, 2 and 3, which every call begins with: the table with its record and the work buffer, the listing, the path.
 // Any bytes are taken. `ready` is a constant number of passes over listing, table and path.
+#![tactic(auto)]
+
 ghost use Rattle.std.specs.Prelude.{◌≡◌, ◌&&◌, leb, length};
 ghost use Rattle.model.specs.Listing.{is_listing};
 ghost use Rattle.model.specs.Table.{is_table};

@@ -1,6 +1,8 @@
 // The checks of write, unlink and rmdir from 4 to 10, in document 01's order.
 // Assumes a listing, a table and a path that were checked (crate check_lent): only this repository's crates call.
 // Each check is a constant number of passes over table and listing.
+#![tactic(auto)]
+
 ghost use Rattle.std.specs.Prelude.{◌≡◌, true};
 ghost use Rattle.model.specs.Path.{is_path};
 ghost use Rattle.model.specs.Listing.{tree_in};
@@ -17,7 +19,7 @@ use table_entries::OverlayEntry;
 use view_at::Visible;
 
 // The calls that change one entry.
-#[derive(Drop)]
+#[derive(Clone, Copy)]
 pub enum Change {
     Write,
     Unlink,

@@ -1,6 +1,8 @@
 // Whether a path's parents are visible directories (`ensure_parent_exists`), and which of them mkdir with parents has
 // to make (`overlay_dirs_to_create` of overlay.rs). Assumes a listing, a table and a path that were checked: only this
 // repository's crates call. Both go from the top down once: all looks together read table and listing once.
+#![tactic(auto)]
+
 ghost use Rattle.std.specs.Prelude.{◌≡◌, true, not, ◌++◌, [], ◌+◌, ◌≤◌, ◌<◌, length};
 ghost use Rattle.model.specs.Bytes.{cons_if};
 ghost use Rattle.model.specs.Path.{is_path, ancestors};

@@ -1,9 +1,11 @@
 // What the writer and the reader of kept overlay files answer, and the numbers of the file, as declared types and
 // constants. No function stands here: what each case of an answer says is defined in specs/Kept.antt.
+#![tactic(auto)]
+
 use model::Record;
 
 // What an accepted reading gives beside the table: where the listing stands in the file, and the table's record.
-#[derive(Drop)]
+#[derive(Clone, Copy)]
 pub struct Content {
     pub listing_start: usize,
     pub listing_len: usize,
@@ -11,7 +13,7 @@ pub struct Content {
 }
 
 // What the writer answers: the file's length, or why nothing is written.
-#[derive(Drop)]
+#[derive(Clone, Copy)]
 pub enum Writing {
     Done(u64),
     MalformedTable,
@@ -21,7 +23,7 @@ pub enum Writing {
 }
 
 // What the reader answers: what the file holds, or why nothing is read.
-#[derive(Drop)]
+#[derive(Clone, Copy)]
 pub enum Reading {
     Done(Content),
     LongTable,

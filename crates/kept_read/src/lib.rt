@@ -1,6 +1,8 @@
 // The reader of kept overlay files (#101): the part of a file that is its listing, and the table and the record that it
 // holds. All bytes are taken, and nothing is written unless all checks pass: one pass over the listing, three over the
 // entries (their heads for count and charge, the check, the copy).
+#![tactic(auto)]
+
 ghost use Rattle.std.specs.Prelude.{◌≡◌, true, ◌≤◌, length};
 ghost use Rattle.model.specs.Bytes.{Bytes};
 ghost use Rattle.model.specs.Table.{padded};
@@ -11,7 +13,7 @@ ghost use Rattle.kept_read.specs.Frame.{listing_end, framed};
 use kept_file::{Content, Reading};
 
 // The record of entries, or that they are none.
-#[derive(Drop)]
+#[derive(Clone, Copy)]
 enum Summed {
     Whole(model::Record),
     Damaged,

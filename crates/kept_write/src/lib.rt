@@ -1,6 +1,8 @@
 // The writer of kept overlay files, change request #101.
 // Any bytes are taken as listing, table and output, and any numbers as record. All is judged before the first byte is
 // written. What a file begins with, mark and version, is written by `put_head` alone.
+#![tactic(auto)]
+
 ghost use Rattle.std.specs.Prelude.{◌≡◌, ◌++◌, ◌+◌, ◌≤◌, length};
 ghost use Rattle.model.specs.Bytes.{bytes};
 ghost use Rattle.model.specs.Table.{padded};

@@ -2,6 +2,8 @@
 // Any bytes can be given as listing, table and paths, and any numbers as record. Nothing is changed, and there is no
 // work buffer. A constant number of passes over what it is lent: the walk's sum does not depend on its order, so one
 // pass finds it (least_walk).
+#![tactic(auto)]
+
 ghost use Rattle.std.specs.Prelude.{◌≡◌, true, cond, ◌+◌, ◌*◌, max, length};
 ghost use Rattle.std.proofs.Math.Option.{none};
 ghost use Rattle.model.specs.Path.{is_path};
@@ -24,7 +26,7 @@ use model::{Record, Refusal};
 use rename_measure::Projected;
 
 // What plan and walk need of the limit, unless a node stops the walk.
-#[derive(Drop)]
+#[derive(Clone, Copy)]
 pub enum Needed {
     Stopped,
     Limit(u64),
@@ -32,7 +34,7 @@ pub enum Needed {
 
 // The least limit and the least length; neither, where no limit and no length lets the call through; or why there is no
 // answer.
-#[derive(Drop)]
+#[derive(Clone, Copy)]
 pub enum Report {
     Both(u64, u64),
     Neither,

@@ -1,6 +1,8 @@
 // What rename's walk adds for all that it comes to below its source, and whether a node there stops it.
 // Assumes a checked listing and a checked table: only this repository's crates call.
 // Cost: one pass over the part below the source and the table, behind one over the listing that finds the part.
+#![tactic(auto)]
+
 ghost use Rattle.std.specs.Prelude.{◌≡◌, true, ◌≤◌, length};
 ghost use Rattle.std.proofs.Math.Option.{some};
 ghost use Rattle.model.specs.Path.{Path};
@@ -13,7 +15,7 @@ ghost use Rattle.rename_uncovered.specs.Ahead.{PartBelow, to_come};
 ghost use Rattle.least_walk.specs.Total.{cost, costs, any_stops, reached};
 
 // What the walk adds in all, and whether a node stops it.
-#[derive(Drop)]
+#[derive(Clone, Copy)]
 pub struct Total {
     pub sum: u64,
     pub stops: bool,

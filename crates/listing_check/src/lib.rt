@@ -1,5 +1,7 @@
 // Whether bytes are a listing of document 01, in one pass.
 // All bytes are taken.
+#![tactic(auto)]
+
 ghost use Rattle.std.specs.Prelude.{◌≡◌, Bool, ◌&&◌, [], ◌∷◌, ◌+◌, ◌≤◌, ◌<◌, length, take};
 ghost use Rattle.model.specs.Bytes.{every, same, before};
 ghost use Rattle.model.specs.Path.{Path, ancestors};

@@ -2,6 +2,8 @@
 // at a path. The work is done by `kind_in` and listing_records' `find_in`, on the slice and the number. A function with
 // a Dir is proved over its MIR by hand; `kind_of` and `find`, whose parameters are plain, serve every other caller.
 // Assumes bytes that are a listing: only this repository's crates call, after a check.
+#![tactic(auto)]
+
 ghost use Rattle.std.specs.Prelude.{◌≡◌, true};
 ghost use Rattle.model.specs.Map.{lookup};
 ghost use Rattle.model.specs.Tree.{kind};

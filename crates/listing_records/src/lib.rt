@@ -1,6 +1,8 @@
 // What a checked listing has at a path, and below a directory; ComponentWalk and RealTarget of overlay.rs, by value.
 // Assumes bytes that are a listing: only this repository's crates call, after a check.
 // Each function is one pass forward over the records up to the answer, and so are all the steps over one path together.
+#![tactic(auto)]
+
 ghost use Rattle.std.specs.Prelude.{◌≡◌, true, not, ◌+◌, ◌-◌, ◌≤◌, ◌<◌, length, take, drop};
 ghost use Rattle.std.proofs.Math.Option.{some};
 ghost use Rattle.model.specs.Path.{Path, ends_here};
@@ -13,7 +15,7 @@ ghost use Rattle.listing_records.specs.Parts.{PartOf};
 ghost use Rattle.listing_records.specs.Walk.{Walks};
 
 // What a write's lookup finds in the published tree. A link is surfaced, and never resolved.
-#[derive(Drop)]
+#[derive(Clone, Copy)]
 pub enum RealTarget {
     Dir,
     File,
@@ -22,7 +24,7 @@ pub enum RealTarget {
 }
 
 // A listed node: a directory with its mtime bits, a file with its mtime bits and its size, or a link.
-#[derive(Drop)]
+#[derive(Clone, Copy)]
 pub enum Found {
     Directory(u64),
     File(u64, u64),
@@ -31,7 +33,7 @@ pub enum Found {
 }
 
 // A place in a listing: `left` records stand from `at` on up to the end.
-#[derive(Drop)]
+#[derive(Clone, Copy)]
 pub struct Place {
     pub at: usize,
     pub left: u64,
@@ -142,7 +144,7 @@ pub fn find_in(listing: &[u8], count: u64, path: &[u8]) -> Found
 }
 
 // A part in the middle of a listing: `count` records in the bytes from `from` up to `to`.
-#[derive(Drop)]
+#[derive(Clone, Copy)]
 pub struct Part {
     pub from: usize,
     pub to: usize,
@@ -228,14 +230,14 @@ pub fn is_dir(target: RealTarget) -> bool
 
 // A walk down a path, a component a step: `left` records stand from `at` on, and all before them are before every
 // prefix to come. Exhausted once a component is no directory: nothing below one is listed.
-#[derive(Drop)]
+#[derive(Clone, Copy)]
 pub struct ComponentWalk {
     pub at: usize,
     pub left: u64,
     pub exhausted: bool,
 }
 
-#[derive(Drop)]
+#[derive(Clone, Copy)]
 pub struct Stepped {
     pub walk: ComponentWalk,
     pub target: RealTarget,

@@ -2,6 +2,8 @@
 // which does the work. Assumes bytes that are a listing: only this repository's crates call, after a check. A function
 // with a reference to a struct is proved over its MIR by hand, as both are here; whoever calls `step_once` needs no
 // such proof.
+#![tactic(auto)]
+
 ghost use Rattle.std.specs.Prelude.{◌≡◌, true, ◌≤◌, ◌<◌, length, drop};
 ghost use Rattle.model.specs.Path.{ends_here};
 ghost use Rattle.model.specs.Listing.{is_listing};

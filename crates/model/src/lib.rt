@@ -1,9 +1,10 @@
 // What the calls answer, the record that a caller keeps beside a table, and the numbers of document 01, as declared
 // types and constants. No function stands here: what each case of an answer says, in 01's numbers, is defined in
 // specs/Answer.antt.
+#![tactic(auto)]
 
 // "The record by value holds bytes used, count, charge and E".
-#[derive(Drop)]
+#[derive(Clone, Copy)]
 pub struct Record {
     pub used: u64,
     pub count: u64,
@@ -13,7 +14,7 @@ pub struct Record {
 
 // Document 01, "Turning a call down", row by row, then 17 and 18 of #103: a path is 0 (only, or source) or 1
 // (destination), and comes before a length.
-#[derive(Drop)]
+#[derive(Clone, Copy)]
 pub enum Refusal {
     MalformedTable,
     MalformedListing,
@@ -34,14 +35,14 @@ pub enum Refusal {
 
 // A changing call's answer: accepted with a value (the data's length for write, append and writing inside,
 // else 0), or refused.
-#[derive(Drop)]
+#[derive(Clone, Copy)]
 pub enum Answer {
     Accepted(u64),
     Refused(Refusal),
 }
 
 // A query's answer.
-#[derive(Drop)]
+#[derive(Clone, Copy)]
 pub enum Finding {
     Yes,
     No,
@@ -49,7 +50,7 @@ pub enum Finding {
 }
 
 // A changing call's answer, and the record that it leaves.
-#[derive(Drop)]
+#[derive(Clone, Copy)]
 pub struct Answered {
     pub answer: Answer,
     pub record: Record,

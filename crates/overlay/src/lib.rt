@@ -4,6 +4,8 @@
 // be given. A record that is not four numbers is answered with 1, and is no table's. A refused call leaves every lent
 // buffer, the record too, as it was; what a script that is not run leaves stands at `overlay_run_new`. The cost is that
 // of the call itself.
+#![tactic(auto)]
+
 ghost use Rattle.std.specs.Prelude.{◌≡◌, ◌&&◌};
 ghost use Rattle.model.specs.Listing.{is_listing};
 ghost use Rattle.model.specs.Table.{is_table};

@@ -1,6 +1,8 @@
 // An answer packed in one number, a record in four lent numbers, where a listing stands in two, and a report in two,
 // for the exported calls. Assumes four numbers and two, and an answer whose parts fit: only this repository's crates
 // call.
+#![tactic(auto)]
+
 ghost use Rattle.std.specs.Prelude.{◌≡◌, true, false, [], ◌∷◌, length};
 ghost use Rattle.model.specs.Answer.{refused, told, told_finding};
 ghost use Rattle.least_rename.specs.Reports.{told_report};

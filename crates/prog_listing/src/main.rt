@@ -2,6 +2,8 @@
 // malformed at its end. Without an argument it prints what the checks answer; with one, it prints the processor time of
 // each in microseconds, too. The listings are of directories. What does not fit the buffer is left out; the numbers of
 // groups are chosen so that all fits.
+#![tactic(auto)]
+
 ghost use Rattle.std.specs.Prelude.{◌≤◌};
 
 use libc::STDOUT_FILENO;

@@ -1,6 +1,8 @@
 // Runs vectors and prints, for each group of them, how many were run and how many gave what they must. What each must
 // give is written here by hand, and from memory of the first two, from RFC 3629, Markus Kuhn's "UTF-8 decoder
 // capability and stress test" and document 01.
+#![tactic(auto)]
+
 mod built;
 mod listed;
 mod malformed;

@@ -4,6 +4,8 @@
 // content of every own file too. One call in four has a limit near the charge: it may give 11 where the plain rules
 // accept. How many calls are accepted and refused is not known beforehand; `stdout` has the counts of a run without
 // differences.
+#![tactic(auto)]
+
 ghost use Rattle.std.specs.Prelude.{◌≡◌, true};
 ghost use Rattle.model.specs.Table.{is_table};
 

@@ -2,6 +2,8 @@
 // prints what each call answers and leaves; with one, it prints the call's processor time in microseconds too. Listing
 // and table are made in memory. What it must print is worked out by hand from document 01 and #107: an entry is charged
 // 256, its key, E and its body rounded up to a multiple of 16.
+#![tactic(auto)]
+
 ghost use Rattle.std.specs.Prelude.{◌+◌, ◌*◌, ◌≤◌, length};
 
 use libc::STDOUT_FILENO;

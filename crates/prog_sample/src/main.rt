@@ -5,6 +5,8 @@
 // original left; then these four, one behind the other, in the forms of docs/FORMATS.md. The charges in the report are
 // sums by #107 over the original's entries, and the limits in the script are translated to it from those at which the
 // original was asked (host/README.md, "The sample").
+#![tactic(auto)]
+
 ghost use Rattle.std.specs.Prelude.{◌≡◌, ◌+◌, ◌≤◌, ◌<◌, length};
 
 use libc::STDOUT_FILENO;

@@ -1,6 +1,8 @@
 // Fills tables to exactly their buffers' length and tries one byte more: first step by step in a buffer of 100 bytes,
 // then in every length from 25 to 400. What it must print is worked out by hand from document 01 and #107: an entry
 // takes 24 bytes, its key and its body, and is charged 256, its key, E and its body rounded up to a multiple of 16.
+#![tactic(auto)]
+
 ghost use Rattle.std.specs.Prelude.{◌≤◌};
 
 mod tell;

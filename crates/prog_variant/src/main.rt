@@ -7,6 +7,8 @@
 // 6 MiB.
 // What it does not take it says on standard error, in a line with the file's name. A program of Rattle has no exit
 // status; `tools/variant` gives one, by whether anything was said there.
+#![tactic(auto)]
+
 mod args;
 mod files;
 mod keep;

@@ -2,6 +2,8 @@
 // that no entry covers. Assumes a part of a checked table and one of a checked listing, both below the source: only
 // this repository's crates call. A whole pass reads both parts and the table once, and at each step the two keys that
 // are next once more, of at most 512 bytes each.
+#![tactic(auto)]
+
 ghost use Rattle.std.specs.Prelude.{◌≡◌, Bool, true, false, List, [], ◌∷◌, ◌+◌, ◌≤◌, ◌<◌, length};
 ghost use Rattle.model.specs.Bytes.{Bytes};
 ghost use Rattle.model.specs.Path.{Path, below};
@@ -16,14 +18,14 @@ ghost use Rattle.rename_carried.specs.Streams.{carried_below, ahead, remaining, 
 ghost use Rattle.rename_carried.specs.Streams.{Ending};
 
 // Where both streams stand: the entries in the table's part below the source, the listed records in the listing's.
-#[derive(Drop)]
+#[derive(Clone, Copy)]
 pub struct Stream {
     pub entries: table_entries::Place,
     pub listed: rename_uncovered::Cursor,
 }
 
 // Which of them has the smaller key next. They never have the same, since a listed path that has an entry is covered.
-#[derive(Drop)]
+#[derive(Clone, Copy)]
 pub enum Head {
     Entry,
     Listed,

@@ -2,6 +2,8 @@
 // those of each path by itself and those of both together stands whether it is a move onto itself (#104). Assumes a
 // listing, a table and two paths that were checked: only this repository's crates call. Each check is a constant number
 // of passes over table and listing.
+#![tactic(auto)]
+
 ghost use Rattle.std.specs.Prelude.{◌≡◌, true, cond, length};
 ghost use Rattle.std.proofs.Math.Option.{Option};
 ghost use Rattle.model.specs.Bytes.{Bytes};

@@ -1,6 +1,8 @@
 // Key, stored fields and body of the item that comes next in what rename carries: an entry of the table, or a listed
 // node as an entry. Assumes a stream over parts of a checked table and of a checked listing: only this repository's
 // crates call. Each function reads the item's head alone; keys and bodies are parts of the slices that are lent.
+#![tactic(auto)]
+
 ghost use Rattle.std.specs.Prelude.{◌≡◌, ◌<◌};
 ghost use Rattle.std.proofs.Math.Option.{some};
 ghost use Rattle.model.specs.Listing.{ListingRecord, node_of};

@@ -1,5 +1,7 @@
 // A moved key: the destination standing where the source stood. Composing is one pass over the key, and a copy of 512
 // bytes. Assumes that what is composed has room: only this repository's crates call.
+#![tactic(auto)]
+
 ghost use Rattle.std.specs.Prelude.{◌≡◌, ◌++◌, ◌+◌, ◌-◌, ◌≤◌, length, take, drop};
 
 // `format!` of the Rust becomes this: the first `len` of 512 bytes.

@@ -1,6 +1,8 @@
 // The record and the charge that rename will leave, known before anything is written.
 // Assumes a checked table, a checked listing, and parts of them below the source: only this repository's crates call.
 // Each measuring is one pass over the table and over both parts; keys are composed in 512 bytes.
+#![tactic(auto)]
+
 ghost use Rattle.std.specs.Prelude.{◌≡◌, true, false, not, [], ◌∷◌, ◌++◌, ◌+◌, ◌≤◌, ◌<◌, length, drop};
 ghost use Rattle.std.proofs.Math.Option.{none, some};
 ghost use Rattle.model.specs.Bytes.{before};
@@ -22,7 +24,7 @@ use rename_carried::{Head, Stream};
 
 // Moved entries counted: the record with those put whose keys fit 512 bytes, and the place in the table behind the last
 // of these; what the others are charged; whether some key is too long or too deep (12).
-#[derive(Drop)]
+#[derive(Clone, Copy)]
 pub struct Tally {
     pub place: table_entries::Place,
     pub rec: model::Record,
@@ -31,7 +33,7 @@ pub struct Tally {
 }
 
 // The same at the end.
-#[derive(Drop)]
+#[derive(Clone, Copy)]
 pub struct Moves {
     pub rec: model::Record,
     pub extra: u64,
@@ -39,7 +41,7 @@ pub struct Moves {
 }
 
 // What rename will leave: the charge, whether a moved key is too long or too deep, and, if none is, the record.
-#[derive(Drop)]
+#[derive(Clone, Copy)]
 pub struct Projected {
     pub rec: model::Record,
     pub charge: u64,

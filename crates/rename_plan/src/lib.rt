@@ -2,6 +2,8 @@
 // it may take. Assumes a listing, a table and two paths that were checked: only this repository's crates call. The plan
 // reads heads and keys of the table up to the last below the source, and those below it twice; rename_walk says what
 // the walk costs.
+#![tactic(auto)]
+
 ghost use Rattle.std.specs.Prelude.{◌≡◌, true, ◌≤◌, length};
 ghost use Rattle.std.proofs.Math.Option.{some};
 ghost use Rattle.model.specs.Path.{is_path};

@@ -1,6 +1,8 @@
 // 11, 12 and 13 of rename: the record that it leaves, or why it is refused, before anything is written. Assumes a
 // listing, a table and two paths that were checked, up to the plan and the walk: only this repository's crates call. A
 // constant number of passes over listing, table and paths.
+#![tactic(auto)]
+
 ghost use Rattle.std.specs.Prelude.{◌≡◌, true, cond, length};
 ghost use Rattle.std.proofs.Math.Option.{none};
 ghost use Rattle.model.specs.Path.{is_path};
@@ -22,7 +24,7 @@ use model::{Record, Refusal};
 use rename_measure::Projected;
 
 // What is known before anything is written: the record that the table will have, or why the call is refused.
-#[derive(Drop)]
+#[derive(Clone, Copy)]
 pub enum Settled {
     Done(Record),
     Refused(Refusal),

@@ -1,6 +1,8 @@
 // The table that rename leaves, written anew as the definition has it. Assumes a checked table and a checked listing,
 // two paths that passed rename's checks before its plan, short new keys, and buffers with room: only this repository's
 // crates call, once all checks passed.
+#![tactic(auto)]
+
 ghost use Rattle.std.specs.Prelude.{◌≡◌, true, cond, ◌≤◌, length, replicate};
 ghost use Rattle.model.specs.Bytes.{every};
 ghost use Rattle.model.specs.Path.{short};

@@ -1,6 +1,8 @@
 // The listed paths below a directory that no entry covers, in ascending order: what rename's walk comes to.
 // Assumes a part of a checked listing and a checked table: only this repository's crates call.
 // A whole pass reads each record of the part and each entry of the table once, and each path a fixed number of times.
+#![tactic(auto)]
+
 ghost use Rattle.std.specs.Prelude.{◌≡◌, true, ◌-◌, ◌≤◌, ◌<◌, length};
 ghost use Rattle.model.specs.Path.{Path};
 ghost use Rattle.model.specs.Map.{is_none, lookup};
@@ -30,7 +32,7 @@ pub fn cover(flags: &mut [bool; 513], path: &[u8], from: usize, absent: bool) ->
 
 // A place at an uncovered record or at the end: `left` records stand in the part from `at` on, and the table's entries
 // from the path of the last record read on stand from `place` on.
-#[derive(Drop)]
+#[derive(Clone, Copy)]
 pub struct Cursor {
     pub at: usize,
     pub left: u64,

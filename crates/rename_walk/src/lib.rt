@@ -3,6 +3,8 @@
 // listing can only be read forward. Assumes a listing and a table that were checked, and a path: only this repository's
 // crates call. A record or an entry is passed a few times at each of 32 levels, once for each of 20 halvings there, and
 // once more for each listed directory whose path its own begins with, as `a-b/c` does with `a`.
+#![tactic(auto)]
+
 ghost use Rattle.std.specs.Prelude.{◌≡◌, true, ◌&&◌, ◌+◌, ◌-◌, ◌≤◌, ◌<◌, length};
 ghost use Rattle.std.proofs.Math.Option.{some};
 ghost use Rattle.model.specs.Path.{Path, is_path, child};
@@ -23,13 +25,13 @@ ghost use Rattle.rename_walk.specs.Stretch.{end_after, slashed, lead, Under, Hal
 use base_budget::{MemoryBudget, Shrunk};
 
 // What stops the walk.
-#[derive(Drop)]
+#[derive(Clone, Copy)]
 pub enum Stop {
     AtLink,
 }
 
 // What the walk comes to: a sum, or its end above the budget, or at a node that stops it, with the sum so far.
-#[derive(Drop)]
+#[derive(Clone, Copy)]
 pub enum Walked {
     Sum(u64),
     OverBudget,
@@ -37,7 +39,7 @@ pub enum Walked {
 }
 
 // A stretch of records: the first `count` of the `left` that stand from `at` on.
-#[derive(Drop)]
+#[derive(Clone, Copy)]
 pub struct Stretch {
     pub at: usize,
     pub left: u64,
@@ -45,21 +47,21 @@ pub struct Stretch {
 }
 
 // A stretch in two halves: the first records, and those behind them.
-#[derive(Drop)]
+#[derive(Clone, Copy)]
 pub struct Halves {
     pub low: Stretch,
     pub high: Stretch,
 }
 
 // Whether a record's path is a child without an entry, and the table's place from that path on.
-#[derive(Drop)]
+#[derive(Clone, Copy)]
 pub struct Bare {
     pub bare: bool,
     pub place: table_entries::Place,
 }
 
 // The walk after a record, and the table's place from the record's path on.
-#[derive(Drop)]
+#[derive(Clone, Copy)]
 pub struct Seen {
     pub walked: Walked,
     pub place: table_entries::Place,

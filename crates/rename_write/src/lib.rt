@@ -2,6 +2,8 @@
 // rename carries. Assumes parts of a checked table and of a checked listing, and buffers with room: only this
 // repository's crates call, once all checks passed. A stretch reads the parts and the table once, and writes each byte
 // of the new table once.
+#![tactic(auto)]
+
 ghost use Rattle.std.specs.Prelude.{◌≡◌, true, [], ◌∷◌, ◌++◌, ◌≤◌, ◌<◌, length, replicate};
 ghost use Rattle.std.proofs.Math.Option.{none};
 ghost use Rattle.model.specs.Bytes.{every};

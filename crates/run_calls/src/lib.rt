@@ -1,6 +1,8 @@
 // Running a script: its calls one after another, each answer told as a row of the report.
 // All bytes are taken as script, listing, table, work buffer and report, and any record.
 // A run costs the check of the script, and what its calls cost.
+#![tactic(auto)]
+
 ghost use Rattle.std.specs.Prelude.{◌≡◌, true, ◌++◌, ◌+◌, ◌*◌, ◌≤◌, length};
 ghost use Rattle.model.specs.Bytes.{bytes};
 ghost use Rattle.model.specs.Answer.{told};
@@ -18,7 +20,7 @@ use model::{Answer, Answered, Record};
 use run_script::ROW_SIZE;
 
 // What running a script gives: the record after its last call, or why it is not run.
-#[derive(Drop)]
+#[derive(Clone, Copy)]
 pub enum Ran {
     Done(Record),
     MalformedScript,
@@ -26,7 +28,7 @@ pub enum Ran {
 }
 
 // The same, where the table is opened first.
-#[derive(Drop)]
+#[derive(Clone, Copy)]
 pub enum RanNew {
     Done(Record),
     MalformedTable,

@@ -1,6 +1,8 @@
 // Scripts: lists of changing calls as bytes, which of them are well-formed, and what stands in a step. The check takes
 // any bytes; what reads a step asks that its head stands there, or the whole step: only this repository's crates call
 // it. A check is one pass over the script's steps. `two` says that the script's mark is TSC2, not TSC1.
+#![tactic(auto)]
+
 ghost use Rattle.std.specs.Prelude.{◌≡◌, true, ◌&&◌, ◌+◌, ◌*◌, ◌≤◌, ◌<◌, leb, length};
 ghost use Rattle.run_script.specs.Script.{is_two, offset_at, third_length, step_head, third_from, step_end};
 ghost use Rattle.run_script.specs.Script.{first_part, second_part, third_part, step_kind, order_at, step_count};

@@ -1,6 +1,8 @@
 // The checks of showing a directory (#102) between 3 and 13: 4, 5 and 7.
 // Assumes a listing, a table and a path that were checked (crate check_lent): only this repository's crates call.
 // Each check is a constant number of passes over table and listing.
+#![tactic(auto)]
+
 ghost use Rattle.std.specs.Prelude.{◌≡◌, true};
 ghost use Rattle.model.specs.Path.{is_path};
 ghost use Rattle.model.specs.Listing.{tree_in, is_listing};

@@ -1,6 +1,8 @@
 // The call that shows a directory, change request #102: the names of its visible children, written to an output.
 // Any bytes can be given as listing, table, path and output, and any numbers as record. All is judged before the first
 // byte is written, and only the output is changed.
+#![tactic(auto)]
+
 ghost use Rattle.std.specs.Prelude.{◌≡◌, ◌≤◌, length};
 ghost use Rattle.model.specs.Listing.{tree_in, is_listing};
 ghost use Rattle.model.specs.Table.{table_in, is_table};
@@ -17,7 +19,7 @@ use view_merge::Merge;
 
 // From where a directory's children are read: the table's entries, and records in the listing's bytes from `from` up to
 // `to`.
-#[derive(Drop)]
+#[derive(Clone, Copy)]
 struct Span {
     merge: Merge,
     from: usize,

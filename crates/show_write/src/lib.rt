@@ -1,6 +1,8 @@
 // The names of a directory's visible children: how many bytes they take, and these bytes.
 // Assumes a merge of a checked table and a checked listing, or of parts of both, in which all lies below the directory:
 // only this repository's crates call. Each of `measure_names` and `put_names` is one pass over what the merge reads.
+#![tactic(auto)]
+
 ghost use Rattle.std.specs.Prelude.{◌≡◌, true, ◌++◌, ◌+◌, ◌≤◌, ◌<◌, length, drop};
 ghost use Rattle.model.specs.Bytes.{every, bytes};
 ghost use Rattle.model.specs.Path.{slashless};

@@ -2,6 +2,8 @@
 // asked of such a part. Assumes a table that agrees with its record, and parts that `below` gave: only this
 // repository's crates call, after a check. `below` reads the heads and keys up to the part's end, the others those of
 // the part.
+#![tactic(auto)]
+
 ghost use Rattle.std.specs.Prelude.{◌≡◌, true, not, ◌&&◌, [], ◌∷◌, ◌++◌, ◌+◌, ◌-◌, ◌*◌, ◌≤◌, ◌<◌, length};
 ghost use Rattle.model.specs.Bytes.{every};
 ghost use Rattle.model.specs.Path.{Path, below, child};
@@ -12,7 +14,7 @@ ghost use Rattle.table_entries.specs.Place.{Standing, Sought};
 ghost use Rattle.table_below.specs.Parts.{PartOf, is_deleted, visible_in};
 
 // A part in the middle of a table: `count` entries in the bytes from `from` up to `to`.
-#[derive(Drop)]
+#[derive(Clone, Copy)]
 pub struct Part {
     pub from: usize,
     pub to: usize,

@@ -1,6 +1,8 @@
 // What an entry is charged: `entry_memory_usage` and `base_entry_memory_usage` of overlay_state.rs, by the lengths of
 // key and body and with the entry size that the Rust has from `size_of`. These two assume lengths and an entry size
 // whose sums have 64 bits: only this repository's crates call. The other two take any numbers.
+#![tactic(auto)]
+
 ghost use Rattle.std.specs.Prelude.{◌≡◌, ◌+◌, ◌≤◌, length};
 ghost use Rattle.model.specs.Path.{Path};
 ghost use Rattle.model.specs.Tree.{Entry};

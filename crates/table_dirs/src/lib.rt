@@ -2,6 +2,8 @@
 // overlay_state.rs and the inserts behind it. Assumes a table that agrees with its record, and ends that ascend along
 // the path: only this repository's crates call, after a check. The prefixes of a path ascend, so measuring them and
 // writing them is one pass over the table each.
+#![tactic(auto)]
+
 ghost use Rattle.std.specs.Prelude.{◌≡◌, true, ℕ, ◌≤◌, length, replicate};
 ghost use Rattle.model.specs.Path.{is_path};
 ghost use Rattle.model.specs.Map.{puts, each};

@@ -1,6 +1,8 @@
 // The entries of a checked table: a cursor over them, and the entry at a key; OverlayEntry of overlay_state.rs.
 // Assumes bytes in which entries stand: only this repository's crates call, after a check.
 // Each function is one pass forward over the entries up to its answer, and reads no body.
+#![tactic(auto)]
+
 ghost use Rattle.std.specs.Prelude.{◌≡◌, true, ◌+◌, ◌-◌, ◌≤◌, ◌<◌, length};
 ghost use Rattle.std.proofs.Math.Option.{Option, some};
 ghost use Rattle.std.specs.Float.Ieee.{of_bits};
@@ -16,7 +18,7 @@ ghost use Rattle.table_entries.specs.Said.{said, said_of};
 
 // What the table has at a path. A file's content and a reference's listed path stay in the table: `len` bytes from `at`
 // on. The mtime is the float of the stored bits, for whoever computes with it; what is stored again is copied as bits.
-#[derive(Drop)]
+#[derive(Clone, Copy)]
 pub enum OverlayEntry {
     File {
         mtime: f64,
@@ -37,14 +39,14 @@ pub enum OverlayEntry {
 }
 
 // A place in a table: `left` entries stand from `at` on.
-#[derive(Drop)]
+#[derive(Clone, Copy)]
 pub struct Place {
     pub at: usize,
     pub left: u64,
 }
 
 // An entry's fields as they are stored, for whoever writes the entry again.
-#[derive(Drop)]
+#[derive(Clone, Copy)]
 pub struct Fields {
     pub kind: u64,
     pub mtime: u64,
@@ -52,7 +54,7 @@ pub struct Fields {
 }
 
 // The entry at a key, and the place from that key on.
-#[derive(Drop)]
+#[derive(Clone, Copy)]
 pub struct Got {
     pub entry: OverlayEntry,
     pub place: Place,

@@ -2,6 +2,8 @@
 // `check_file_replacement`, `insert` and `insert_unchecked` of overlay_state.rs. Assumes a table that agrees with its
 // record, and a key that is not empty: only this repository's crates call, after a check. Nothing is written before the
 // charge and the room are known. Each call is a constant number of passes over table, work buffer and body.
+#![tactic(auto)]
+
 ghost use Rattle.std.specs.Prelude.{◌≡◌, true, [], ◌≤◌, leb, length, replicate};
 ghost use Rattle.model.specs.Bytes.{before};
 ghost use Rattle.model.specs.Map.{put};
@@ -11,7 +13,7 @@ ghost use Rattle.table_write.specs.Merge.{Written};
 ghost use Rattle.table_insert.specs.Insert.{judged, insertion, if_done};
 
 // The Rust's Result of `insert`, with the record that the table then has; `NoRoom` is the port's own.
-#[derive(Drop)]
+#[derive(Clone, Copy)]
 pub enum Inserted {
     Done(model::Record),
     MemoryUsageLimitExceeded,

@@ -1,6 +1,8 @@
 // The record that a change leaves, known before anything is written: bytes used, entries and charge with an entry put.
 // Assumes bytes in which entries stand: only this repository's crates call, after a check.
 // A pass over ascending keys goes forward only: all its steps together read each entry's head once.
+#![tactic(auto)]
+
 ghost use Rattle.std.specs.Prelude.{◌≡◌, true, ◌≤◌, length};
 ghost use Rattle.model.specs.Bytes.{before};
 ghost use Rattle.model.specs.Path.{Path};
@@ -12,7 +14,7 @@ ghost use Rattle.table_entries.specs.Cut.{unless_first};
 ghost use Rattle.table_measure.specs.Measure.{starts_at, added, replaced, Measured, Counts};
 
 // The record with an entry put, and the place behind that entry's key.
-#[derive(Drop)]
+#[derive(Clone, Copy)]
 pub struct Projection {
     pub place: table_entries::Place,
     pub rec: model::Record,

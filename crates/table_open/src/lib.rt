@@ -1,5 +1,7 @@
 // Whether bytes and a record are a table of document 01, in one pass, and opening a buffer as an empty table.
 // All bytes and all records are taken.
+#![tactic(auto)]
+
 ghost use Rattle.std.specs.Prelude.{◌≡◌, ◌+◌, ◌-◌, ◌≤◌, length, take, drop};
 ghost use Rattle.model.specs.Bytes.{before};
 ghost use Rattle.model.specs.Path.{is_path};

@@ -1,6 +1,8 @@
 // One entry removed: `remove` of overlay_state.rs. Assumes a table that agrees with its record, and a work buffer that
 // is at least as long: only this repository's crates call, after a check. A call is a constant number of passes over
 // table and work buffer.
+#![tactic(auto)]
+
 ghost use Rattle.std.specs.Prelude.{◌≡◌, true, ◌+◌, ◌≤◌, length, replicate};
 ghost use Rattle.model.specs.Map.{del};
 ghost use Rattle.model.specs.Table.{encode, padded, record_of, table_in, is_table};

@@ -3,6 +3,8 @@
 // that agrees with its record, and a key that is not empty: only this repository's crates call, after a check. Nothing
 // is written before the charge and the room are known. Each call is a constant number of passes over table, work
 // buffer, data and lent bytes.
+#![tactic(auto)]
+
 ghost use Rattle.std.specs.Prelude.{◌≡◌, true, [], ◌++◌, ℕ, ◌+◌, ◌-◌, ◌≤◌, ◌<◌, leb, length, take, drop, replicate};
 ghost use Rattle.std.proofs.Math.Option.{some};
 ghost use Rattle.model.specs.Bytes.{Bytes, before};
@@ -19,7 +21,7 @@ ghost use Rattle.table_insert.specs.Insert.{insertion, is_done, if_done};
 ghost use Rattle.table_splice.specs.Splice.{is_own_file, Fitting, Begun};
 
 // What inserting will answer, and how far the new table is written to the work buffer if it is done.
-#[derive(Drop)]
+#[derive(Clone, Copy)]
 struct Splice {
     answer: table_insert::Inserted,
     merge: table_write::Merge,

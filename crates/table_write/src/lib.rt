@@ -2,6 +2,8 @@
 // and the whole is copied back. Assumes bytes in which entries stand and buffers with room: only this repository's
 // crates call, once it is known that the new table fits. All steps over ascending keys together read the old table once
 // and write each byte of the new one once; `finish` adds a pass over each buffer.
+#![tactic(auto)]
+
 ghost use Rattle.std.specs.Prelude.{◌≡◌, true, ◌++◌, ◌+◌, ◌-◌, ◌≤◌, length, replicate};
 ghost use Rattle.model.specs.Bytes.{bytes, before};
 ghost use Rattle.model.specs.Path.{Path};
@@ -15,7 +17,7 @@ ghost use Rattle.table_write.specs.Merge.{head_bytes, Written, Merged, Copied};
 
 // How far a table is written: `left` entries of the old one stand from `at` on, and `out` bytes of the new one are in
 // the work buffer.
-#[derive(Drop)]
+#[derive(Clone, Copy)]
 pub struct Merge {
     pub at: usize,
     pub left: u64,

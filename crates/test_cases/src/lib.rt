@@ -1,6 +1,8 @@
 // Cases written as a text, run and printed: a line for each call, with its answer, the charge and the entries after it,
 // and whether it left what it must. What is asked for beyond 4096 bytes of buffer is not run. The form of the text
 // stands in script.rt.
+#![tactic(auto)]
+
 mod script;
 mod tell;
 

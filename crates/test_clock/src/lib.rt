@@ -1,5 +1,7 @@
 // The processor time that the running program has used, for programs that tell how long a call takes.
 // The C library's clock counts microseconds, and answers -1 where it has no time to tell.
+#![tactic(auto)]
+
 ghost use Rattle.std.specs.Prelude.{◌<◌};
 
 // The processor time used so far in microseconds, or 0 where the clock fails.

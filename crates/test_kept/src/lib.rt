@@ -1,6 +1,8 @@
 // What a program sees to around each changing call: before it the table is copied and the work buffer filled with a
 // byte; after it, a refused call must have kept every byte and the record, and an accepted one must have left a
 // well-formed table and the work buffer all 0. Each function costs one pass over the buffers that it is lent.
+#![tactic(auto)]
+
 ghost use Rattle.std.specs.Prelude.{◌≡◌, cond, leb, length, take, replicate};
 ghost use Rattle.model.specs.Bytes.{same};
 ghost use Rattle.model.specs.Table.{same_record};

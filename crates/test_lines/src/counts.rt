@@ -7,7 +7,7 @@ use view_marks::Mark;
 use view_merge::Merge;
 
 // How many paths have each mark.
-#[derive(Drop)]
+#[derive(Clone, Copy)]
 pub struct Counts {
     pub same: u64,
     pub new: u64,

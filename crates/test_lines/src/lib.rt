@@ -1,6 +1,8 @@
 // Lines on standard output: texts, numbers in columns, and bytes as a terminal may be given them; and, of a merge of
 // entries and records, the lines of the tree that they show and of what is not as it is listed (#102). Those assume a
 // merge over a checked table and a checked listing.
+#![tactic(auto)]
+
 mod counts;
 mod lines;
 mod shown;

@@ -2,6 +2,8 @@
 // file holds, and these; behind them all is 0. 0 is the root, which is always a directory, and the paths in a directory
 // have the three numbers behind 3 times its own. They are all paths of up to three components `a`, `a-b` and `a0`; what
 // has a larger number is not in the tree.
+#![tactic(auto)]
+
 ghost use Rattle.std.specs.Prelude.{◌≡◌, ◌≤◌, get_or};
 ghost use Rattle.test_rows.specs.Rows.{row_at, kind_in, own_in, count_in, content_in, lent_in};
 

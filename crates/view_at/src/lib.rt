@@ -1,6 +1,8 @@
 // What is visible at a path and at its ancestors: the table's entry, or without one what the listing has.
 // Assumes a listing and a table that were checked: only this repository's crates call.
 // The prefixes of a path ascend, so all looks along one path together read table and listing once.
+#![tactic(auto)]
+
 ghost use Rattle.std.specs.Prelude.{◌≡◌, true, ◌+◌, ◌≤◌, ◌<◌, length, take, drop};
 ghost use Rattle.std.proofs.Math.Option.{Option};
 ghost use Rattle.model.specs.Bytes.{Bytes};
@@ -14,7 +16,7 @@ ghost use Rattle.table_entries.specs.Said.{said, said_of};
 ghost use Rattle.view_at.specs.Sight.{visible_kind, Sees};
 
 // What is visible at a path. A link is only ever listed: no entry is one.
-#[derive(Drop)]
+#[derive(Clone, Copy)]
 pub enum Visible {
     Nothing,
     Directory,
@@ -23,13 +25,13 @@ pub enum Visible {
 }
 
 // From where the table and the listing are searched on.
-#[derive(Drop)]
+#[derive(Clone, Copy)]
 pub struct Sight {
     pub place: table_entries::Place,
     pub walk: listing_records::ComponentWalk,
 }
 
-#[derive(Drop)]
+#[derive(Clone, Copy)]
 pub struct Seen {
     pub visible: Visible,
     pub sight: Sight,

@@ -1,6 +1,8 @@
 // Whether a directory has a visible child: `overlay_directory_has_children` and `real_directory_has_visible_children`
 // of overlay.rs. Assumes a listing and a table that were checked: only this repository's crates call. Entries and
 // records below a directory are one part each; both ascend, so each part is read once, beside one pass to find it.
+#![tactic(auto)]
+
 ghost use Rattle.std.specs.Prelude.{◌≡◌, true, ◌||◌};
 ghost use Rattle.model.specs.Map.{keys};
 ghost use Rattle.model.specs.Tree.{shown};

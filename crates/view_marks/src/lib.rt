@@ -1,6 +1,8 @@
 // How what is visible at a path stands to what is listed there: the same, new, gone, changed, or neither (#102).
 // Assumes a merge over a checked table and a checked listing: only this repository's crates call. Each function reads
 // the entry and the record that are next, once.
+#![tactic(auto)]
+
 ghost use Rattle.std.specs.Prelude.{◌≡◌, ◌<◌};
 ghost use Rattle.std.proofs.Math.Option.{some};
 ghost use Rattle.model.specs.Tree.{view, dir, file, listed};
@@ -15,7 +17,7 @@ use listing_records::Found;
 use view_merge::{Head, Merge};
 
 // Visible as it is listed; visible and not listed; listed and not visible; both, and not the same; neither.
-#[derive(Drop)]
+#[derive(Clone, Copy)]
 pub enum Mark {
     Same,
     New,

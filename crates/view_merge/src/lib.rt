@@ -1,6 +1,8 @@
 // The entries of a table and the records of a listing, or parts of both, read as one in ascending order: what they show
 // together. Assumes checked ones: only this repository's crates call. A whole pass reads each head and each path once,
 // and at each step the two paths that are next once more.
+#![tactic(auto)]
+
 ghost use Rattle.std.specs.Prelude.{◌≡◌, true, false, ◌++◌, ◌+◌, ◌≤◌, ◌<◌, length};
 ghost use Rattle.std.proofs.Math.Option.{some};
 ghost use Rattle.model.specs.Tree.{view, kind_of};
@@ -13,14 +15,14 @@ ghost use Rattle.view_merge.specs.Merges.{ahead, remaining, passed, Merging, Nex
 ghost use Rattle.view_merge.specs.Merges.{tree_of};
 
 // Where both stand.
-#[derive(Drop)]
+#[derive(Clone, Copy)]
 pub struct Merge {
     pub entries: table_entries::Place,
     pub records: listing_records::Place,
 }
 
 // Which is next: an entry, a record, or an entry with the record of the same path, which it covers.
-#[derive(Drop)]
+#[derive(Clone, Copy)]
 pub enum Head {
     Entry,
     Record,
