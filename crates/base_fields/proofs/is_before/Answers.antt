@@ -3,23 +3,15 @@ use mathlib.Core.Path.{◌≡◌, refl, ap, ◌∙◌}
 use mathlib.Core.Bool.{true, false}
 use Prim.Native.Nat.{ℕ, Ordering}
 use lib.Dec.{eqb}
-use borrow.Author.Rules.{rules}
 use Rattle.model.specs.Bytes.{by_order, order}
-use Rattle.base_fields.proofs.is_before.Statement.{statement}
-use Rattle.base_fields.proofs.is_before.Tie as tie
+use Rattle.base_fields.proofs.is_before.Goals as goal
 
 decoded : (o : Ordering) → eqb (by_order o 0 1 2) 0 ≡ by_order o true false false
 decoded Ordering.lt = refl
 decoded Ordering.eq = refl
 decoded Ordering.gt = refl
 
-compared-requires : tie.Need-compared-requires
-compared-requires c κs = search rules
-
-returns : tie.Need-returns
+pub returns : goal.returns
 returns c =
-    let a = c.before.before.before.args in
+    let a = c.args in
     ap (λ (n : ℕ). eqb n 0) c.compared.ensures ∙ decoded (order a.a.now a.b.now)
-
-pub is-before-spec : {M : Type 1} → statement M
-is-before-spec = tie.close (tie.spec compared-requires returns)

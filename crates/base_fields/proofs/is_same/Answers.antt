@@ -2,23 +2,15 @@
 use mathlib.Core.Path.{◌≡◌, refl, ap, ◌∙◌}
 use Prim.Native.Nat.{ℕ, Ordering}
 use lib.Dec.{compare_is_eq, eqb}
-use borrow.Author.Rules.{rules}
 use Rattle.model.specs.Bytes.{by_order, order}
-use Rattle.base_fields.proofs.is_same.Statement.{statement}
-use Rattle.base_fields.proofs.is_same.Tie as tie
+use Rattle.base_fields.proofs.is_same.Goals as goal
 
 decoded : (o : Ordering) → eqb (by_order o 0 1 2) 1 ≡ compare_is_eq o
 decoded Ordering.lt = refl
 decoded Ordering.eq = refl
 decoded Ordering.gt = refl
 
-compared-requires : tie.Need-compared-requires
-compared-requires c κs = search rules
-
-returns : tie.Need-returns
+pub returns : goal.returns
 returns c =
-    let a = c.before.before.before.args in
+    let a = c.args in
     ap (λ (n : ℕ). eqb n 1) c.compared.ensures ∙ decoded (order a.a.now a.b.now)
-
-pub is-same-spec : {M : Type 1} → statement M
-is-same-spec = tie.close (tie.spec compared-requires returns)
