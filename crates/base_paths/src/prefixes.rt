@@ -4,7 +4,7 @@ ghost use Rattle.base_paths.specs.Ancestors.{next_slash, Parted};
 ghost use Rattle.base_paths.specs.Dirs.{ends_of};
 
 // Some of the directories on the way to a path, by where each ends in it: the first `count` of `ends`, from the top.
-#[derive(Drop)]
+#[derive(Clone, Copy)]
 pub struct Dirs {
     pub ends: [usize; model::DEPTH_MAX],
     pub count: usize,

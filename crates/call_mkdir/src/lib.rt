@@ -35,7 +35,7 @@ pub enum Step {
 }
 
 // A step, and for `Make` the directories to make.
-#[derive(Drop)]
+#[derive(Clone, Copy)]
 pub struct Plan {
     pub step: Step,
     pub dirs: Dirs,

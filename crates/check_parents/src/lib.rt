@@ -19,7 +19,7 @@ use base_paths::Dirs;
 use check_judged::Judged;
 use view_at::Visible;
 
-#[derive(Drop)]
+#[derive(Clone, Copy)]
 pub struct ToCreate {
     pub judged: Judged,
     pub dirs: Dirs,
