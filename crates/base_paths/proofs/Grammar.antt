@@ -25,6 +25,7 @@ ascend (r ∷ rs) = above r.first.high rs && ascend rs
 higher : (n : ℕ) (r : Row) (rs : List Row) → above n rs ≡ true → Among r rs → n < r.first.low
 higher n r (q ∷ rs) h here = ltb-true n r.first.low (and_true (ltb n r.first.low) (above n rs) h).0
 higher n r (q ∷ rs) h (there m) = higher n r rs (and_true (ltb n q.first.low) (above n rs) h).1 m
+higher n r [] h x'' = elim x'' [ ]
 
 too_high : (r : Range) (b : ℕ) → r.high < b → within r b ≡ false
 too_high r b h = elim (test (leb r.low b)) [ yea e ↦ cc (lt-leb b r.high h) | nay e ↦ cc ]
@@ -37,6 +38,7 @@ row_after r (q ∷ rs) b h (there m) w =
     let l : q.first.high < r.first.low = higher q.first.high r rs a.0 m in
     let k : r.first.low ≤ b = leb-true r.first.low b (and_true (leb r.first.low b) (leb b r.first.high) w).0 in
     cc (too_high q.first b (omega arith), row_after r rs b a.1 m w)
+row_after r [] b h x3 w = elim x3 [ ]
 
 -- ranges that the bytes lie in are used up
 passed : (rs : List Range) (c s : Bytes) → in_ranges rs c ≡ true → characters rs (c ++ s) ≡ utf8 s

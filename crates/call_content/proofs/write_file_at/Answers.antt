@@ -1,0 +1,19 @@
+-- `write_file_at` meets its contract: refused by 1 or 2, or as `write_file_at_admitted` answers.
+use borrow.Author.Rules.{rules}
+use Rattle.model.specs.Calls.{write_inside}
+use Rattle.call_answer.specs.Meets.{requested, stored}
+use Rattle.call_answer.proofs.Admits.{not_admitted, admitted_given}
+use Rattle.call_content.proofs.write_file_at.Goals as goal
+
+pub returns-in-Refused : goal.returns-in-Refused
+returns-in-Refused c =
+    let a = c.args in
+    let j = c.admitted-admitted in
+    not_admitted a.listing.now (requested (write_inside a.path.now a.mtime a.offset a.«data».now) a.limit a.work.now) (stored a.table.now a.rec) j.result j.ensures _ c.in-Refused.is
+
+pub write_file_at_admitted-requires : goal.write_file_at_admitted-requires
+write_file_at_admitted-requires c =
+    let a = c.args in
+    let j = c.admitted-admitted in
+    let it = admitted_given a.listing.now (requested (write_inside a.path.now a.mtime a.offset a.«data».now) a.limit a.work.now) (stored a.table.now a.rec) j.result j.ensures c.in-Pass.is in
+    record { given = it.0; table_in_bounds = it.1 }

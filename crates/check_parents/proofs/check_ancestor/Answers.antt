@@ -1,0 +1,17 @@
+-- `check_ancestor` meets its contract: each case gives what the definition gives for it.
+use mathlib.Core.Path.{ap, sym}
+use borrow.Author.Rules.{rules}
+use Rattle.model.specs.Checks.{ancestor_at}
+use Rattle.view_at.specs.Sight.{visible_kind}
+use Rattle.view_at.specs.declared.Visible.{Visible}
+use Rattle.check_parents.proofs.check_ancestor.Goals as goal
+
+pub returns-in-File : goal.returns-in-File
+returns-in-File c =
+    let a = c.args in
+    sym (ap (λ (v : Visible). ancestor_at a.end a.len (visible_kind v)) c.in-File.is)
+
+pub returns-in-Link : goal.returns-in-Link
+returns-in-Link c =
+    let a = c.args in
+    sym (ap (λ (v : Visible). ancestor_at a.end a.len (visible_kind v)) c.in-Link.is)

@@ -1,0 +1,13 @@
+-- `below` meets its contract: the records below the directory are gathered, and end at the first record that is not below it.
+use native.Mathlib.Omega.{arith}
+use borrow.Author.Rules.{rules}
+use Rattle.model.proofs.Listings.{checked}
+use Rattle.listing_records.proofs.Places.{Stand, stands}
+use Rattle.listing_records.proofs.Parts.{Gathered, begin, yes, ended, no, done}
+use Rattle.listing_records.proofs.below.Given as goal
+
+abbrev pub invariant-loop-left : goal.invariant-loop-left
+invariant-loop-left l = Gathered l.listing l.dir l.left l.from l.at l.n
+
+abbrev pub decreases-loop-left : goal.decreases-loop-left
+decreases-loop-left l = l.left

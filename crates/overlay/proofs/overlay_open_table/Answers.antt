@@ -1,0 +1,25 @@
+-- `overlay_open_table` meets its contract: the answer of opening, packed, and its record, stored where it is accepted.
+use borrow.Author.Rules.{rules}
+use Rattle.overlay.proofs.Leaving.{not_opened, open_fits, open_settled}
+use Rattle.overlay.proofs.overlay_open_table.Goals as goal
+
+pub returns-then-rec-ne-NUMBERS : goal.returns-then-rec-ne-NUMBERS
+returns-then-rec-ne-NUMBERS c =
+    let a = c.args in
+    let it = not_opened a.entry_size a.table.now a.rec.now c.if-rec-ne-NUMBERS.true in
+    record { value = it.0; rec_after = it.1.0; table_after = it.1.1 }
+
+pub store_and_pack-requires : goal.store_and_pack-requires
+store_and_pack-requires c =
+    let a = c.args in
+    let u = c.«open» in
+    record { rec_len = c.if-rec-ne-NUMBERS.false; fits = open_fits a.entry_size a.table.now a.rec.now c.if-rec-ne-NUMBERS.false u.result u.ensures.0 u.ensures.1.0 }
+
+pub returns : goal.returns
+returns c =
+    let a = c.args in
+    let u = c.«open» in
+    let s = c.store_and_pack in
+    let it = open_settled a.entry_size a.table.now a.rec.now c.if-rec-ne-NUMBERS.false u.result u.ensures.0 u.ensures.1.0
+    s.result s.new.0 u.new.0 s.ensures.value s.ensures.rec_after u.ensures.1.1 in
+    record { value = it.0; rec_after = it.1.0; table_after = it.1.1 }

@@ -1,0 +1,29 @@
+-- `overlay_unlink` meets its contract: the answer and the record of the call, packed and stored.
+use borrow.Author.Rules.{rules}
+use Rattle.model.specs.Calls.{unlink}
+use Rattle.call_answer.specs.Meets.{requested}
+use Rattle.overlay.specs.Exported.{called}
+use Rattle.overlay.proofs.Leaving.{not_four, call_fits, call_settled}
+use Rattle.overlay.proofs.overlay_unlink.Goals as goal
+
+pub returns-then-rec-ne-NUMBERS : goal.returns-then-rec-ne-NUMBERS
+unfolding called
+returns-then-rec-ne-NUMBERS c = let a = c.args in rw (not_four a.rec.now c.if-rec-ne-NUMBERS.true)
+
+pub store_and_pack-requires : goal.store_and_pack-requires
+store_and_pack-requires c =
+    let a = c.args in
+    let q = requested (unlink a.path.now) a.limit a.work.now in
+    let r = c.record_in-before in
+    let u = c.unlink-answered in
+    record { rec_len = c.if-rec-ne-NUMBERS.false; fits = call_fits a.listing.now q a.table.now a.rec.now c.if-rec-ne-NUMBERS.false r.result r.ensures u.result u.new.1.0 u.new.1.1.1.0 u.ensures }
+
+pub returns : goal.returns
+returns c =
+    let a = c.args in
+    let q = requested (unlink a.path.now) a.limit a.work.now in
+    let r = c.record_in-before in
+    let u = c.unlink-answered in
+    let s = c.store_and_pack in
+    call_settled a.listing.now q a.table.now a.rec.now c.if-rec-ne-NUMBERS.false r.result r.ensures u.result u.new.1.0 u.new.1.1.1.0 u.ensures
+    s.result s.new.0 s.ensures.value s.ensures.rec_after

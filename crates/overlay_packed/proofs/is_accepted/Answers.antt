@@ -1,0 +1,7 @@
+-- `is_accepted` meets its contract: each case is told as it is.
+use borrow.Author.Rules.{rules}
+use Rattle.overlay_packed.proofs.Packing.{refusal_told}
+use Rattle.overlay_packed.proofs.is_accepted.Goals as goal
+
+pub returns-in-Refused : goal.returns-in-Refused
+returns-in-Refused c = refusal_told _ _ c.in-Refused.is

@@ -1,0 +1,20 @@
+-- `compose` meets its contract: two writes, one behind the other, are one of both.
+use borrow.Author.Rules.{rules}
+use Rattle.rename_keys.proofs.Composed.{room, size, front}
+use Rattle.rename_keys.proofs.compose.Goals as goal
+
+pub copy_in-requires-2 : goal.copy_in-requires-2
+copy_in-requires-2 c =
+    let a = c.args in
+    room a.t.now a.destination.now a.tail.now _ c.requires c.copy_in.ensures
+
+pub returns : goal.returns
+returns c =
+    let a = c.args in
+    let x = c.copy_in in
+    let y = c.copy_in-2 in
+    let it = (
+      size a.t.now a.destination.now a.tail.now _ c.requires x.ensures _ y.ensures,
+      front a.t.now a.destination.now a.tail.now _ c.requires x.ensures _ y.ensures,
+    ) in
+    record { t_len_unchanged = it.0; t_after = it.1 }

@@ -1,0 +1,36 @@
+-- `all_deletions` meets its contract.
+use mathlib.Core.Path.{refl}
+use native.Mathlib.Omega.{arith}
+use borrow.Author.Rules.{rules}
+use Rattle.model.specs.Tree.{deleted}
+use Rattle.rename_measure.proofs.Foretelling.{not_first, small_put, deletions_whole, deletions_alone}
+use Rattle.rename_measure.proofs.all_deletions.Goals as goal
+
+pub returns-then-whole : goal.returns-then-whole
+returns-then-whole c =
+    let a = c.args in
+    let p = c.requires in
+    let g = c.deletions_below in
+    let it = (
+      deletions_whole a.table.now a.listing.now a.rec p.rec_value p.listing_value a.source.now a.whole p.source c.if-whole.true
+          g.result g.ensures.value,
+      g.ensures.small,
+    ) in
+    record { value = it.0; small = it.1 }
+
+pub projected_record-requires : goal.projected_record-requires
+projected_record-requires c =
+    let p = c.requires in
+    record { rec_value = p.rec_value; key_value = (not_first c.args.source.now p.source_nonzero.0, p.source_nonzero.1, omega arith) }
+
+pub returns : goal.returns
+returns c =
+    let a = c.args in
+    let p = c.requires in
+    let g = c.projected_record in
+    let it = (
+      deletions_alone a.table.now a.listing.now a.rec p.rec_value p.listing_value a.source.now a.whole p.source c.if-whole.false
+          g.result (g.ensures deleted refl),
+      small_put a.table.now a.rec p.rec_value a.source.now deleted p.source_nonzero.1 (omega arith) g.result (g.ensures deleted refl),
+    ) in
+    record { value = it.0; small = it.1 }

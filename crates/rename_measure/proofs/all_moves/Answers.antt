@@ -1,0 +1,28 @@
+-- `all_moves` meets its contract.
+use borrow.Author.Rules.{rules}
+use Rattle.rename_measure.proofs.Foretelling.{moves_whole, moves_alone}
+use Rattle.rename_measure.proofs.all_moves.Goals as goal
+
+pub returns-then-whole : goal.returns-then-whole
+returns-then-whole c =
+    let a = c.args in
+    let p = c.requires in
+    let g = c.moves_below in
+    let it = (
+      moves_whole a.table.now a.listing.now a.rec p.rec_value p.listing_value a.source.now a.whole p.source c.if-whole.true
+          a.destination.now a.first-len p.e_len g.result g.ensures.moved,
+      g.ensures.small,
+    ) in
+    record { moved = it.0; small = it.1 }
+
+pub returns : goal.returns
+returns c =
+    let a = c.args in
+    let p = c.requires in
+    let g = c.one_move in
+    let it = (
+      moves_alone a.table.now a.listing.now a.rec p.rec_value p.listing_value a.source.now a.whole p.source c.if-whole.false
+          a.destination.now a.first-len p.e_len g.result (g.ensures.moved a.source.now),
+      g.ensures.small,
+    ) in
+    record { moved = it.0; small = it.1 }

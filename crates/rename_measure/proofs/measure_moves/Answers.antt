@@ -1,0 +1,111 @@
+-- `measure_moves` meets its contract: each turn of the loop counts one moved entry more.
+use mathlib.Core.Path.{◌≡◌}
+use lib.ListN.{length}
+use borrow.Author.Rules.{rules}
+use Rattle.model.specs.Tree.{Entry}
+use Rattle.model.specs.Table.{body_of}
+use Rattle.rename_carried.specs.Streams.{remaining}
+use Rattle.rename_measure.proofs.Putting.{size_small, some_entry, as_long}
+use Rattle.rename_measure.proofs.Streamed.{item_short, item_longer}
+use Rattle.rename_measure.proofs.Moving.{Moving, moving_begun, moving_counts, moving_extra, moving_over, moving_on}
+use Rattle.rename_measure.proofs.measure_moves.Goals as goal
+
+pub first_move-tally-requires : goal.first_move-tally-requires
+first_move-tally-requires c =
+    let p = c.requires in let q = p.destination_nonzero in
+    record { rec_value = p.rec_value; destination_len_bound = (q.1, q.2) }
+
+pub first-stream-requires : goal.first-stream-requires
+first-stream-requires c =
+    let p = c.requires in
+    record { flags_len = p.flags_len; rec_value = p.rec_value; standing = p.standing; count_value = p.count_value; part_below = p.part_below }
+
+pub loop-stream-init : goal.loop-stream-init
+loop-stream-init c =
+    let a = c.args in
+    let f = c.first-stream in
+    let t = c.first_move-tally in
+    let p = c.requires.destination_nonzero in
+    λ v l.
+    moving_begun a.own.now a.part.now a.table.now a.source.now a.destination.now v a.rec a.count a.records
+    f.result f.new.0
+    c.requires.rec_value (p.0, p.1) f.ensures.streaming f.ensures.result_bound f.ensures.carrying a.first-len p.2 l t.result t.ensures.measured
+    t.ensures.extra_value
+
+pub head_at-head-requires : goal.head_at-head-requires
+head_at-head-requires c =
+    let n = c.args.first-len in
+    let w = (c.loop-stream.invariant (some_entry n) (as_long n)).streaming in
+    record { standing = w.entries; standing_2 = w.listed.stand }
+
+pub with_move-tally-requires : goal.with_move-tally-requires
+with_move-tally-requires c =
+    let a = c.args in
+    let n = a.first-len in
+    let v = some_entry n in
+    let l = c.loop-stream in
+    let f = c.first-stream in
+    let m = l.invariant v (as_long n) in
+    let w = m.streaming in
+    let h = c.head_at-head in
+    let z = c.has_next.ensures.0 c.loop-stream-test.true in
+    let s = item_short a.own.now a.part.now a.table.now a.source.now l.flags l.stream w h.result h.ensures.next in
+    let o = item_longer a.own.now a.part.now a.table.now a.source.now l.flags l.stream w h.result h.ensures.next z in
+    let it = (
+      moving_counts a.own.now a.part.now a.table.now a.source.now a.destination.now v a.rec a.count a.records
+          f.result l.flags l.tally l.stream m c.requires.rec_value c.requires.standing c.requires.part_below,
+      (
+        (
+          moving_extra a.own.now a.part.now a.table.now a.source.now a.destination.now v a.rec a.count a.records
+              f.result l.flags l.tally l.stream m c.requires.standing c.requires.part_below,
+          c.requires.destination_nonzero.1,
+        ),
+        (w.entries, (w.listed.stand, (h.ensures.next, (z, (o, s.0, s.1))))),
+      ),
+    ) in
+    record { counts = it.0; extra_bound = it.1.0; standing = it.1.1.0; standing_2 = it.1.1.1.0; next = it.1.1.1.1.0; stream_nonzero = it.1.1.1.1.1.0; source_in_bounds = it.1.1.1.1.1.1 }
+
+pub advance-stream-requires : goal.advance-stream-requires
+advance-stream-requires c =
+    let n = c.args.first-len in
+    let w = (c.loop-stream.invariant (some_entry n) (as_long n)).streaming in
+    record { streaming = w; next = c.head_at-head.ensures.next; stream_nonzero = c.has_next.ensures.0 c.loop-stream-test.true }
+
+pub loop-stream-smaller : goal.loop-stream-smaller
+loop-stream-smaller c = c.advance-stream.ensures.result_bound
+
+pub loop-stream-preserved : goal.loop-stream-preserved
+loop-stream-preserved c =
+    let a = c.args in
+    let y = c.advance-stream in
+    let t = c.with_move-tally in
+    let h = c.head_at-head in
+    let l = c.loop-stream in
+    let f = c.first-stream in
+    λ v n.
+    moving_on a.own.now a.part.now a.table.now a.source.now a.destination.now v a.rec a.count a.records f.result
+    l.flags l.tally l.stream (l.invariant v n) h.result h.ensures.next t.result t.ensures
+    y.new.0 y.result y.ensures.streaming_2 y.ensures.result_bound y.ensures.carrying c.requires.destination_nonzero.1 (size_small a.table.now a.rec
+    c.requires.rec_value)
+
+pub returns : goal.returns
+returns c =
+    let a = c.args in
+    let l = c.loop-stream in
+    let f = c.first-stream in
+    let v0 = some_entry a.first-len in
+    let m = l.invariant v0 (as_long a.first-len) in
+    let k = moving_counts a.own.now a.part.now a.table.now a.source.now a.destination.now v0 a.rec a.count a.records
+    f.result l.flags l.tally l.stream m
+    c.requires.rec_value c.requires.standing c.requires.part_below in
+    let x = moving_extra a.own.now a.part.now a.table.now a.source.now a.destination.now v0 a.rec a.count a.records
+    f.result l.flags l.tally l.stream m
+    c.requires.standing c.requires.part_below in
+    let it = (
+      λ t v u g n.
+          moving_over a.own.now a.part.now a.table.now a.source.now a.destination.now v a.rec a.count a.records
+          f.result l.flags l.tally l.stream (l.invariant v n) (c.has_next.ensures.1 c.loop-stream-test.false)
+          _ (f.ensures.result_value t u g),
+      ((k.used_small, k.count_small, k.charge_small), x),
+    ) in
+    record { moved = it.0; small = it.1 }

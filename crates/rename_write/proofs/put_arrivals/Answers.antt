@@ -1,0 +1,59 @@
+-- `put_arrivals` meets its contract: the destination comes first, and what is below it behind.
+use mathlib.Core.List.{[], ◌∷◌}
+use borrow.Author.Rules.{rules}
+use Rattle.model.specs.Listing.{tree_in}
+use Rattle.model.specs.Table.{table_in}
+use Rattle.rename_write.specs.Stretch.{move, turned}
+use Rattle.rename_write.specs.Sequence.{lower, top}
+use Rattle.rename_write.proofs.Sequences.{fits_first, fits_second, both_put}
+use Rattle.rename_write.proofs.put_arrivals.Goals as goal
+
+pub put_top-next-requires : goal.put_top-next-requires
+put_top-next-requires c =
+    let a = c.args in
+    let T = table_in a.table.now a.rec in
+    let L = tree_in a.listing.now in
+    let it = (
+      c.requires.rec_value,
+      (
+        c.requires.listing_value,
+        fits_first a.table.now a.work.now a.merge ((a.destination.now, top T L a.source.now) ∷ [])
+            (turned (move a.source.now a.destination.now) (lower a.whole T L a.source.now)) c.requires.fits,
+      ),
+    ) in
+    record { rec_value = it.0; listing_value = it.1.0; fits = it.1.1 }
+
+pub put_lower_moves-requires : goal.put_lower_moves-requires
+put_lower_moves-requires c =
+    let a = c.args in
+    let T = table_in a.table.now a.rec in
+    let L = tree_in a.listing.now in
+    let p = c.put_top-next in
+    let it = (
+      c.requires.rec_value,
+      (
+        c.requires.listing_value,
+        (
+          c.requires.source_value,
+          fits_second a.table.now a.work.now a.merge ((
+            a.destination.now,
+            top T L
+                a.source.now,
+          ) ∷ [])
+              (turned (move a.source.now a.destination.now) (lower a.whole T L a.source.now)) p.new.0 p.result p.ensures
+              c.requires.fits,
+        ),
+      ),
+    ) in
+    record { rec_value = it.0; listing_value = it.1.0; source_value = it.1.1.0; fits = it.1.1.1 }
+
+pub returns : goal.returns
+returns c =
+    let a = c.args in
+    let T = table_in a.table.now a.rec in
+    let L = tree_in a.listing.now in
+    let p = c.put_top-next in
+    let q = c.put_lower_moves in
+    both_put a.table.now a.work.now a.merge ((a.destination.now, top T L a.source.now) ∷ [])
+    (turned (move a.source.now a.destination.now) (lower a.whole T L a.source.now)) p.new.0 p.result p.ensures
+    q.new.0 q.result q.ensures

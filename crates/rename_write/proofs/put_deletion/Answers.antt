@@ -1,0 +1,33 @@
+-- `put_deletion` meets its contract: the key is the item's, and kind 4 without a body is a deleted entry.
+use mathlib.Core.Path.{refl}
+use mathlib.Core.List.{[]}
+use borrow.Author.Rules.{rules}
+use Rattle.rename_carried.specs.Streams.{item_at}
+use Rattle.rename_write.specs.Stretch.{deletion}
+use Rattle.model.specs.Tree.{deleted}
+use Rattle.rename_write.proofs.Items.{room_of, put_of, deleted_written}
+use Rattle.rename_write.proofs.put_deletion.Goals as goal
+
+pub put_next-requires : goal.put_next-requires
+put_next-requires c =
+    let a = c.args in
+    let i = deletion (item_at a.own.now a.part.now a.stream a.head) in
+    let r = c.requires.room in
+    let k = c.item_key-key in
+    let it = (
+      r.stand,
+      (
+        deleted_written,
+        room_of a.table.now a.work.now a.merge i k.result.now [] r k.ensures refl,
+      ),
+    ) in
+    record { standing = it.0; written = it.1.0; body_in_bounds = it.1.1 }
+
+pub returns : goal.returns
+returns c =
+    let a = c.args in
+    let i = deletion (item_at a.own.now a.part.now a.stream a.head) in
+    let k = c.item_key-key in
+    let p = c.put_next in
+    put_of a.table.now a.work.now p.new.0 a.merge p.result i k.result.now deleted k.ensures refl
+    p.ensures.merged p.ensures.work_len_unchanged p.ensures.at_value

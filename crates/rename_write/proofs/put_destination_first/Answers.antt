@@ -1,0 +1,52 @@
+-- `put_destination_first` meets its contract: one stretch comes behind the other.
+use borrow.Author.Rules.{rules}
+use Rattle.model.specs.Listing.{tree_in}
+use Rattle.model.specs.Table.{table_in}
+use Rattle.rename_write.specs.Sequence.{departures, arrivals}
+use Rattle.rename_write.proofs.Sequences.{fits_first, fits_second, both_put}
+use Rattle.rename_write.proofs.put_destination_first.Goals as goal
+
+pub put_arrivals-next-requires : goal.put_arrivals-next-requires
+put_arrivals-next-requires c =
+    let a = c.args in
+    let T = table_in a.table.now a.rec in
+    let L = tree_in a.listing.now in
+    let it = (
+      c.requires.rec_value,
+      (
+        c.requires.listing_value,
+        (
+          c.requires.source_value,
+          fits_first a.table.now a.work.now a.merge (arrivals a.whole T L a.source.now
+              a.destination.now)
+              (departures a.whole T L a.source.now) c.requires.fits,
+        ),
+      ),
+    ) in
+    record { rec_value = it.0; listing_value = it.1.0; source_value = it.1.1.0; fits = it.1.1.1 }
+
+pub put_departures-requires : goal.put_departures-requires
+put_departures-requires c =
+    let a = c.args in
+    let T = table_in a.table.now a.rec in
+    let L = tree_in a.listing.now in
+    let p = c.put_arrivals-next in
+    let it = (
+      c.requires.rec_value,
+      (
+        c.requires.listing_value,
+        fits_second a.table.now a.work.now a.merge (arrivals a.whole T L a.source.now a.destination.now)
+            (departures a.whole T L a.source.now) p.new.0 p.result p.ensures c.requires.fits,
+      ),
+    ) in
+    record { rec_value = it.0; listing_value = it.1.0; fits = it.1.1 }
+
+pub returns : goal.returns
+returns c =
+    let a = c.args in
+    let T = table_in a.table.now a.rec in
+    let L = tree_in a.listing.now in
+    let p = c.put_arrivals-next in
+    let q = c.put_departures in
+    both_put a.table.now a.work.now a.merge (arrivals a.whole T L a.source.now a.destination.now)
+    (departures a.whole T L a.source.now) p.new.0 p.result p.ensures q.new.0 q.result q.ensures

@@ -1,0 +1,52 @@
+-- `put_lower_deletions` meets its contract: the parts of table and listing below the source are what the stretch is made of; of a file there is
+-- nothing.
+use borrow.Author.Rules.{rules}
+use borrow.Author.Tests.{not-true, not-false}
+use Rattle.model.specs.Listing.{tree_in}
+use Rattle.model.specs.Table.{table_in}
+use Rattle.rename_uncovered.proofs.Belows.{part_below}
+use Rattle.rename_write.specs.Stretch.{deletion}
+use Rattle.rename_write.proofs.Sequences.{lower_fits, lower_put, lower_none}
+use Rattle.rename_write.proofs.put_lower_deletions.Goals as goal
+
+pub returns-then-not-whole : goal.returns-then-not-whole
+returns-then-not-whole c =
+    let a = c.args in
+    lower_none deletion a.table.now a.work.now (table_in a.table.now a.rec) (tree_in a.listing.now) a.source.now a.merge
+    a.whole
+    (not-true a.whole c.if-not-whole.true)
+
+pub put_deletions-requires : goal.put_deletions-requires
+put_deletions-requires c =
+    let a = c.args in
+    let t = c.below-entries in
+    let l = c.below-records in
+    let w = not-false a.whole c.if-not-whole.false in
+    let it = (
+      search rules,
+      (
+        c.requires.rec_value,
+        (
+          t.ensures.stand,
+          (
+            t.ensures.are,
+            (
+              part_below a.listing.now a.source.now c.requires.listing_value l.result.from l.result.to l.result.count l.ensures,
+              lower_fits deletion a.table.now a.work.now a.listing.now (table_in a.table.now a.rec) a.source.now
+                  l.result.from l.result.to l.result.count a.merge a.whole c.requires.listing_value l.ensures w c.requires.fits,
+            ),
+          ),
+        ),
+      ),
+    ) in
+    record { flags_len = it.0; rec_value = it.1.0; standing = it.1.1.0; count_value = it.1.1.1.0; part_below = it.1.1.1.1.0; puttable = it.1.1.1.1.1 }
+
+pub returns : goal.returns
+returns c =
+    let a = c.args in
+    let l = c.below-records in
+    let p = c.put_deletions in
+    lower_put deletion a.table.now a.work.now a.listing.now (table_in a.table.now a.rec) a.source.now
+    l.result.from l.result.to l.result.count a.merge a.whole c.requires.listing_value l.ensures
+    (not-false a.whole c.if-not-whole.false) p.new.1.0 p.result
+    p.ensures

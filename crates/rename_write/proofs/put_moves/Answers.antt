@@ -1,0 +1,91 @@
+-- `put_moves` meets its contract: each turn of the loop puts the item that is next, at its new key.
+use borrow.Author.Rules.{rules}
+use Rattle.model.specs.Table.{table_in}
+use Rattle.rename_carried.specs.Streams.{remaining}
+use Rattle.rename_write.specs.Stretch.{move, movable}
+use Rattle.rename_write.proofs.Loops.{Going, begin, on, over, room_at_first, good_at_first}
+use Rattle.rename_write.proofs.put_moves.Goals as goal
+
+pub first-stream-requires : goal.first-stream-requires
+first-stream-requires c =
+    let p = c.requires in
+    record { flags_len = p.flags_len; rec_value = p.rec_value; standing = p.standing; count_value = p.count_value; part_below = p.part_below }
+
+pub loop-stream-init : goal.loop-stream-init
+loop-stream-init c =
+    let a = c.args in
+    let f = c.first-stream in
+    begin (move a.source.now a.destination.now) a.table.now a.work.now a.own.now a.part.now a.source.now f.new.0
+    f.result a.merge f.ensures.streaming
+
+pub head_at-head-requires : goal.head_at-head-requires
+head_at-head-requires c =
+    let s = c.loop-stream.invariant.streaming in
+    record { standing = s.entries; standing_2 = s.listed.stand }
+
+pub advance-after-requires : goal.advance-after-requires
+advance-after-requires c =
+    let l = c.loop-stream in
+    record { streaming = l.invariant.streaming; next = c.head_at-head.ensures.next; stream_nonzero = c.has_next.ensures.0 c.loop-stream-test.true }
+
+pub put_move-next-requires : goal.put_move-next-requires
+put_move-next-requires c =
+    let a = c.args in
+    let f = c.first-stream in
+    let l = c.loop-stream in
+    let h = c.head_at-head in
+    let v = c.advance-after in
+    let all = c.requires.movables in
+    let fit = c.requires.puttable in
+    let s = l.invariant.streaming in
+    let it = (
+      s.entries,
+      (
+        s.listed.stand,
+        (
+          h.ensures.next,
+          (
+            c.has_next.ensures.0 c.loop-stream-test.true,
+            (
+              good_at_first (move a.source.now a.destination.now) a.table.now a.work.now a.own.now a.part.now a.source.now
+                  f.new.0 f.result a.merge l.flags l.work l.next l.stream l.invariant v.new.0 v.result h.result
+                  v.ensures.carrying (table_in a.table.now a.rec) a.records _ f.ensures.carrying f.ensures.result_value
+                  (movable a.source.now a.destination.now) all.l all.listed all.all,
+              room_at_first (move a.source.now a.destination.now) a.table.now a.work.now a.own.now a.part.now a.source.now
+                  f.new.0 f.result a.merge l.flags l.work l.next l.stream l.invariant v.new.0 v.result h.result
+                  v.ensures.carrying (table_in a.table.now a.rec) a.records _ f.ensures.carrying f.ensures.result_value fit,
+            ),
+          ),
+        ),
+      ),
+    ) in
+    record { standing = it.0; standing_2 = it.1.0; next = it.1.1.0; stream_nonzero = it.1.1.1.0; head_value = it.1.1.1.1.0; room = it.1.1.1.1.1 }
+
+pub loop-stream-smaller : goal.loop-stream-smaller
+loop-stream-smaller c = c.advance-after.ensures.result_bound
+
+pub loop-stream-preserved : goal.loop-stream-preserved
+loop-stream-preserved c =
+    let a = c.args in
+    let f = c.first-stream in
+    let l = c.loop-stream in
+    let h = c.head_at-head in
+    let v = c.advance-after in
+    let p = c.put_move-next in
+    on (move a.source.now a.destination.now) a.table.now a.work.now a.own.now a.part.now a.source.now f.new.0
+    f.result a.merge
+    l.flags l.work l.next l.stream l.invariant v.new.0 v.result h.result v.ensures.carrying
+    p.new.0 p.result v.ensures.streaming_2 p.ensures
+
+pub shape_of-work : goal.shape_of-work
+shape_of-work c = c.loop-stream.invariant.long
+
+pub returns : goal.returns
+returns c =
+    let a = c.args in
+    let f = c.first-stream in
+    let l = c.loop-stream in
+    over (move a.source.now a.destination.now) a.table.now a.work.now a.own.now a.part.now a.source.now f.new.0
+    f.result a.merge
+    l.flags l.work l.next l.stream l.invariant (table_in a.table.now a.rec) a.records
+    (c.has_next.ensures.1 c.loop-stream-test.false) _ f.ensures.carrying f.ensures.result_value

@@ -1,0 +1,56 @@
+-- `write_ordered` meets its contract: all is put from the table's first entry on, and the rest is copied behind it.
+use mathlib.Core.Path.{ap, ◌∙◌}
+use lib.ListN.{length, length-replicate}
+use borrow.Author.Rules.{rules}
+use Rattle.model.specs.Listing.{tree_in}
+use Rattle.model.specs.Table.{table_in}
+use Rattle.table_insert.proofs.Inserts.{zeros_as_long}
+use Rattle.rename_write.specs.Sequence.{ordered}
+use Rattle.rename_write.proofs.Sequences.{fits_begun, done_fits, done_over}
+use Rattle.rename_write.proofs.write_ordered.Goals as goal
+
+pub put_ordered-end-requires : goal.put_ordered-end-requires
+put_ordered-end-requires c =
+    let a = c.args in
+    let xs = ordered a.whole (table_in a.table.now a.rec) (tree_in a.listing.now) a.source.now a.destination.now in
+    let p = c.requires in
+    let it = (
+      p.rec_value,
+      (
+        p.listing_value,
+        (
+          p.source_value,
+          fits_begun a.table.now a.work.now a.rec xs p.rec_value p.destination_value p.rec_in_bounds
+              p.table_in_bounds,
+        ),
+      ),
+    ) in
+    record { rec_value = it.0; listing_value = it.1.0; source_value = it.1.1.0; fits = it.1.1.1 }
+
+pub finish-requires : goal.finish-requires
+finish-requires c =
+    let a = c.args in
+    let xs = ordered a.whole (table_in a.table.now a.rec) (tree_in a.listing.now) a.source.now a.destination.now in
+    let p = c.requires in
+    let q = c.put_ordered-end in
+    let it = done_fits a.table.now a.work.now a.rec xs p.rec_value p.destination_value q.new.0 q.result q.ensures p.rec_in_bounds
+    p.table_in_bounds in
+    record { at_le_used = it.0; at_in_bounds = it.1 }
+
+pub shape_of-work : goal.shape_of-work
+shape_of-work c =
+    let q = c.put_ordered-end in
+    ap length c.finish.ensures.work_after ∙ length-replicate (length q.new.0) 0 ∙ q.ensures.long
+
+pub returns : goal.returns
+returns c =
+    let a = c.args in
+    let xs = ordered a.whole (table_in a.table.now a.rec) (tree_in a.listing.now) a.source.now a.destination.now in
+    let p = c.requires in
+    let q = c.put_ordered-end in
+    let f = c.finish in
+    let it = (
+      done_over a.table.now a.work.now a.rec xs p.rec_value p.destination_value q.new.0 q.result q.ensures f.new.0 f.ensures.table_after,
+      zeros_as_long a.work.now q.new.0 f.new.1.0 f.ensures.work_after q.ensures.long,
+    ) in
+    record { table_after = it.0; work_after = it.1 }

@@ -1,0 +1,35 @@
+-- `run_new` meets its contract: a refused opening ends it; else the run does, on what the opening gave. Listing and script are bytes, and so demand 3 holds.
+use borrow.Author.Rules.{rules}
+use native.Mathlib.Omega.{arith}
+use Rattle.base_fields.proofs.Pieces.{bytes_of}
+use Rattle.run_calls.proofs.Demands.{not_opened, not_done, now_run, now_done}
+use Rattle.run_calls.proofs.run_new.Goals as goal
+
+pub returns-in-Refused : goal.returns-in-Refused
+returns-in-Refused c =
+    let a = c.args in
+    let o = c.«open» in
+    let e = c.in-Refused.is in
+    let it = (
+      not_opened a.listing.now a.entry_size a.table.now a.work.now a.script.now a.report.now o.result.answer o.ensures.0 _ e
+          o.ensures.1.1,
+      λ last h. absurd (not_done a.listing.now a.entry_size a.table.now a.work.now a.script.now a.report.now o.result.answer
+          o.ensures.0 _ e last h),
+    ) in
+    record { gives = it.0; holds = it.1 }
+
+pub returns-in-Accepted : goal.returns-in-Accepted
+returns-in-Accepted c =
+    let a = c.args in
+    let o = c.«open» in
+    let e = c.in-Accepted.is in
+    let x = c.run-ran in
+    let it = (
+      now_run a.listing.now a.entry_size a.table.now a.work.now a.script.now a.report.now o.result.answer o.ensures.0 _ e
+          o.result.«record» o.ensures.1.0 o.new.0 o.ensures.1.1 x.result x.ensures c.as_new.result c.as_new.ensures,
+      now_done a.listing.now a.entry_size a.table.now a.work.now a.script.now a.report.now o.result.answer o.ensures.0 _ e
+          o.result.«record» o.ensures.1.0 o.new.0 o.ensures.1.1 x.result x.ensures c.as_new.result c.as_new.ensures
+          (bytes_of a.listing.now (λ i. omega (arith, c.shared_slice_known-1.given i)))
+          (bytes_of a.script.now (λ i. omega (arith, c.shared_slice_known-2-1.given i))),
+    ) in
+    record { gives = it.0; holds = it.1 }

@@ -1,0 +1,12 @@
+-- `wrong_from` meets its contract: its turns are those of `check`, and each exit has its law.
+use borrow.Author.Rules.{rules}
+use native.Mathlib.Omega.{arith}
+use Rattle.run_script.proofs.Turns.{long, step_inside}
+use Rattle.run_script.proofs.Wrongs.{Told, at_head, told, at_step, told_on, behind}
+use Rattle.run_script.proofs.wrong_from.Given as goal
+
+abbrev pub invariant-loop-left : goal.invariant-loop-left
+invariant-loop-left l = Told l.two l.script l.left l.at
+
+abbrev pub decreases-loop-left : goal.decreases-loop-left
+decreases-loop-left l = l.left

@@ -1,0 +1,27 @@
+-- `entry_body` meets its contract: the body is the part of the table behind the entry's key.
+use native.Mathlib.Omega.{arith}
+use borrow.Author.Rules.{rules}
+use Rattle.table_entries.proofs.Entries.{stands_here}
+use Rattle.table_entries.proofs.Says.{body_here}
+use Rattle.table_entries.proofs.entry_body.Goals as goal
+
+pub le16-requires : goal.le16-requires
+le16-requires c =
+    let k = stands_here c.args.table.now c.args.place.left c.args.place.at c.requires.left_nonzero c.requires.standing in
+    omega (arith, k.inside)
+
+pub le32-requires : goal.le32-requires
+le32-requires c =
+    let k = stands_here c.args.table.now c.args.place.left c.args.place.at c.requires.left_nonzero c.requires.standing in
+    omega (arith, k.inside)
+
+pub slice_bounds-result-end : goal.slice_bounds-result-end
+slice_bounds-result-end c =
+    let k = stands_here c.args.table.now c.args.place.left c.args.place.at c.requires.left_nonzero c.requires.standing in
+    omega (arith, k.inside, c.le16.ensures.0, c.le32.ensures.0)
+
+pub returns : goal.returns
+returns c =
+    let n = c.le16 in
+    let m = c.le32 in
+    body_here c.args.table.now c.args.place.left c.args.place.at n.result m.result c.requires.left_nonzero c.requires.standing n.ensures.0 m.ensures.0

@@ -1,0 +1,12 @@
+-- `table_open::is_keyed` meets its contract: the part that it tests is the key.
+use mathlib.Core.Path.{ap, ◌∙◌}
+use borrow.Author.Rules.{rules}
+use Rattle.model.specs.Path.{is_path}
+use Rattle.table_open.proofs.Steps.{key_is}
+use Rattle.table_open.proofs.is_keyed.Goals as goal
+
+pub returns : goal.returns
+returns c =
+    let a = c.args in
+    let n = c.le16-n in
+    c.is_path.ensures ∙ ap is_path (key_is a.table.now a.at n.result n.ensures.0)

@@ -1,0 +1,23 @@
+-- `has_visible_children` meets its contract: a visible child is in the table, or listed without an entry.
+use borrow.Author.Rules.{rules}
+use Rattle.model.specs.Listing.{tree_in}
+use Rattle.view_children.proofs.Visibles.{in_table, in_listing}
+use Rattle.view_children.proofs.has_visible_children.Goals as goal
+
+real-directory-has-visible-children-requires :
+    tie.Need-real-directory-has-visible-children-requires
+real-directory-has-visible-children-requires c κs = search rules
+
+pub returns-then-overlay_directory_has_children : goal.returns-then-overlay_directory_has_children
+returns-then-overlay_directory_has_children c =
+    let a = c.args in
+    let o = c.overlay_directory_has_children in
+    in_table a.table.now a.rec c.requires.rec_value (tree_in a.listing.now) a.dir.now o.result o.ensures c.if-overlay_directory_has_children.true
+
+pub returns : goal.returns
+returns c =
+    let a = c.args in
+    let o = c.overlay_directory_has_children in
+    let l = c.real_directory_has_visible_children in
+    in_listing a.table.now a.rec c.requires.rec_value (tree_in a.listing.now) a.dir.now o.result o.ensures c.if-overlay_directory_has_children.false l.result
+    l.ensures
