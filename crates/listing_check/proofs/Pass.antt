@@ -7,7 +7,7 @@ use Prim.Native.Nat.{ℕ, zero, suc, ◌+◌}
 use lib.Dec.{leb, eqb}
 use lib.ListN.{length}
 use Rattle.model.specs.Bytes.{Bytes, every, before}
-use Rattle.model.specs.Path.{Path, is_path, below, ancestors}
+use Rattle.model.specs.Path.{Path, is_path, ancestors}
 use Rattle.model.specs.Map.{lookup, ascends}
 use Rattle.model.specs.Tree.{Node, Tree, kind, is_directory}
 use Rattle.model.specs.Listing.{ListingRecord, record_at, record_end, record_count, filled, records_from, headed, ruled, node_of}

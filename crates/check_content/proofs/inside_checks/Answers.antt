@@ -14,7 +14,7 @@ returns-then-not-own c =
     let g = c.get-entry in
     let w = c.is_own-own in
     λ l d z.
-    not_own l a.table.now a.rec a.path.now c.requires w.result (w.ensures a.table.now (lookup (table_in a.table.now a.rec) a.path.now) (lookup (tree_in l) a.path.now) g.ensures (listed_not_own l a.path.now)) a.offset a.added d z (not-true w.result c.if-not-own.true)
+    not_own l a.table.now a.rec a.path.now c.requires w.result (w.ensures a.table.now (lookup (table_in a.table.now a.rec) a.path.now) (lookup (tree_in l) a.path.now) g.ensures (listed_not_own l a.path.now)) a.offset a.added d z (c.if-not-own.true)
 
 pub returns-then-added-offset : goal.returns-then-added-offset
 returns-then-added-offset c =
@@ -24,7 +24,7 @@ returns-then-added-offset c =
     λ l d z.
     let x = c.if-added-offset.true in
     let q = c.ranges in
-    too_far l a.table.now a.rec a.path.now c.requires w.result (w.ensures a.table.now (lookup (table_in a.table.now a.rec) a.path.now) (lookup (tree_in l) a.path.now) g.ensures (listed_not_own l a.path.now)) a.offset a.added d z (not-false w.result c.if-not-own.false) (omega arith)
+    too_far l a.table.now a.rec a.path.now c.requires w.result (w.ensures a.table.now (lookup (table_in a.table.now a.rec) a.path.now) (lookup (tree_in l) a.path.now) g.ensures (listed_not_own l a.path.now)) a.offset a.added d z (c.if-not-own.false) (omega arith)
 
 pub returns : goal.returns
 returns c =
@@ -34,4 +34,4 @@ returns c =
     λ l d z.
     let x = c.if-added-offset.false in
     let q = c.ranges in
-    in_range l a.table.now a.rec a.path.now c.requires w.result (w.ensures a.table.now (lookup (table_in a.table.now a.rec) a.path.now) (lookup (tree_in l) a.path.now) g.ensures (listed_not_own l a.path.now)) a.offset a.added d z (not-false w.result c.if-not-own.false) (omega arith)
+    in_range l a.table.now a.rec a.path.now c.requires w.result (w.ensures a.table.now (lookup (table_in a.table.now a.rec) a.path.now) (lookup (tree_in l) a.path.now) g.ensures (listed_not_own l a.path.now)) a.offset a.added d z (c.if-not-own.false) (omega arith)

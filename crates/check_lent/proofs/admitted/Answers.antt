@@ -15,7 +15,7 @@ returns-then-not-check c =
     let n = length a.table.now in
     let t = c.check in
     no_table (is_table a.table.now a.rec) (leb n a.room) (is_listing a.listing.now)
-    (sym t.ensures ∙ not-true t.result c.if-not-check.true)
+    (sym t.ensures ∙ c.if-not-check.true)
 
 pub returns-then-room-table : goal.returns-then-room-table
 returns-then-room-table c =
@@ -23,7 +23,7 @@ returns-then-room-table c =
     let n = length a.table.now in
     let t = c.check in
     no_work (is_table a.table.now a.rec) (leb n a.room) (is_listing a.listing.now)
-    (sym t.ensures ∙ not-false t.result c.if-not-check.false) (lt-leb n a.room c.if-room-table.true)
+    (sym t.ensures ∙ c.if-not-check.false) (lt-leb n a.room c.if-room-table.true)
 
 pub returns-then-not-check-2 : goal.returns-then-not-check-2
 returns-then-not-check-2 c =
@@ -32,8 +32,8 @@ returns-then-not-check-2 c =
     let t = c.check in
     let l = c.check-2 in
     no_listing (is_table a.table.now a.rec) (leb n a.room) (is_listing a.listing.now)
-    (sym t.ensures ∙ not-false t.result c.if-not-check.false) (le-leb n a.room c.if-room-table.false)
-    (sym l.ensures ∙ not-true l.result c.if-not-check-2.true)
+    (sym t.ensures ∙ c.if-not-check.false) (le-leb n a.room c.if-room-table.false)
+    (sym l.ensures ∙ c.if-not-check-2.true)
 
 pub returns : goal.returns
 returns c =
@@ -42,5 +42,5 @@ returns c =
     let t = c.check in
     let l = c.check-2 in
     all_there (is_table a.table.now a.rec) (leb n a.room) (is_listing a.listing.now)
-    (sym t.ensures ∙ not-false t.result c.if-not-check.false) (le-leb n a.room c.if-room-table.false)
-    (sym l.ensures ∙ not-false l.result c.if-not-check-2.false)
+    (sym t.ensures ∙ c.if-not-check.false) (le-leb n a.room c.if-room-table.false)
+    (sym l.ensures ∙ c.if-not-check-2.false)

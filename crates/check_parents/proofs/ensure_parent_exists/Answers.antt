@@ -45,7 +45,7 @@ returns-then-not-is_directory c =
     let d = c.is_directory in
     let f = shown (table_in a.table.now a.rec) (tree_in a.listing.now) in
     parents_stop a.which f a.path.now l.at (visible_kind c.look-seen.result.visible) l.invariant.1.slash (search rules) l.invariant.2
-    c.look-seen.ensures.visible_value (check_of c.check_parent.result) (sym d.ensures ∙ not-true d.result c.if-not-is_directory.true)
+    c.look-seen.ensures.visible_value (check_of c.check_parent.result) (sym d.ensures ∙ c.if-not-is_directory.true)
     c.check_parent.ensures
 
 pub overflow_add-at : goal.overflow_add-at
@@ -62,7 +62,7 @@ loop-at-preserved c =
       along_next a.listing.now a.table.now a.rec a.path.now l.sight l.at l.invariant.1 (search rules) c.look-seen.result.sight
           n.result c.look-seen.ensures.sees_2 n.ensures.value n.ensures.lower_bound.0 n.ensures.lower_bound.1,
       parents_next a.which f a.path.now l.at (visible_kind c.look-seen.result.visible) l.invariant.1.slash (search rules) l.invariant.2
-          c.look-seen.ensures.visible_value n.result n.ensures.value (sym d.ensures ∙ not-false d.result c.if-not-is_directory.false),
+          c.look-seen.ensures.visible_value n.result n.ensures.value (sym d.ensures ∙ c.if-not-is_directory.false),
     )
 
 pub returns : goal.returns

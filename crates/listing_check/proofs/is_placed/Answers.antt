@@ -1,14 +1,8 @@
 -- `listing_check::is_placed` meets its contract: the ancestors from the i-th byte on are left.
-use mathlib.Core.Bool.{Bool}
-use mathlib.Core.Path.{◌≡◌, sym, ap, ◌∙◌}
-use Prim.Native.Nat.{◌-◌, ◌≤◌}
-use lib.ListN.{length}
+use mathlib.Core.Path.{sym, ap, ◌∙◌}
 use borrow.Author.Rules.{rules}
-use Rattle.model.specs.Path.{Path, ancestors}
 use Rattle.model.specs.Bytes.{every}
-use Rattle.base_paths.specs.Ancestors.{ancestors_from}
 use Rattle.base_paths.proofs.Ancestors.{all_ancestors}
-use Rattle.listing_check.specs.Turn.{Agree}
 use Rattle.listing_check.proofs.Flags.{stopped, passed, walked}
 use Rattle.listing_check.proofs.is_placed.Goals as goal
 

@@ -1,5 +1,4 @@
 -- `listing_check::is_ruled` meets its contract: it tests the numbers that stand in the record.
-use borrow.Author.Rules.{rules}
 use Rattle.listing_check.proofs.Heads.{by_numbers}
 use Rattle.listing_check.proofs.is_ruled.Goals as goal
 

@@ -1,10 +1,7 @@
 -- `listing_check::mark` meets its contract: the flags are cleared up to the i-th.
-use mathlib.Core.Path.{◌≡◌}
-use Prim.Native.Nat.{◌-◌, ◌≤◌, ◌<◌}
 use native.Mathlib.Omega.{arith}
-use lib.ListN.{length}
 use borrow.Author.Rules.{rules}
-use Rattle.listing_check.proofs.Flags.{Marking, unmarked, cleared, closed}
+use Rattle.listing_check.proofs.Flags.{unmarked, cleared, closed}
 use Rattle.listing_check.proofs.mark.Goals as goal
 
 pub loop-i-init : goal.loop-i-init

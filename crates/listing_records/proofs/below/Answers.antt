@@ -2,8 +2,8 @@
 use native.Mathlib.Omega.{arith}
 use borrow.Author.Rules.{rules}
 use Rattle.model.proofs.Listings.{checked}
-use Rattle.listing_records.proofs.Places.{Stand, stands}
-use Rattle.listing_records.proofs.Parts.{Gathered, begin, yes, ended, no, done}
+use Rattle.listing_records.proofs.Places.{stands}
+use Rattle.listing_records.proofs.Parts.{begin, yes, ended, no, done}
 use Rattle.listing_records.proofs.below.Goals as goal
 
 pub le32-left-requires : goal.le32-left-requires

@@ -1,9 +1,5 @@
 -- `below` meets its contract: the records below the directory are gathered, and end at the first record that is not below it.
-use native.Mathlib.Omega.{arith}
-use borrow.Author.Rules.{rules}
-use Rattle.model.proofs.Listings.{checked}
-use Rattle.listing_records.proofs.Places.{Stand, stands}
-use Rattle.listing_records.proofs.Parts.{Gathered, begin, yes, ended, no, done}
+use Rattle.listing_records.proofs.Parts.{Gathered}
 use Rattle.listing_records.proofs.below.Given as goal
 
 abbrev pub invariant-loop-left : goal.invariant-loop-left

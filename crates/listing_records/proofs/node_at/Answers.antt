@@ -1,5 +1,4 @@
 -- `node_at` meets its contract: the kind decides, as in the definition.
-use borrow.Author.Rules.{rules}
 use Rattle.listing_records.proofs.Places.{node_dir, node_file, node_link}
 use Rattle.listing_records.proofs.node_at.Goals as goal
 

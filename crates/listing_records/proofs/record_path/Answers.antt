@@ -1,6 +1,5 @@
 -- `record_path` meets its contract: the path is the part of the listing behind the record's head.
 use native.Mathlib.Omega.{arith}
-use borrow.Author.Rules.{rules}
 use Rattle.listing_records.proofs.Places.{stands, path_here}
 use Rattle.listing_records.proofs.record_path.Goals as goal
 

@@ -2,7 +2,7 @@
 use mathlib.Core.Path.{refl}
 use native.Mathlib.Omega.{arith}
 use borrow.Author.Rules.{rules}
-use Rattle.listing_records.proofs.Places.{Stand, stands, Sought, sought_on, sought_stop, sought_end}
+use Rattle.listing_records.proofs.Places.{stands, sought_on, sought_stop, sought_end}
 use Rattle.listing_records.proofs.seek.Goals as goal
 
 pub loop-left-init : goal.loop-left-init

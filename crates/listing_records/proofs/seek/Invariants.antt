@@ -1,8 +1,5 @@
 -- `seek` meets its contract: a record whose path is before the path is passed, and the first other one is where it ends.
-use mathlib.Core.Path.{refl}
-use native.Mathlib.Omega.{arith}
-use borrow.Author.Rules.{rules}
-use Rattle.listing_records.proofs.Places.{Stand, stands, Sought, sought_on, sought_stop, sought_end}
+use Rattle.listing_records.proofs.Places.{Sought}
 use Rattle.listing_records.proofs.seek.Given as goal
 
 abbrev pub invariant-loop-left : goal.invariant-loop-left

@@ -19,7 +19,7 @@ returns-then-not-is_directory c =
     let m = visible_kind a.destination in
     let e = no_visible_child 1 t l a.path.now in
     let s = c.is_directory in
-    not_made k s.result s.ensures (if_directory m e) (not-true s.result c.if-not-is_directory.true)
+    not_made k s.result s.ensures (if_directory m e) (c.if-not-is_directory.true)
 
 pub returns-then-not-is_directory-2 : goal.returns-then-not-is_directory-2
 returns-then-not-is_directory-2 c =
@@ -31,8 +31,8 @@ returns-then-not-is_directory-2 c =
     let e = no_visible_child 1 t l a.path.now in
     let s = c.is_directory in
     let d = c.is_directory-2 in
-    made k s.result s.ensures (if_directory m e) pass (not-false s.result c.if-not-is_directory.false)
-    (not_made m d.result d.ensures e (not-true d.result c.if-not-is_directory-2.true))
+    made k s.result s.ensures (if_directory m e) pass (c.if-not-is_directory.false)
+    (not_made m d.result d.ensures e (c.if-not-is_directory-2.true))
 
 pub returns : goal.returns
 returns c =
@@ -45,5 +45,5 @@ returns c =
     let s = c.is_directory in
     let d = c.is_directory-2 in
     let x = c.check_empty in
-    made k s.result s.ensures (if_directory m e) (check_of x.result) (not-false s.result c.if-not-is_directory.false)
-    (made m d.result d.ensures e (check_of x.result) (not-false d.result c.if-not-is_directory-2.false) x.ensures)
+    made k s.result s.ensures (if_directory m e) (check_of x.result) (c.if-not-is_directory.false)
+    (made m d.result d.ensures e (check_of x.result) (c.if-not-is_directory-2.false) x.ensures)

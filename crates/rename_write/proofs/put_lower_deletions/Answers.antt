@@ -14,14 +14,14 @@ returns-then-not-whole c =
     let a = c.args in
     lower_none deletion a.table.now a.work.now (table_in a.table.now a.rec) (tree_in a.listing.now) a.source.now a.merge
     a.whole
-    (not-true a.whole c.if-not-whole.true)
+    (c.if-not-whole.true)
 
 pub put_deletions-requires : goal.put_deletions-requires
 put_deletions-requires c =
     let a = c.args in
     let t = c.below-entries in
     let l = c.below-records in
-    let w = not-false a.whole c.if-not-whole.false in
+    let w = c.if-not-whole.false in
     let it = (
       search rules,
       (
@@ -48,5 +48,5 @@ returns c =
     let p = c.put_deletions in
     lower_put deletion a.table.now a.work.now a.listing.now (table_in a.table.now a.rec) a.source.now
     l.result.from l.result.to l.result.count a.merge a.whole c.requires.listing_value l.ensures
-    (not-false a.whole c.if-not-whole.false) p.new.1.0 p.result
+    (c.if-not-whole.false) p.new.1.0 p.result
     p.ensures

@@ -13,14 +13,14 @@ returns-then-not-whole c =
     let a = c.args in
     lower_none (move a.source.now a.destination.now) a.table.now a.work.now (table_in a.table.now a.rec) (tree_in
     a.listing.now) a.source.now a.merge a.whole
-    (not-true a.whole c.if-not-whole.true)
+    (c.if-not-whole.true)
 
 pub put_moves-requires : goal.put_moves-requires
 put_moves-requires c =
     let a = c.args in
     let t = c.below-entries in
     let l = c.below-records in
-    let w = not-false a.whole c.if-not-whole.false in
+    let w = c.if-not-whole.false in
     let it = (
       search rules,
       (
@@ -53,5 +53,5 @@ returns c =
     lower_put (move a.source.now a.destination.now) a.table.now a.work.now a.listing.now (table_in a.table.now a.rec)
     a.source.now
     l.result.from l.result.to l.result.count a.merge a.whole c.requires.listing_value l.ensures
-    (not-false a.whole c.if-not-whole.false) p.new.1.0 p.result
+    (c.if-not-whole.false) p.new.1.0 p.result
     p.ensures

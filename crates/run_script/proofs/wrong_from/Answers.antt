@@ -3,39 +3,41 @@ use borrow.Author.Rules.{rules}
 use native.Mathlib.Omega.{arith}
 use Rattle.run_script.proofs.Turns.{long, step_inside}
 use Rattle.run_script.proofs.Wrongs.{Told, at_head, told, at_step, told_on, behind}
+use mathlib.Core.Path.{ap}
+use mathlib.Core.Bool.{not}
 use Rattle.run_script.proofs.wrong_from.Goals as goal
 
 pub returns-then-not-is_marked : goal.returns-then-not-is_marked
 returns-then-not-is_marked c =
-    let it = at_head c.args.script.now c.is_marked.ensures c.if-not-is_marked.true in
+    let it = at_head c.args.script.now c.is_marked.ensures (ap not c.if-not-is_marked.true) in
     record { value = it.0; upper_bound = it.1.0; value_2 = it.1.1 }
 
 pub is_two-two-requires : goal.is_two-two-requires
 is_two-two-requires c =
-    let l = long c.args.script.now c.is_marked.ensures c.if-not-is_marked.false in
+    let l = long c.args.script.now c.is_marked.ensures (ap not c.if-not-is_marked.false) in
     omega arith
 
 pub le32-left-requires : goal.le32-left-requires
-le32-left-requires c = long c.args.script.now c.is_marked.ensures c.if-not-is_marked.false
+le32-left-requires c = long c.args.script.now c.is_marked.ensures (ap not c.if-not-is_marked.false)
 
 pub loop-left-init : goal.loop-left-init
 loop-left-init c =
     let n = c.le32-left in
-    told c.args.script.now c.is_marked.ensures c.if-not-is_marked.false c.is_two-two.ensures n.result n.ensures.0
+    told c.args.script.now c.is_marked.ensures (ap not c.if-not-is_marked.false) c.is_two-two.ensures n.result n.ensures.0
 
 pub is_step-requires : goal.is_step-requires
 is_step-requires c = c.loop-left.invariant.kept.inside
 
 pub returns-then-not-is_step : goal.returns-then-not-is_step
 returns-then-not-is_step c =
-    let it = at_step c.loop-left.invariant c.loop-left-test.true c.is_step.ensures c.if-not-is_step.true in
+    let it = at_step c.loop-left.invariant c.loop-left-test.true c.is_step.ensures (ap not c.if-not-is_step.true) in
     record { value = it.0; upper_bound = it.1.0; value_2 = it.1.1 }
 
 pub end_of-at-requires : goal.end_of-at-requires
-end_of-at-requires c = (step_inside c.loop-left.invariant.kept c.loop-left-test.true c.is_step.ensures c.if-not-is_step.false).0
+end_of-at-requires c = (step_inside c.loop-left.invariant.kept c.loop-left-test.true c.is_step.ensures (ap not c.if-not-is_step.false)).0
 
 pub loop-left-preserved : goal.loop-left-preserved
-loop-left-preserved c = told_on c.loop-left.invariant c.loop-left-test.true c.is_step.ensures c.if-not-is_step.false c.end_of_lem.result c.end_of_lem.ensures
+loop-left-preserved c = told_on c.loop-left.invariant c.loop-left-test.true c.is_step.ensures (ap not c.if-not-is_step.false) c.end_of_lem.result c.end_of_lem.ensures
 
 pub returns : goal.returns
 returns c =

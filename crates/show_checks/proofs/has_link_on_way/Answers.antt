@@ -37,7 +37,7 @@ returns-then-not-is_dir c =
     let s = c.step_once-stepped in
     let d = c.is_dir in
     link_stop a.listing.now a.path.now l.at (target_kind s.result.target) l.invariant.1.slash (search rules) l.invariant.2
-    s.ensures.found s.result.walk c.is_link.result (sym d.ensures ∙ not-true d.result c.if-not-is_dir.true)
+    s.ensures.found s.result.walk c.is_link.result (sym d.ensures ∙ c.if-not-is_dir.true)
     s.ensures.ended s.ensures.goes_on c.is_link.ensures
 
 pub overflow_add-at : goal.overflow_add-at
@@ -54,7 +54,7 @@ loop-at-preserved c =
       down_next a.listing.now a.path.now l.walk l.at l.invariant.1 (search rules) s.result.walk n.result s.ensures.goes_on
           n.ensures.value n.ensures.lower_bound.0 n.ensures.lower_bound.1,
       link_next a.listing.now a.path.now l.at (target_kind s.result.target) l.invariant.1.slash (search rules) l.invariant.2
-          s.ensures.found n.result n.ensures.value (sym d.ensures ∙ not-false d.result c.if-not-is_dir.false),
+          s.ensures.found n.result n.ensures.value (sym d.ensures ∙ c.if-not-is_dir.false),
     )
 
 pub returns : goal.returns

@@ -1,13 +1,15 @@
 -- `name_size` meets its contract: a name is counted where something other than a link is visible and no slash follows.
 use borrow.Author.Rules.{rules}
 use Rattle.show_write.proofs.Measures.{size_hidden, start_within, size_deeper, size_named}
+use mathlib.Core.Path.{ap}
+use mathlib.Core.Bool.{not}
 use Rattle.show_write.proofs.name_size.Goals as goal
 
 pub returns-then-not-head_exists : goal.returns-then-not-head_exists
 returns-then-not-head_exists c =
     let a = c.args in
     let x = c.head_exists in
-    size_hidden a.dir.now a.own.now a.part.now a.merge a.head x.result x.ensures c.if-not-head_exists.true
+    size_hidden a.dir.now a.own.now a.part.now a.merge a.head x.result x.ensures (ap not c.if-not-head_exists.true)
 
 pub is_one_component-requires : goal.is_one_component-requires
 is_one_component-requires c =
@@ -15,7 +17,7 @@ is_one_component-requires c =
     let x = c.head_exists in
     let k = c.head_path-path in
     let s = c.name_start-start in
-    start_within a.dir.now a.own.now a.part.now a.merge a.head x.result x.ensures c.requires.head_value c.if-not-head_exists.false k.result.now k.ensures s.result s.ensures
+    start_within a.dir.now a.own.now a.part.now a.merge a.head x.result x.ensures c.requires.head_value (ap not c.if-not-head_exists.false) k.result.now k.ensures s.result s.ensures
 
 pub overflow_sub-result : goal.overflow_sub-result
 overflow_sub-result c =
@@ -23,7 +25,7 @@ overflow_sub-result c =
     let x = c.head_exists in
     let k = c.head_path-path in
     let s = c.name_start-start in
-    start_within a.dir.now a.own.now a.part.now a.merge a.head x.result x.ensures c.requires.head_value c.if-not-head_exists.false k.result.now k.ensures s.result s.ensures
+    start_within a.dir.now a.own.now a.part.now a.merge a.head x.result x.ensures c.requires.head_value (ap not c.if-not-head_exists.false) k.result.now k.ensures s.result s.ensures
 
 pub returns-then-is_one_component : goal.returns-then-is_one_component
 returns-then-is_one_component c =
@@ -32,7 +34,7 @@ returns-then-is_one_component c =
     let k = c.head_path-path in
     let s = c.name_start-start in
     let o = c.is_one_component in
-    size_named a.dir.now a.own.now a.part.now a.merge a.head x.result x.ensures c.requires.head_value c.if-not-head_exists.false k.result.now k.ensures s.result s.ensures
+    size_named a.dir.now a.own.now a.part.now a.merge a.head x.result x.ensures c.requires.head_value (ap not c.if-not-head_exists.false) k.result.now k.ensures s.result s.ensures
     o.result o.ensures c.if-is_one_component.true
 
 pub returns : goal.returns
@@ -42,5 +44,5 @@ returns c =
     let k = c.head_path-path in
     let s = c.name_start-start in
     let o = c.is_one_component in
-    size_deeper a.dir.now a.own.now a.part.now a.merge a.head x.result x.ensures c.requires.head_value c.if-not-head_exists.false k.result.now k.ensures s.result s.ensures
+    size_deeper a.dir.now a.own.now a.part.now a.merge a.head x.result x.ensures c.requires.head_value (ap not c.if-not-head_exists.false) k.result.now k.ensures s.result s.ensures
     o.result o.ensures c.if-is_one_component.false

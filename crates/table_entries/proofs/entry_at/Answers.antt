@@ -1,6 +1,5 @@
 -- `entry_at` meets its contract: the kind decides, as in the definition.
 use native.Mathlib.Omega.{arith}
-use borrow.Author.Rules.{rules}
 use Rattle.table_entries.proofs.Entries.{stands_here}
 use Rattle.table_entries.proofs.Says.{is_file_lem, is_reference, is_directory_lem, is_deleted_lem}
 use Rattle.table_entries.proofs.entry_at.Goals as goal

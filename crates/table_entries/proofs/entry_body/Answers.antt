@@ -1,6 +1,5 @@
 -- `entry_body` meets its contract: the body is the part of the table behind the entry's key.
 use native.Mathlib.Omega.{arith}
-use borrow.Author.Rules.{rules}
 use Rattle.table_entries.proofs.Entries.{stands_here}
 use Rattle.table_entries.proofs.Says.{body_here}
 use Rattle.table_entries.proofs.entry_body.Goals as goal

@@ -1,7 +1,6 @@
 -- `entry_fields` meets its contract: the numbers in the entry's head are the entry's own.
 use mathlib.Core.Path.{◌∙◌}
 use native.Mathlib.Omega.{arith}
-use borrow.Author.Rules.{rules}
 use Rattle.table_entries.proofs.Entries.{stands_here}
 use Rattle.table_entries.proofs.entry_fields.Goals as goal
 

@@ -1,6 +1,5 @@
 -- `entry_if` meets its contract: the first entry is taken if its key is the key.
 use mathlib.Core.Path.{◌∙◌}
-use borrow.Author.Rules.{rules}
 use Rattle.table_entries.proofs.Seeks.{entry_here, entry_other}
 use Rattle.table_entries.proofs.entry_if.Goals as goal
 

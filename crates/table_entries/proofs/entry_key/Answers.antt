@@ -1,6 +1,5 @@
 -- `entry_key` meets its contract: the key is the part of the table behind the entry's head.
 use native.Mathlib.Omega.{arith}
-use borrow.Author.Rules.{rules}
 use Rattle.table_entries.proofs.Entries.{stands_here}
 use Rattle.table_entries.proofs.Says.{key_here}
 use Rattle.table_entries.proofs.entry_key.Goals as goal

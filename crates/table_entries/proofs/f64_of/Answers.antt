@@ -1,5 +1,4 @@
 -- `f64_of` meets its contract: bits that are no NaN's are taken as they are, and the others are the one NaN.
-use borrow.Author.Rules.{rules}
 use Rattle.table_entries.proofs.Real.{real_bits, not_real}
 use Rattle.table_entries.proofs.f64_of.Goals as goal
 

@@ -1,6 +1,5 @@
 -- `is_absent` meets its contract: each case of an answer tells whether there is an entry.
 use mathlib.Core.Path.{ap, sym, ◌∙◌}
-use borrow.Author.Rules.{rules}
 use Rattle.table_entries.specs.Said.{said_of}
 use Rattle.table_entries.proofs.Absences.{of_file, of_reference, of_directory, of_deleted, of_absent}
 use Rattle.table_entries.proofs.is_absent.Goals as goal

@@ -1,7 +1,6 @@
 -- `mtime_at` meets its contract: the float is that of the bits read.
 use mathlib.Core.Path.{◌∙◌, ap}
 use lib.Ieee.{of_bits, binary64}
-use borrow.Author.Rules.{rules}
 use Rattle.table_entries.proofs.mtime_at.Goals as goal
 
 pub returns : goal.returns

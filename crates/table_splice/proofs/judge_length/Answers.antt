@@ -9,6 +9,7 @@ use Rattle.model.proofs.Codec.{decoded}
 use Rattle.table_entries.proofs.Entries.{table_stands}
 use Rattle.table_splice.proofs.Lengths.{within, over, full, within_both}
 use borrow.Author.Rules.{rules}
+use mathlib.Core.Bool.{not}
 use Rattle.table_splice.proofs.judge_length.Goals as goal
 
 pub returns-then-limit-charge : goal.returns-then-limit-charge
@@ -30,7 +31,7 @@ returns-then-not-sum_within c =
     let a = c.args in
     let s = a.table.now in
     full a.rec.entry_size a.limit (length s) a.key.now (table_in s a.rec) p.result a.len z.result (p.ensures deleted refl)
-    (z.ensures ∙ ap (λ (n : ℕ). capped (p.result.charge + n)) q.ensures) c.if-limit-charge.false r.result r.ensures c.if-not-sum_within.true
+    (z.ensures ∙ ap (λ (n : ℕ). capped (p.result.charge + n)) q.ensures) c.if-limit-charge.false r.result r.ensures (ap not c.if-not-sum_within.true)
 
 pub overflow_add-result : goal.overflow_add-result
 overflow_add-result c =
@@ -38,7 +39,7 @@ overflow_add-result c =
     let p = c.projected_record-bare in
     let a = c.args in
     let t = table_stands a.table.now a.rec c.requires.rec_value in
-    omega (arith, t.small, within (p.result.used + a.len) (length a.table.now) r.result r.ensures c.if-not-sum_within.false)
+    omega (arith, t.small, within (p.result.used + a.len) (length a.table.now) r.result r.ensures (ap not c.if-not-sum_within.false))
 
 pub returns : goal.returns
 returns c =
@@ -49,5 +50,5 @@ returns c =
     let a = c.args in
     let s = a.table.now in
     within_both a.rec.entry_size a.limit (length s) a.key.now (table_in s a.rec) p.result a.len z.result (p.ensures deleted refl)
-    (z.ensures ∙ ap (λ (n : ℕ). capped (p.result.charge + n)) q.ensures) c.if-limit-charge.false r.result r.ensures c.if-not-sum_within.false
+    (z.ensures ∙ ap (λ (n : ℕ). capped (p.result.charge + n)) q.ensures) c.if-limit-charge.false r.result r.ensures (ap not c.if-not-sum_within.false)
     (decoded s a.rec c.requires.rec_value).size

@@ -7,6 +7,8 @@ use Rattle.table_entries.proofs.Entries.{table_stands}
 use Rattle.table_splice.specs.declared.Splice.{Splice}
 use Rattle.table_splice.proofs.Begins.{is_refused, is_done_lem, refused, room_in, begun}
 use borrow.Author.Rules.{rules}
+use mathlib.Core.Path.{ap}
+use mathlib.Core.Bool.{not}
 use Rattle.table_splice.proofs.write_spliced.Goals as goal
 
 pub returns-then-not-is_done : goal.returns-then-not-is_done
@@ -17,7 +19,7 @@ returns-then-not-is_done c =
     let a = c.args in
     let v = own a.mtime (spliced a.offset a.«data».now a.content.now) in
     let f = j.ensures v (sym (l.ensures a.content.now a.«data».now refl refl)) in
-    refused a.table.now a.rec a.limit a.key.now v _ a.work.now f (is_refused j.result d.result d.ensures c.if-not-is_done.true)
+    refused a.table.now a.rec a.limit a.key.now v _ a.work.now f (is_refused j.result d.result d.ensures (ap not c.if-not-is_done.true))
 
 pub put_next_spliced-merge-requires : goal.put_next_spliced-merge-requires
 put_next_spliced-merge-requires c =
@@ -31,7 +33,7 @@ put_next_spliced-merge-requires c =
     let x : Splice = record { answer = j.result; merge = record { at = 0; left = a.rec.count; out = 0 } } in
     let it = (
       table_stands s a.rec c.requires.rec_value,
-      room_in s a.rec a.limit a.key.now v x f (is_done_lem j.result d.result d.ensures c.if-not-is_done.false) (length a.work.now) c.requires.data_bound.1,
+      room_in s a.rec a.limit a.key.now v x f (is_done_lem j.result d.result d.ensures (ap not c.if-not-is_done.false)) (length a.work.now) c.requires.data_bound.1,
     ) in
     record { standing = it.0; content_in_bounds = it.1 }
 
@@ -45,4 +47,4 @@ returns c =
     let v = own a.mtime (spliced a.offset a.«data».now a.content.now) in
     let f = j.ensures v (sym (l.ensures a.content.now a.«data».now refl refl)) in
     begun a.table.now a.rec a.limit a.key.now v _ a.work.now _ c.requires.rec_value f
-    (is_done_lem j.result d.result d.ensures c.if-not-is_done.false) c.requires.key_value.0 p.ensures.merged p.ensures.work_len_unchanged p.ensures.at_value
+    (is_done_lem j.result d.result d.ensures (ap not c.if-not-is_done.false)) c.requires.key_value.0 p.ensures.merged p.ensures.work_len_unchanged p.ensures.at_value
