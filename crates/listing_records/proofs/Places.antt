@@ -13,7 +13,7 @@ use Rattle.model.specs.Bytes.{Bytes, number_at, same, before}
 use Rattle.model.specs.Path.{Path}
 use Rattle.model.specs.Map.{lookup}
 use Rattle.model.specs.Tree.{Tree}
-use Rattle.model.specs.Listing.{record_at, record_end, record_count, records_from, records, filled, node_of, tree_from, tree_in, is_listing}
+use Rattle.model.specs.Listing.{record_at, record_end, record_count, records_from, filled, node_of, tree_from, tree_in, is_listing}
 use Rattle.model.proofs.Orders.{Lt, Cmp, cmp, yea, nay, test, and_true}
 use Rattle.model.proofs.Listings.{checked}
 use Rattle.model.proofs.Maps.{Above, Ascending, ascends_is, is_ascends, above_trans, lookup_low}

@@ -15,11 +15,7 @@ returns-then-is_refused c =
     let p = a.path.now in
     let f = c.check_path-form in
     let r = c.is_refused in
-    let it = (
-      (λ l d z. (by_form p (λ q. inside_checks (shown_in l a.table.now a.rec) q a.offset d) refl (check_of f.result) r.result f.ensures r.ensures c.if-is_refused.true).0),
-      (by_form p (λ q. inside_checks (shown_in [] a.table.now a.rec) q a.offset (replicate a.added 0)) refl (check_of f.result) r.result f.ensures r.ensures c.if-is_refused.true).1,
-    ) in
-    record { result_value = it.0; path_value = it.1 }
+    record { result_value = (λ l d z. (by_form p (λ q. inside_checks (shown_in l a.table.now a.rec) q a.offset d) refl (check_of f.result) r.result f.ensures r.ensures c.if-is_refused.true).0); path_value = (by_form p (λ q. inside_checks (shown_in [] a.table.now a.rec) q a.offset (replicate a.added 0)) refl (check_of f.result) r.result f.ensures r.ensures c.if-is_refused.true).1 }
 
 pub returns : goal.returns
 returns c =
@@ -28,8 +24,4 @@ returns c =
     let f = c.check_path-form in
     let r = c.is_refused in
     let x = c.inside_checks in
-    let it = (
-      (λ l d z. (by_checks p (λ q. inside_checks (shown_in l a.table.now a.rec) q a.offset d) refl (check_of f.result) r.result f.ensures r.ensures c.if-is_refused.false (check_of x.result) (x.ensures l d z)).0),
-      (by_checks p (λ q. inside_checks (shown_in [] a.table.now a.rec) q a.offset (replicate a.added 0)) refl (check_of f.result) r.result f.ensures r.ensures c.if-is_refused.false (check_of x.result) (x.ensures [] (replicate a.added 0) (length-replicate a.added 0))).1,
-    ) in
-    record { result_value = it.0; path_value = it.1 }
+    record { result_value = (λ l d z. (by_checks p (λ q. inside_checks (shown_in l a.table.now a.rec) q a.offset d) refl (check_of f.result) r.result f.ensures r.ensures c.if-is_refused.false (check_of x.result) (x.ensures l d z)).0); path_value = (by_checks p (λ q. inside_checks (shown_in [] a.table.now a.rec) q a.offset (replicate a.added 0)) refl (check_of f.result) r.result f.ensures r.ensures c.if-is_refused.false (check_of x.result) (x.ensures [] (replicate a.added 0) (length-replicate a.added 0))).1 }

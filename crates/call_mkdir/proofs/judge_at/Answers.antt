@@ -27,14 +27,7 @@ returns-in-Make c =
     let x = c.at_path-step in
     let y = c.make_at in
     let d = mkdir_parents f p a.parents in
-    let it = (
-      at_make (length p) a.exist-ok (visible_kind v.result) (kind f p) x.result v.ensures x.ensures d y.result.step c.in-Make.is y.ensures.later_value,
-      (
-        y.ensures.makes,
-        λ e. absurd (never_there d y.result.step y.ensures.later_value e),
-      ),
-    ) in
-    record { later_value = it.0; makes = it.1.0; path_value_2 = it.1.1 }
+    record { later_value = at_make (length p) a.exist-ok (visible_kind v.result) (kind f p) x.result v.ensures x.ensures d y.result.step c.in-Make.is y.ensures.later_value; makes = y.ensures.makes; path_value_2 = λ e. absurd (never_there d y.result.step y.ensures.later_value e) }
 
 pub returns-in-There : goal.returns-in-There
 returns-in-There c =
@@ -44,14 +37,7 @@ returns-in-There c =
     let v = c.visible_at-visible in
     let x = c.at_path-step in
     let g = c.in-There.is in
-    let it = (
-      at_there (length p) a.exist-ok (visible_kind v.result) (kind f p) x.result v.ensures x.ensures (mkdir_parents f p a.parents) g,
-      (
-        λ e. absurd (there_not_make e),
-        λ e. there_makes (length p) a.exist-ok (visible_kind v.result) (kind f p) x.result v.ensures x.ensures g f p refl,
-      ),
-    ) in
-    record { later_value = it.0; makes = it.1.0; path_value_2 = it.1.1 }
+    record { later_value = at_there (length p) a.exist-ok (visible_kind v.result) (kind f p) x.result v.ensures x.ensures (mkdir_parents f p a.parents) g; makes = λ e. absurd (there_not_make e); path_value_2 = λ e. there_makes (length p) a.exist-ok (visible_kind v.result) (kind f p) x.result v.ensures x.ensures g f p refl }
 
 pub returns-in-Refused : goal.returns-in-Refused
 returns-in-Refused c =
@@ -60,11 +46,4 @@ returns-in-Refused c =
     let p = a.path.now in
     let v = c.visible_at-visible in
     let x = c.at_path-step in
-    let it = (
-      at_refused (length p) a.exist-ok (visible_kind v.result) (kind f p) x.result v.ensures x.ensures (mkdir_parents f p a.parents) _ c.in-Refused.is,
-      (
-        λ e. absurd (refused_not_make _ e),
-        λ e. absurd (refused_not_there _ e),
-      ),
-    ) in
-    record { later_value = it.0; makes = it.1.0; path_value_2 = it.1.1 }
+    record { later_value = at_refused (length p) a.exist-ok (visible_kind v.result) (kind f p) x.result v.ensures x.ensures (mkdir_parents f p a.parents) _ c.in-Refused.is; makes = λ e. absurd (refused_not_make _ e); path_value_2 = λ e. absurd (refused_not_there _ e) }

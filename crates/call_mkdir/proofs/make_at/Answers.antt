@@ -16,19 +16,11 @@ pub returns-in-Refused : goal.returns-in-Refused
 returns-in-Refused c =
     let a = c.args in
     let x = c.to_create-create in
-    let it = (
-      on_refused (mkdir_parents (shown_in a.listing.now a.table.now a.rec) a.path.now a.parents) x.result.judged x.ensures.judged_value _ c.in-Refused.is,
-      λ e. absurd (refused_not_make _ e),
-    ) in
-    record { later_value = it.0; makes = it.1 }
+    record { later_value = on_refused (mkdir_parents (shown_in a.listing.now a.table.now a.rec) a.path.now a.parents) x.result.judged x.ensures.judged_value _ c.in-Refused.is; makes = λ e. absurd (refused_not_make _ e) }
 
 pub returns-in-Pass : goal.returns-in-Pass
 returns-in-Pass c =
     let a = c.args in
     let x = c.to_create-create in
     let g = c.in-Pass.is in
-    let it = (
-      on_passed (mkdir_parents (shown_in a.listing.now a.table.now a.rec) a.path.now a.parents) x.result.judged x.ensures.judged_value g,
-      λ e. record { count = x.ensures.count_bound.0; climb = x.ensures.count_bound.1; table = x.ensures.rec_value (ap check_of g) c.requires.path_value_2 },
-    ) in
-    record { later_value = it.0; makes = it.1 }
+    record { later_value = on_passed (mkdir_parents (shown_in a.listing.now a.table.now a.rec) a.path.now a.parents) x.result.judged x.ensures.judged_value g; makes = λ e. record { count = x.ensures.count_bound.0; climb = x.ensures.count_bound.1; table = x.ensures.rec_value (ap check_of g) c.requires.path_value_2 } }

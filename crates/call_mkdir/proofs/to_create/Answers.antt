@@ -17,14 +17,7 @@ returns-then-parents c =
     let s = a.table.now in
     let p = a.path.now in
     let x = c.overlay_dirs_to_create in
-    let it = (
-      parents_made (shown_in l s a.rec) p a.parents (check_of x.result.judged) c.if-parents.true x.ensures.judged_value,
-      (
-        x.ensures.count_bound,
-        λ e. made_all l s a.rec p c.requires.given.table_is (ends_of x.result.dirs) (x.ensures.dirs_value e),
-      ),
-    ) in
-    record { judged_value = it.0; count_bound = it.1.0; rec_value = it.1.1 }
+    record { judged_value = parents_made (shown_in l s a.rec) p a.parents (check_of x.result.judged) c.if-parents.true x.ensures.judged_value; count_bound = x.ensures.count_bound; rec_value = λ e. made_all l s a.rec p c.requires.given.table_is (ends_of x.result.dirs) (x.ensures.dirs_value e) }
 
 pub returns : goal.returns
 returns c =
@@ -33,11 +26,4 @@ returns c =
     let s = a.table.now in
     let p = a.path.now in
     let x = c.ensure_parent_exists-judged in
-    let it = (
-      parents_there (shown_in l s a.rec) p a.parents (check_of x.result) c.if-parents.false x.ensures,
-      (
-        (omega arith, one_climbs (length p) _ refl c.requires.path_value.1),
-        made_one l s a.rec p _ refl (check_of x.result) x.ensures,
-      ),
-    ) in
-    record { judged_value = it.0; count_bound = it.1.0; rec_value = it.1.1 }
+    record { judged_value = parents_there (shown_in l s a.rec) p a.parents (check_of x.result) c.if-parents.false x.ensures; count_bound = (omega arith, one_climbs (length p) _ refl c.requires.path_value.1); rec_value = made_one l s a.rec p _ refl (check_of x.result) x.ensures }

@@ -10,12 +10,8 @@ use Rattle.call_rename.proofs.rename_elsewhere.Goals as goal
 pub judge_move-judged-requires : goal.judge_move-judged-requires
 judge_move-judged-requires c =
     let a = c.args in
-    let it = (
-      c.requires.given,
-      paths a.listing.now a.table.now a.rec a.work.now a.source.now a.destination.now a.limit c.requires.given c.requires.table_in_bounds
-          c.requires.destination_value c.requires.destination_value_2,
-    ) in
-    record { given = it.0; source_value = it.1 }
+    record { given = c.requires.given; source_value = paths a.listing.now a.table.now a.rec a.work.now a.source.now a.destination.now a.limit c.requires.given c.requires.table_in_bounds
+          c.requires.destination_value c.requires.destination_value_2 }
 
 pub returns-in-Refused : goal.returns-in-Refused
 returns-in-Refused c =

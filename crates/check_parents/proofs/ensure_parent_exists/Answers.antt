@@ -32,11 +32,7 @@ pub look-seen-requires : goal.look-seen-requires
 look-seen-requires c =
     let l = c.loop-at in
     let a = c.args in
-    let it = (
-      l.invariant.1.sees,
-      along_look a.listing.now a.table.now a.rec a.path.now l.sight l.at l.invariant.1 (search rules),
-    ) in
-    record { sees = it.0; end_nonzero = it.1 }
+    record { sees = l.invariant.1.sees; end_nonzero = along_look a.listing.now a.table.now a.rec a.path.now l.sight l.at l.invariant.1 (search rules) }
 
 pub returns-then-not-is_directory : goal.returns-then-not-is_directory
 returns-then-not-is_directory c =

@@ -33,11 +33,7 @@ pub look-seen-requires : goal.look-seen-requires
 look-seen-requires c =
     let l = c.loop-end in
     let a = c.args in
-    let it = (
-      l.invariant.1.sees,
-      along_look a.listing.now a.table.now a.rec a.path.now l.sight l.end l.invariant.1 (search rules),
-    ) in
-    record { sees = it.0; end_nonzero = it.1 }
+    record { sees = l.invariant.1.sees; end_nonzero = along_look a.listing.now a.table.now a.rec a.path.now l.sight l.end l.invariant.1 (search rules) }
 
 pub returns-then-is_refused : goal.returns-then-is_refused
 returns-then-is_refused c =
@@ -52,14 +48,7 @@ returns-then-is_refused c =
     let x = visible_kind c.look-seen.result.visible in
     let r = sym d.ensures ∙ c.if-is_refused.true in
     let h = going_room g p l.end es n l.invariant.2 l.invariant.1.slash (search rules) in
-    let it = (
-      going_stop g p l.end es n l.invariant.2 l.invariant.1.slash (search rules) x c.look-seen.ensures.visible_value (check_of k.result) k.ensures r,
-      (
-        λ e. absurd (refused_not_passed (check_of k.result) r e),
-        (omega (arith, h), going_climbed g p l.end es n l.invariant.2),
-      ),
-    ) in
-    record { judged_value = it.0; dirs_value = it.1.0; count_bound = it.1.1 }
+    record { judged_value = going_stop g p l.end es n l.invariant.2 l.invariant.1.slash (search rules) x c.look-seen.ensures.visible_value (check_of k.result) k.ensures r; dirs_value = λ e. absurd (refused_not_passed (check_of k.result) r e); count_bound = (omega (arith, h), going_climbed g p l.end es n l.invariant.2) }
 
 pub with_ancestor-dirs-requires : goal.with_ancestor-dirs-requires
 with_ancestor-dirs-requires c =

@@ -17,8 +17,4 @@ pub returns : goal.returns
 returns c =
     let a = c.args in
     let d = c.is_directory in
-    let it = (
-      c.with_end.ensures.result_value ∙ made (ends_of a.dirs) a.end (is_directory (visible_kind a.visible)) (sym d.ensures ∙ c.if-is_directory.false),
-      search rules,
-    ) in
-    record { result_value = it.0; count_bound = it.1 }
+    record { result_value = c.with_end.ensures.result_value ∙ made (ends_of a.dirs) a.end (is_directory (visible_kind a.visible)) (sym d.ensures ∙ c.if-is_directory.false); count_bound = search rules }

@@ -27,11 +27,7 @@ report_admitted-requires c =
     let a = c.args in
     let j = c.admitted-admitted in
     let k = c.check_paths-forms in
-    let it = (
-      admitted a.listing.now a.table.now a.rec a.source.now a.destination.now j.result j.ensures c.in-Pass.is,
-      both_paths a.source.now a.destination.now (sym k.ensures ∙ ap check_of c.in-Pass-forms.is),
-    ) in
-    record { given = it.0; source_value = it.1 }
+    record { given = admitted a.listing.now a.table.now a.rec a.source.now a.destination.now j.result j.ensures c.in-Pass.is; source_value = both_paths a.source.now a.destination.now (sym k.ensures ∙ ap check_of c.in-Pass-forms.is) }
 
 pub returns-in-Pass-forms : goal.returns-in-Pass-forms
 returns-in-Pass-forms c =

@@ -10,15 +10,8 @@ pub total_of-requires : goal.total_of-requires
 total_of-requires c =
     let a = c.args in
     let b = c.below-listed in
-    let it = (
-      search rules,
-      (
-        part_below a.listing.now a.source.now c.requires.listing_value b.result.from b.result.to b.result.count
-            b.ensures,
-        c.requires.rec_value,
-      ),
-    ) in
-    record { flags_len = it.0; part_below = it.1.0; rec_value = it.1.1 }
+    record { flags_len = search rules; part_below = part_below a.listing.now a.source.now c.requires.listing_value b.result.from b.result.to b.result.count
+            b.ensures; rec_value = c.requires.rec_value }
 
 pub returns : goal.returns
 returns c =

@@ -2,7 +2,6 @@
 use mathlib.Core.Path.{ap, subst, sym}
 use Prim.Native.Nat.{ℕ, ◌+◌, ◌-◌}
 use native.Mathlib.Omega.{arith}
-use borrow.Author.Rules.{rules}
 use Rattle.listing_records.specs.Place.{Standing}
 use Rattle.listing_records.proofs.Places.{stands}
 use Rattle.listing_records.proofs.next_record.Goals as goal
@@ -29,8 +28,4 @@ returns c =
     let left = c.args.place.left in
     let k = stands s left at c.requires.left_nonzero c.requires.standing in
     let n = c.le16 in
-    let it = (
-      ap (λ (m : ℕ). record { at = at + 19 + m; left = left - 1 }) n.ensures.0,
-      subst (λ (m : ℕ). Standing s (left - 1) (at + 19 + m)) (sym n.ensures.0) k.more,
-    ) in
-    record { value = it.0; standing_2 = it.1 }
+    record { value = ap (λ (m : ℕ). record { at = at + 19 + m; left = left - 1 }) n.ensures.0; standing_2 = subst (λ (m : ℕ). Standing s (left - 1) (at + 19 + m)) (sym n.ensures.0) k.more }

@@ -18,9 +18,5 @@ returns c =
     let u = c.run_new-ran in
     let s = c.store_and_pack_run in
     let x : State = begin a.listing.now a.entry_size a.table.now in
-    let it = (
-      new_settled a.listing.now a.entry_size a.table.now a.rec.now a.work.now a.script.now a.report.now f
-          u.result _ _ _ u.ensures.gives s.result _ s.ensures.value s.ensures.rec_after,
-      done_holds a.listing.now x (requests a.listing.now (steps_in a.script.now) x.store a.work.now) _ _ _ u.result s.result _ s.ensures.value s.ensures.rec_after u.ensures.holds,
-    ) in
-    record { report_after = it.0; holds = it.1 }
+    record { report_after = new_settled a.listing.now a.entry_size a.table.now a.rec.now a.work.now a.script.now a.report.now f
+          u.result _ _ _ u.ensures.gives s.result _ s.ensures.value s.ensures.rec_after; holds = done_holds a.listing.now x (requests a.listing.now (steps_in a.script.now) x.store a.work.now) _ _ _ u.result s.result _ s.ensures.value s.ensures.rec_after u.ensures.holds }

@@ -13,8 +13,4 @@ returns c =
     let a = c.args in
     let x = c.copy_in in
     let y = c.copy_in-2 in
-    let it = (
-      size a.t.now a.destination.now a.tail.now _ c.requires x.ensures _ y.ensures,
-      front a.t.now a.destination.now a.tail.now _ c.requires x.ensures _ y.ensures,
-    ) in
-    record { t_len_unchanged = it.0; t_after = it.1 }
+    record { t_len_unchanged = size a.t.now a.destination.now a.tail.now _ c.requires x.ensures _ y.ensures; t_after = front a.t.now a.destination.now a.tail.now _ c.requires x.ensures _ y.ensures }

@@ -9,8 +9,4 @@ returns c =
     let d = a.destination.now in
     let p = a.path.now in
     let x = c.compose in
-    let it = (
-      (moved_room d p a.from c.requires.1, x.ensures.t_len_unchanged),
-      (moved_front d p a.from x.new.0 x.ensures.t_after, moved_length d p a.from),
-    ) in
-    record { len_bound = it.0; bytes_value = it.1.0; len_value = it.1.1 }
+    record { len_bound = (moved_room d p a.from c.requires.1, x.ensures.t_len_unchanged); bytes_value = moved_front d p a.from x.new.0 x.ensures.t_after; len_value = moved_length d p a.from }

@@ -8,21 +8,13 @@ returns-then-whole c =
     let a = c.args in
     let p = c.requires in
     let g = c.moves_below in
-    let it = (
-      moves_whole a.table.now a.listing.now a.rec p.rec_value p.listing_value a.source.now a.whole p.source c.if-whole.true
-          a.destination.now a.first-len p.e_len g.result g.ensures.moved,
-      g.ensures.small,
-    ) in
-    record { moved = it.0; small = it.1 }
+    record { moved = moves_whole a.table.now a.listing.now a.rec p.rec_value p.listing_value a.source.now a.whole p.source c.if-whole.true
+          a.destination.now a.first-len p.e_len g.result g.ensures.moved; small = g.ensures.small }
 
 pub returns : goal.returns
 returns c =
     let a = c.args in
     let p = c.requires in
     let g = c.one_move in
-    let it = (
-      moves_alone a.table.now a.listing.now a.rec p.rec_value p.listing_value a.source.now a.whole p.source c.if-whole.false
-          a.destination.now a.first-len p.e_len g.result (g.ensures.moved a.source.now),
-      g.ensures.small,
-    ) in
-    record { moved = it.0; small = it.1 }
+    record { moved = moves_alone a.table.now a.listing.now a.rec p.rec_value p.listing_value a.source.now a.whole p.source c.if-whole.false
+          a.destination.now a.first-len p.e_len g.result (g.ensures.moved a.source.now); small = g.ensures.small }

@@ -51,19 +51,12 @@ with_move-tally-requires c =
     let z = c.has_next.ensures.0 c.loop-stream-test.true in
     let s = item_short a.own.now a.part.now a.table.now a.source.now l.flags l.stream w h.result h.ensures.next in
     let o = item_longer a.own.now a.part.now a.table.now a.source.now l.flags l.stream w h.result h.ensures.next z in
-    let it = (
-      moving_counts a.own.now a.part.now a.table.now a.source.now a.destination.now v a.rec a.count a.records
-          f.result l.flags l.tally l.stream m c.requires.rec_value c.requires.standing c.requires.part_below,
-      (
-        (
+    record { counts = moving_counts a.own.now a.part.now a.table.now a.source.now a.destination.now v a.rec a.count a.records
+          f.result l.flags l.tally l.stream m c.requires.rec_value c.requires.standing c.requires.part_below; extra_bound = (
           moving_extra a.own.now a.part.now a.table.now a.source.now a.destination.now v a.rec a.count a.records
               f.result l.flags l.tally l.stream m c.requires.standing c.requires.part_below,
           c.requires.destination_nonzero.1,
-        ),
-        (w.entries, (w.listed.stand, (h.ensures.next, (z, (o, s.0, s.1))))),
-      ),
-    ) in
-    record { counts = it.0; extra_bound = it.1.0; standing = it.1.1.0; standing_2 = it.1.1.1.0; next = it.1.1.1.1.0; stream_nonzero = it.1.1.1.1.1.0; source_in_bounds = it.1.1.1.1.1.1 }
+        ); standing = w.entries; standing_2 = w.listed.stand; next = h.ensures.next; stream_nonzero = z; source_in_bounds = (o, s.0, s.1) }
 
 pub advance-stream-requires : goal.advance-stream-requires
 advance-stream-requires c =
@@ -101,11 +94,7 @@ returns c =
     let x = moving_extra a.own.now a.part.now a.table.now a.source.now a.destination.now v0 a.rec a.count a.records
     f.result l.flags l.tally l.stream m
     c.requires.standing c.requires.part_below in
-    let it = (
-      λ t v u g n.
+    record { moved = λ t v u g n.
           moving_over a.own.now a.part.now a.table.now a.source.now a.destination.now v a.rec a.count a.records
           f.result l.flags l.tally l.stream (l.invariant v n) (c.has_next.ensures.1 c.loop-stream-test.false)
-          _ (f.ensures.result_value t u g),
-      ((k.used_small, k.count_small, k.charge_small), x),
-    ) in
-    record { moved = it.0; small = it.1 }
+          _ (f.ensures.result_value t u g); small = ((k.used_small, k.count_small, k.charge_small), x) }

@@ -10,24 +10,8 @@ measure_moves-requires c =
     let a = c.args in
     let b = c.below-entries in
     let l = c.below-listed in
-    let it = (
-      search rules,
-      (
-        c.requires.rec_value,
-        (
-          b.ensures.stand,
-          (
-            b.ensures.are,
-            (
-              part_below a.listing.now a.source.now c.requires.listing_value l.result.from l.result.to l.result.count
-                  l.ensures,
-              c.requires.destination_nonzero,
-            ),
-          ),
-        ),
-      ),
-    ) in
-    record { flags_len = it.0; rec_value = it.1.0; standing = it.1.1.0; count_value = it.1.1.1.0; part_below = it.1.1.1.1.0; destination_nonzero = it.1.1.1.1.1 }
+    record { flags_len = search rules; rec_value = c.requires.rec_value; standing = b.ensures.stand; count_value = b.ensures.are; part_below = part_below a.listing.now a.source.now c.requires.listing_value l.result.from l.result.to l.result.count
+                  l.ensures; destination_nonzero = c.requires.destination_nonzero }
 
 pub returns : goal.returns
 returns c =

@@ -15,9 +15,5 @@ pub returns : goal.returns
 returns c =
     let a = c.args in
     let s = c.plan_sum in
-    let it = (
-      planned-part a.source.now a.destination.now (table_in a.table.now a.rec) _ s.result c.below-part.ensures.are
-          (s.ensures.value a.source.now a.destination.now refl refl),
-      s.ensures.upper_bound,
-    ) in
-    record { value = it.0; upper_bound = it.1 }
+    record { value = planned-part a.source.now a.destination.now (table_in a.table.now a.rec) _ s.result c.below-part.ensures.are
+          (s.ensures.value a.source.now a.destination.now refl refl); upper_bound = s.ensures.upper_bound }

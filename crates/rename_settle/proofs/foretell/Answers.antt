@@ -18,23 +18,7 @@ projected_move-requires c =
     let h = p.early_passed in
     let o = not_roots t l x y h in
     let f = c.first_len-len in
-    let it = (
-      p.given.listing_is,
-      (
-        p.given.table_is,
-        (
-          (o.0, path_short x p.source_value.0),
-          (
-            (o.1, path_short y p.source_value.1),
-            (
-              source_of t l x y h a.whole p.source_value_2,
-              (top_length t l x f.result f.ensures, apart_paths t l x y h),
-            ),
-          ),
-        ),
-      ),
-    ) in
-    record { listing_value = it.0; rec_value = it.1.0; source_nonzero = it.1.1.0; destination_nonzero = it.1.1.1.0; source = it.1.1.1.1.0; e_len = it.1.1.1.1.1.0; q_value = it.1.1.1.1.1.1 }
+    record { listing_value = p.given.listing_is; rec_value = p.given.table_is; source_nonzero = (o.0, path_short x p.source_value.0); destination_nonzero = (o.1, path_short y p.source_value.1); source = source_of t l x y h a.whole p.source_value_2; e_len = top_length t l x f.result f.ensures; q_value = apart_paths t l x y h }
 
 pub returns : goal.returns
 returns c = c.projected_move.ensures

@@ -20,33 +20,13 @@ write_ordered-requires c =
     let lu = (checked x.listing.now p.given.listing_is).up in
     let early = p.early_passed in
     let is = p.source_value in
-    let it = (
-      p.given.table_is,
-      (
-        p.given.listing_is,
-        (
-          ordered_movable t l a b x.whole tu lu early is p.source_value_2,
-          (
-            ordered_ascends t l a b x.whole tu lu early is,
-            (
-              ordered_fits t l a b x.whole tu lu early is (length x.table.now) p.destination_in_bounds,
-              p.table_in_bounds,
-            ),
-          ),
-        ),
-      ),
-    ) in
-    record { rec_value = it.0; listing_value = it.1.0; source_value = it.1.1.0; destination_value = it.1.1.1.0; rec_in_bounds = it.1.1.1.1.0; table_in_bounds = it.1.1.1.1.1 }
+    record { rec_value = p.given.table_is; listing_value = p.given.listing_is; source_value = ordered_movable t l a b x.whole tu lu early is p.source_value_2; destination_value = ordered_ascends t l a b x.whole tu lu early is; rec_in_bounds = ordered_fits t l a b x.whole tu lu early is (length x.table.now) p.destination_in_bounds; table_in_bounds = p.table_in_bounds }
 
 pub returns : goal.returns
 returns c =
     let x = c.args in
     let p = c.requires in
     let w = c.write_ordered in
-    let it = (
-      ordered_written (table_in x.table.now x.rec) (tree_in x.listing.now) x.source.now x.destination.now x.whole
+    record { table_after = ordered_written (table_in x.table.now x.rec) (tree_in x.listing.now) x.source.now x.destination.now x.whole
           (decoded x.table.now x.rec p.given.table_is).ascending (checked x.listing.now p.given.listing_is).up p.early_passed p.source_value
-          (length x.table.now) w.new.0 w.ensures.table_after,
-      w.ensures.work_after,
-    ) in
-    record { table_after = it.0; work_after = it.1 }
+          (length x.table.now) w.new.0 w.ensures.table_after; work_after = w.ensures.work_after }

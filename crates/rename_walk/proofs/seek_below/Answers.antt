@@ -39,12 +39,8 @@ returns-else-is_before_with c =
     let l = c.loop-left in
     let p = c.record_path-path in
     let b = c.is_before_with in
-    let it = (
-      l.invariant.stand,
-      pass_stop a.records.now (slashed a.dir.now) a.place.left a.place.at l.left l.at l.invariant c.loop-left-test.true
-          p.result.now p.ensures b.result b.ensures c.if-is_before_with.false,
-    ) in
-    record { standing = it.0; at_value = it.1 }
+    record { standing = l.invariant.stand; at_value = pass_stop a.records.now (slashed a.dir.now) a.place.left a.place.at l.left l.at l.invariant c.loop-left-test.true
+          p.result.now p.ensures b.result b.ensures c.if-is_before_with.false }
 
 pub returns : goal.returns
 returns c =

@@ -14,14 +14,7 @@ put_next-requires c =
     let i = deletion (item_at a.own.now a.part.now a.stream a.head) in
     let r = c.requires.room in
     let k = c.item_key-key in
-    let it = (
-      r.stand,
-      (
-        deleted_written,
-        room_of a.table.now a.work.now a.merge i k.result.now [] r k.ensures refl,
-      ),
-    ) in
-    record { standing = it.0; written = it.1.0; body_in_bounds = it.1.1 }
+    record { standing = r.stand; written = deleted_written; body_in_bounds = room_of a.table.now a.work.now a.merge i k.result.now [] r k.ensures refl }
 
 pub returns : goal.returns
 returns c =

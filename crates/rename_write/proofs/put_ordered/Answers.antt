@@ -26,18 +26,8 @@ put_destination_within-requires c =
     let y = pick_1 (before f g) (before g (f ++ (47 ∷ []))) (before f (g ++ (47 ∷ []))) P (D ++ M) Q (M ++ D)
     (sym c.is_before.ensures ∙ c.if-is_before.true)
     (sym c.is_before_with.ensures ∙ c.if-is_before_with.true) in
-    let it = (
-      c.requires.rec_value,
-      (
-        c.requires.listing_value,
-        (
-          c.requires.source_value,
-          fits_as a.table.now a.work.now (chosen (before f g) (before g (f ++ (47 ∷ [])))
-              (before f (g ++ (47 ∷ []))) P (D ++ M) Q (M ++ D)) P a.merge y c.requires.fits,
-        ),
-      ),
-    ) in
-    record { rec_value = it.0; listing_value = it.1.0; source_value = it.1.1.0; fits = it.1.1.1 }
+    record { rec_value = c.requires.rec_value; listing_value = c.requires.listing_value; source_value = c.requires.source_value; fits = fits_as a.table.now a.work.now (chosen (before f g) (before g (f ++ (47 ∷ [])))
+              (before f (g ++ (47 ∷ []))) P (D ++ M) Q (M ++ D)) P a.merge y c.requires.fits }
 
 pub returns-then-is_before_with : goal.returns-then-is_before_with
 returns-then-is_before_with c =
@@ -73,18 +63,8 @@ put_source_first-requires c =
     let y = pick_2 (before f g) (before g (f ++ (47 ∷ []))) (before f (g ++ (47 ∷ []))) P (D ++ M) Q (M ++ D)
     (sym c.is_before.ensures ∙ c.if-is_before.true)
     (sym c.is_before_with.ensures ∙ c.if-is_before_with.false) in
-    let it = (
-      c.requires.rec_value,
-      (
-        c.requires.listing_value,
-        (
-          c.requires.source_value,
-          fits_as a.table.now a.work.now (chosen (before f g) (before g (f ++ (47 ∷ [])))
-              (before f (g ++ (47 ∷ []))) P (D ++ M) Q (M ++ D)) (D ++ M) a.merge y c.requires.fits,
-        ),
-      ),
-    ) in
-    record { rec_value = it.0; listing_value = it.1.0; source_value = it.1.1.0; fits = it.1.1.1 }
+    record { rec_value = c.requires.rec_value; listing_value = c.requires.listing_value; source_value = c.requires.source_value; fits = fits_as a.table.now a.work.now (chosen (before f g) (before g (f ++ (47 ∷ [])))
+              (before f (g ++ (47 ∷ []))) P (D ++ M) Q (M ++ D)) (D ++ M) a.merge y c.requires.fits }
 
 pub returns-then-is_before : goal.returns-then-is_before
 returns-then-is_before c =
@@ -120,18 +100,8 @@ put_source_within-requires c =
     let y = pick_3 (before f g) (before g (f ++ (47 ∷ []))) (before f (g ++ (47 ∷ []))) P (D ++ M) Q (M ++ D)
     (sym c.is_before.ensures ∙ c.if-is_before.false)
     (sym c.is_before_with-2.ensures ∙ c.if-is_before_with-2.true) in
-    let it = (
-      c.requires.rec_value,
-      (
-        c.requires.listing_value,
-        (
-          c.requires.source_value,
-          fits_as a.table.now a.work.now (chosen (before f g) (before g (f ++ (47 ∷ [])))
-              (before f (g ++ (47 ∷ []))) P (D ++ M) Q (M ++ D)) Q a.merge y c.requires.fits,
-        ),
-      ),
-    ) in
-    record { rec_value = it.0; listing_value = it.1.0; source_value = it.1.1.0; fits = it.1.1.1 }
+    record { rec_value = c.requires.rec_value; listing_value = c.requires.listing_value; source_value = c.requires.source_value; fits = fits_as a.table.now a.work.now (chosen (before f g) (before g (f ++ (47 ∷ [])))
+              (before f (g ++ (47 ∷ []))) P (D ++ M) Q (M ++ D)) Q a.merge y c.requires.fits }
 
 pub returns-then-is_before_with-2 : goal.returns-then-is_before_with-2
 returns-then-is_before_with-2 c =
@@ -167,18 +137,8 @@ put_destination_first-requires c =
     let y = pick_4 (before f g) (before g (f ++ (47 ∷ []))) (before f (g ++ (47 ∷ []))) P (D ++ M) Q (M ++ D)
     (sym c.is_before.ensures ∙ c.if-is_before.false)
     (sym c.is_before_with-2.ensures ∙ c.if-is_before_with-2.false) in
-    let it = (
-      c.requires.rec_value,
-      (
-        c.requires.listing_value,
-        (
-          c.requires.source_value,
-          fits_as a.table.now a.work.now (chosen (before f g) (before g (f ++ (47 ∷ [])))
-              (before f (g ++ (47 ∷ []))) P (D ++ M) Q (M ++ D)) (M ++ D) a.merge y c.requires.fits,
-        ),
-      ),
-    ) in
-    record { rec_value = it.0; listing_value = it.1.0; source_value = it.1.1.0; fits = it.1.1.1 }
+    record { rec_value = c.requires.rec_value; listing_value = c.requires.listing_value; source_value = c.requires.source_value; fits = fits_as a.table.now a.work.now (chosen (before f g) (before g (f ++ (47 ∷ [])))
+              (before f (g ++ (47 ∷ []))) P (D ++ M) Q (M ++ D)) (M ++ D) a.merge y c.requires.fits }
 
 pub returns : goal.returns
 returns c =

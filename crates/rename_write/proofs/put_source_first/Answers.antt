@@ -11,15 +11,8 @@ put_departures-next-requires c =
     let a = c.args in
     let T = table_in a.table.now a.rec in
     let L = tree_in a.listing.now in
-    let it = (
-      c.requires.rec_value,
-      (
-        c.requires.listing_value,
-        fits_first a.table.now a.work.now a.merge (departures a.whole T L a.source.now)
-            (arrivals a.whole T L a.source.now a.destination.now) c.requires.fits,
-      ),
-    ) in
-    record { rec_value = it.0; listing_value = it.1.0; fits = it.1.1 }
+    record { rec_value = c.requires.rec_value; listing_value = c.requires.listing_value; fits = fits_first a.table.now a.work.now a.merge (departures a.whole T L a.source.now)
+            (arrivals a.whole T L a.source.now a.destination.now) c.requires.fits }
 
 pub put_arrivals-requires : goal.put_arrivals-requires
 put_arrivals-requires c =
@@ -27,18 +20,8 @@ put_arrivals-requires c =
     let T = table_in a.table.now a.rec in
     let L = tree_in a.listing.now in
     let p = c.put_departures-next in
-    let it = (
-      c.requires.rec_value,
-      (
-        c.requires.listing_value,
-        (
-          c.requires.source_value,
-          fits_second a.table.now a.work.now a.merge (departures a.whole T L a.source.now)
-              (arrivals a.whole T L a.source.now a.destination.now) p.new.0 p.result p.ensures c.requires.fits,
-        ),
-      ),
-    ) in
-    record { rec_value = it.0; listing_value = it.1.0; source_value = it.1.1.0; fits = it.1.1.1 }
+    record { rec_value = c.requires.rec_value; listing_value = c.requires.listing_value; source_value = c.requires.source_value; fits = fits_second a.table.now a.work.now a.merge (departures a.whole T L a.source.now)
+              (arrivals a.whole T L a.source.now a.destination.now) p.new.0 p.result p.ensures c.requires.fits }
 
 pub returns : goal.returns
 returns c =

@@ -14,18 +14,8 @@ put_ordered-end-requires c =
     let a = c.args in
     let xs = ordered a.whole (table_in a.table.now a.rec) (tree_in a.listing.now) a.source.now a.destination.now in
     let p = c.requires in
-    let it = (
-      p.rec_value,
-      (
-        p.listing_value,
-        (
-          p.source_value,
-          fits_begun a.table.now a.work.now a.rec xs p.rec_value p.destination_value p.rec_in_bounds
-              p.table_in_bounds,
-        ),
-      ),
-    ) in
-    record { rec_value = it.0; listing_value = it.1.0; source_value = it.1.1.0; fits = it.1.1.1 }
+    record { rec_value = p.rec_value; listing_value = p.listing_value; source_value = p.source_value; fits = fits_begun a.table.now a.work.now a.rec xs p.rec_value p.destination_value p.rec_in_bounds
+              p.table_in_bounds }
 
 pub finish-requires : goal.finish-requires
 finish-requires c =
@@ -49,8 +39,4 @@ returns c =
     let p = c.requires in
     let q = c.put_ordered-end in
     let f = c.finish in
-    let it = (
-      done_over a.table.now a.work.now a.rec xs p.rec_value p.destination_value q.new.0 q.result q.ensures f.new.0 f.ensures.table_after,
-      zeros_as_long a.work.now q.new.0 f.new.1.0 f.ensures.work_after q.ensures.long,
-    ) in
-    record { table_after = it.0; work_after = it.1 }
+    record { table_after = done_over a.table.now a.work.now a.rec xs p.rec_value p.destination_value q.new.0 q.result q.ensures f.new.0 f.ensures.table_after; work_after = zeros_as_long a.work.now q.new.0 f.new.1.0 f.ensures.work_after q.ensures.long }

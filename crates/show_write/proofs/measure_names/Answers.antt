@@ -14,12 +14,7 @@ pub head_at-head-requires : goal.head_at-head-requires
 head_at-head-requires c = c.loop-merge.invariant.showing.merging
 
 pub advance-next-requires : goal.advance-next-requires
-advance-next-requires c =
-    let it = (
-  c.loop-merge.invariant.showing.merging,
-  (c.head_at-head.ensures, c.has_next.ensures.0 c.loop-merge-test.true),
-) in
-    record { merging = it.0; next = it.1.0; merge_nonzero = it.1.1 }
+advance-next-requires c = record { merging = c.loop-merge.invariant.showing.merging; next = c.head_at-head.ensures; merge_nonzero = c.has_next.ensures.0 c.loop-merge-test.true }
 
 pub name_size-sum-requires : goal.name_size-sum-requires
 name_size-sum-requires c =
@@ -27,14 +22,7 @@ name_size-sum-requires c =
     let l = c.loop-merge in
     let h = c.head_at-head in
     let r = c.advance-next in
-    let it = (
-      l.invariant.showing.merging,
-      (
-        h.ensures,
-        head_inside a.own.now a.part.now a.dir.now l.merge h.result r.result r.ensures.merge_value l.invariant.showing,
-      ),
-    ) in
-    record { merging = it.0; next = it.1.0; head_value = it.1.1 }
+    record { merging = l.invariant.showing.merging; next = h.ensures; head_value = head_inside a.own.now a.part.now a.dir.now l.merge h.result r.result r.ensures.merge_value l.invariant.showing }
 
 pub overflow_add-sum : goal.overflow_add-sum
 overflow_add-sum c =

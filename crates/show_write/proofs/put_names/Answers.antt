@@ -13,12 +13,7 @@ pub head_at-head-requires : goal.head_at-head-requires
 head_at-head-requires c = c.loop-merge.invariant.showing.merging
 
 pub advance-next-requires : goal.advance-next-requires
-advance-next-requires c =
-    let it = (
-  c.loop-merge.invariant.showing.merging,
-  (c.head_at-head.ensures, c.has_next.ensures.0 c.loop-merge-test.true),
-) in
-    record { merging = it.0; next = it.1.0; merge_nonzero = it.1.1 }
+advance-next-requires c = record { merging = c.loop-merge.invariant.showing.merging; next = c.head_at-head.ensures; merge_nonzero = c.has_next.ensures.0 c.loop-merge-test.true }
 
 pub put_name-at-requires : goal.put_name-at-requires
 put_name-at-requires c =
@@ -26,17 +21,7 @@ put_name-at-requires c =
     let l = c.loop-merge in
     let h = c.head_at-head in
     let r = c.advance-next in
-    let it = (
-      l.invariant.showing.merging,
-      (
-        h.ensures,
-        (
-          head_inside a.own.now a.part.now a.dir.now l.merge h.result r.result r.ensures.merge_value l.invariant.showing,
-          next_fits a.output.now a.own.now a.part.now a.dir.now a.first c.requires.first_in_bounds l.merge l.output l.at l.invariant h.result r.result r.ensures.merge_value,
-        ),
-      ),
-    ) in
-    record { merging = it.0; next = it.1.0; head_value = it.1.1.0; head_in_bounds = it.1.1.1 }
+    record { merging = l.invariant.showing.merging; next = h.ensures; head_value = head_inside a.own.now a.part.now a.dir.now l.merge h.result r.result r.ensures.merge_value l.invariant.showing; head_in_bounds = next_fits a.output.now a.own.now a.part.now a.dir.now a.first c.requires.first_in_bounds l.merge l.output l.at l.invariant h.result r.result r.ensures.merge_value }
 
 pub loop-merge-smaller : goal.loop-merge-smaller
 loop-merge-smaller c = c.advance-next.ensures.result_bound

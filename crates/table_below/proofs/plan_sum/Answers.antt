@@ -51,8 +51,4 @@ pub returns : goal.returns
 returns c =
     let l = c.loop-left in
     let a = c.args in
-    let it = (
-      sum_end a.part.now a.from a.to a.count l.left l.at l.sum l.invariant (search rules),
-      omega (arith, l.invariant.few, l.invariant.stand.within, l.invariant.stand.small),
-    ) in
-    record { value = it.0; upper_bound = it.1 }
+    record { value = sum_end a.part.now a.from a.to a.count l.left l.at l.sum l.invariant (search rules); upper_bound = omega (arith, l.invariant.few, l.invariant.stand.within, l.invariant.stand.small) }

@@ -39,11 +39,7 @@ projected-next-requires c =
     let lt = length-take (get_or a.dirs.ends l.i 0) a.path.now in
     let h = c.requires.count_bound.0 in
     let b = c.loop-i-test.true in
-    let it = (
-      measuring_counts (directory 0) a.table.now a.path.now es a.rec l.i l.place l.after (l.invariant 0) c.requires.rec_value (omega arith),
-      (omega arith, omega arith),
-    ) in
-    record { counts = it.0; key_len_bound = it.1 }
+    record { counts = measuring_counts (directory 0) a.table.now a.path.now es a.rec l.i l.place l.after (l.invariant 0) c.requires.rec_value (omega arith); key_len_bound = (omega arith, omega arith) }
 
 pub loop-i-preserved : goal.loop-i-preserved
 loop-i-preserved c =

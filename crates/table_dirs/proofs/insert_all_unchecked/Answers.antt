@@ -36,15 +36,8 @@ put_next-merge-requires c =
     let h = c.requires.count_bound in
     let n = ends_on a.dirs.ends a.dirs.count l.i c.loop-i-test.true (omega (arith, x, h.0)) in
     let es = take a.dirs.count a.dirs.ends in
-    let it = (
-      l.invariant.merged.passed.stand,
-      (
-        record { type = refl; time = refl; long = refl; content = refl },
-        merging_room a.mtime a.table.now a.work.now a.path.now es a.rec l.i l.work l.merge l.invariant
-            (get_or a.dirs.ends l.i 0) n c.requires.rec_in_bounds h.2,
-      ),
-    ) in
-    record { standing = it.0; written = it.1.0; body_in_bounds = it.1.1 }
+    record { standing = l.invariant.merged.passed.stand; written = record { type = refl; time = refl; long = refl; content = refl }; body_in_bounds = merging_room a.mtime a.table.now a.work.now a.path.now es a.rec l.i l.work l.merge l.invariant
+            (get_or a.dirs.ends l.i 0) n c.requires.rec_in_bounds h.2 }
 
 pub loop-i-preserved : goal.loop-i-preserved
 loop-i-preserved c =
@@ -83,8 +76,4 @@ returns c =
     let h = c.requires.count_bound in
     let n = ends_over a.dirs.ends a.dirs.count l.i (search rules) (omega (arith, x, h.0)) in
     let es = take a.dirs.count a.dirs.ends in
-    let it = (
-      merging_over a.mtime a.table.now a.work.now a.path.now es a.rec l.i l.work l.merge l.invariant c.requires.rec_value n f.new.0 f.ensures.table_after,
-      merging_zeros a.mtime a.table.now a.work.now a.path.now es a.rec l.i l.work l.merge l.invariant f.new.1.0 f.ensures.work_after,
-    ) in
-    record { table_after = it.0; work_after = it.1 }
+    record { table_after = merging_over a.mtime a.table.now a.work.now a.path.now es a.rec l.i l.work l.merge l.invariant c.requires.rec_value n f.new.0 f.ensures.table_after; work_after = merging_zeros a.mtime a.table.now a.work.now a.path.now es a.rec l.i l.work l.merge l.invariant f.new.1.0 f.ensures.work_after }

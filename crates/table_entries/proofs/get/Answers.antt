@@ -1,5 +1,4 @@
 -- `get` meets its contract: the search from the first entry on finds what the table has.
-use borrow.Author.Rules.{rules}
 use Rattle.table_entries.proofs.Seeks.{found_all}
 use Rattle.table_entries.proofs.get.Goals as goal
 

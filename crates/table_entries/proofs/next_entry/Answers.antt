@@ -2,7 +2,6 @@
 use mathlib.Core.Path.{ap₂}
 use Prim.Native.Nat.{ℕ, ◌+◌, ◌-◌}
 use native.Mathlib.Omega.{arith}
-use borrow.Author.Rules.{rules}
 use Rattle.table_entries.proofs.Entries.{stands_here}
 use Rattle.table_entries.proofs.Seeks.{stands_next}
 use Rattle.table_entries.proofs.next_entry.Goals as goal
@@ -24,8 +23,4 @@ returns c =
     let left = c.args.place.left in
     let n = c.le16-n in
     let m = c.le32-m in
-    let it = (
-      ap₂ (λ (a b : ℕ). record { at = at + 24 + a + b; left = left - 1 }) n.ensures.0 m.ensures.0,
-      stands_next s left at c.requires.left_nonzero c.requires.standing n.result n.ensures.0 m.result m.ensures.0,
-    ) in
-    record { value = it.0; standing_2 = it.1 }
+    record { value = ap₂ (λ (a b : ℕ). record { at = at + 24 + a + b; left = left - 1 }) n.ensures.0 m.ensures.0; standing_2 = stands_next s left at c.requires.left_nonzero c.requires.standing n.result n.ensures.0 m.result m.ensures.0 }

@@ -15,14 +15,7 @@ put_next-merge-requires c =
     let a = c.args in
     let s = a.table.now in
     let w = c.requires.key_value in
-    let it = (
-      table_stands s a.rec c.requires.rec_value,
-      (
-        w.1,
-        room_for a.key.now a.kind a.mtime a.size a.body.now (table_in s a.rec) (length s) (length a.work.now) w.1 c.requires.rec_in_bounds w.2,
-      ),
-    ) in
-    record { standing = it.0; written = it.1.0; body_in_bounds = it.1.1 }
+    record { standing = table_stands s a.rec c.requires.rec_value; written = w.1; body_in_bounds = room_for a.key.now a.kind a.mtime a.size a.body.now (table_in s a.rec) (length s) (length a.work.now) w.1 c.requires.rec_in_bounds w.2 }
 
 pub finish-requires : goal.finish-requires
 finish-requires c =

@@ -20,16 +20,9 @@ returns-then-has_key c =
     let b = c.has_key_lem in
     let n = c.next_entry in
     let h = some_left a.table.now a.key.now a.place.left a.place.at b.result b.ensures c.if-has_key.true in
-    let it = (
-      n.ensures.standing_2,
-      (
-        ap (λ (p : Place). entries_at a.table.now p.left p.at) n.ensures.value
-            ∙ gone_on a.table.now a.key.now a.place.left a.place.at b.result b.ensures c.if-has_key.true,
-        ap (λ (p : Place). end_of a.table.now p.left p.at) n.ensures.value
-            ∙ same_end a.table.now a.place.left a.place.at h c.requires,
-      ),
-    ) in
-    record { standing = it.0; at_value = it.1.0; at_value_2 = it.1.1 }
+    record { standing = n.ensures.standing_2; at_value = ap (λ (p : Place). entries_at a.table.now p.left p.at) n.ensures.value
+            ∙ gone_on a.table.now a.key.now a.place.left a.place.at b.result b.ensures c.if-has_key.true; at_value_2 = ap (λ (p : Place). end_of a.table.now p.left p.at) n.ensures.value
+            ∙ same_end a.table.now a.place.left a.place.at h c.requires }
 
 pub returns : goal.returns
 returns c =

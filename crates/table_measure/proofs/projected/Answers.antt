@@ -27,11 +27,7 @@ with_body-after-requires c =
     let b = c.has_key_lem in
     let o = c.le32-old in
     let h = some_left a.table.now a.key.now q.result.left q.result.at b.result b.ensures c.if-has_key.true in
-    let it = (
-      (c.requires.counts.used_small, c.requires.counts.charge_small, c.requires.key_len_bound.1),
-      old_fits a.table.now a.key.now a.place.left a.place.at q.result.left q.result.at a.rec c.requires.counts q.ensures h o.result o.ensures.0,
-    ) in
-    record { used_bound = it.0; le_used = it.1 }
+    record { used_bound = (c.requires.counts.used_small, c.requires.counts.charge_small, c.requires.key_len_bound.1); le_used = old_fits a.table.now a.key.now a.place.left a.place.at q.result.left q.result.at a.rec c.requires.counts q.ensures h o.result o.ensures.0 }
 
 pub returns-then-has_key : goal.returns-then-has_key
 returns-then-has_key c =

@@ -44,11 +44,4 @@ returns c =
     x.ensures.value f.ensures n.ensures.standing n.ensures.at_value n.ensures.at_value_2 a.work.now w.new.0 c.requires.table_in_bounds w.ensures in
     let u = used_is a.table.now a.rec a.key.now x.result f.result n.result c.requires.rec_value
     x.ensures.value f.ensures n.ensures.standing n.ensures.at_value n.ensures.at_value_2 in
-    let it = (
-      o.ensures,
-      (
-        e.ensures.table_after (del a.key.now (table_in a.table.now a.rec)) a.key.now m u,
-        zeros_as_long a.work.now w.new.0 _ e.ensures.work_after w.auto.0,
-      ),
-    ) in
-    record { value = it.0; table_after = it.1.0; work_after = it.1.1 }
+    record { value = o.ensures; table_after = e.ensures.table_after (del a.key.now (table_in a.table.now a.rec)) a.key.now m u; work_after = zeros_as_long a.work.now w.new.0 _ e.ensures.work_after w.auto.0 }

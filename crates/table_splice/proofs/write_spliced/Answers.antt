@@ -31,11 +31,7 @@ put_next_spliced-merge-requires c =
     let v = own a.mtime (spliced a.offset a.«data».now a.content.now) in
     let f = j.ensures v (sym (l.ensures a.content.now a.«data».now refl refl)) in
     let x : Splice = record { answer = j.result; merge = record { at = 0; left = a.rec.count; out = 0 } } in
-    let it = (
-      table_stands s a.rec c.requires.rec_value,
-      room_in s a.rec a.limit a.key.now v x f (is_done_lem j.result d.result d.ensures (ap not c.if-not-is_done.false)) (length a.work.now) c.requires.data_bound.1,
-    ) in
-    record { standing = it.0; content_in_bounds = it.1 }
+    record { standing = table_stands s a.rec c.requires.rec_value; content_in_bounds = room_in s a.rec a.limit a.key.now v x f (is_done_lem j.result d.result d.ensures (ap not c.if-not-is_done.false)) (length a.work.now) c.requires.data_bound.1 }
 
 pub returns : goal.returns
 returns c =

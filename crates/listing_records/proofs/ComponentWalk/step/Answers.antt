@@ -14,11 +14,7 @@ pub returns-then-exhausted : goal.returns-then-exhausted
 returns-then-exhausted c =
     let a = c.args in
     let v = c.requires.walks in
-    let it = (
-      exhausted_kind a.listing.now a.path.now a.self a.end v (search rules) (search rules) c.if-exhausted.true,
-      (c.if-exhausted.true, (λ z. refl, walks_on a.listing.now a.path.now a.self a.end (a.end + 1) (omega arith) v)),
-    ) in
-    record { target_value = it.0; exhausted_value = it.1.0; walk_value = it.1.1.0; walks_2 = it.1.1.1 }
+    record { target_value = exhausted_kind a.listing.now a.path.now a.self a.end v (search rules) (search rules) c.if-exhausted.true; exhausted_value = c.if-exhausted.true; walk_value = λ z. refl; walks_2 = walks_on a.listing.now a.path.now a.self a.end (a.end + 1) (omega arith) v }
 
 pub slice_bounds-prefix-end : goal.slice_bounds-prefix-end
 slice_bounds-prefix-end c = let a = c.args in sym (length-take-le a.end a.path.now (search rules))
@@ -38,15 +34,5 @@ returns c =
     let b = c.is_dir-on in
     let k = step_kind_lem a.listing.now a.path.now a.self a.end v (search rules) (search rules) c.requires.listing_value c.requires.path_value
     q.result q.ensures d.result t.result d.ensures t.ensures in
-    let it = (
-      k,
-      (
-        ap not b.ensures,
-        (
-          λ z. absurd (bot (cc c.if-exhausted.false)),
-          step_walks a.listing.now a.path.now a.self a.end v (search rules) (search rules) c.requires.listing_value c.requires.path_value
-              q.result q.ensures t.result b.result b.ensures k,
-        ),
-      ),
-    ) in
-    record { target_value = it.0; exhausted_value = it.1.0; walk_value = it.1.1.0; walks_2 = it.1.1.1 }
+    record { target_value = k; exhausted_value = ap not b.ensures; walk_value = λ z. absurd (bot (cc c.if-exhausted.false)); walks_2 = step_walks a.listing.now a.path.now a.self a.end v (search rules) (search rules) c.requires.listing_value c.requires.path_value
+              q.result q.ensures t.result b.result b.ensures k }
