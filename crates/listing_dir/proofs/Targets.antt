@@ -10,7 +10,7 @@ use Rattle.listing_records.specs.declared.RealTarget.{RealTarget}
 use Rattle.listing_records.specs.Found.{found_of, found_kind, target_kind}
 use Rattle.listing_records.proofs.Steps.{found_kind_lem}
 
-pub root_kind : (f : View) (p : Path) → length p ≡ 0 → Kind.aDirectory ≡ kind f p
+pub root_kind : (f : View) (p : Path) → length p ≡ 0 → Kind.a_directory ≡ kind f p
 root_kind f [] h = refl
 root_kind f (b ∷ p) h = absurd (omega arith)
 

@@ -1,7 +1,5 @@
 // ComponentWalk's step with the walk lent, as in overlay.rs: a thin function above listing_records' step by value,
-// which does the work. Assumes bytes that are a listing: only this repository's crates call, after a check. A function
-// with a reference to a struct is proved over its MIR by hand, as both are here; whoever calls `step_once` needs no
-// such proof.
+// which does the work. Assumes bytes that are a listing: only this repository's crates call, after a check.
 #![tactic(auto)]
 
 ghost use Rattle.std.specs.Prelude.{◌≡◌, true, ◌≤◌, ◌<◌, length, drop};

@@ -8,7 +8,7 @@ use Rattle.model.specs.Bytes.{Bytes}
 use Rattle.model.specs.Tree.{Table, Tree, shown}
 use Rattle.model.specs.Listing.{is_listing, tree_in}
 use Rattle.model.specs.Table.{encode, padded, record_of}
-use Rattle.model.specs.Checks.{Check, pass, ◌then◌, unless, write_checks, Memory, limited, charged}
+use Rattle.model.specs.Checks.{Check, pass, unless, write_checks, Memory, limited, charged}
 use Rattle.model.specs.Calls.{Call, write, append, write_inside, mkdir, unlink, rmdir, rename, changed, forms, rules}
 use Rattle.model.specs.Answer.{accepted}
 use Rattle.model.specs.Outcome.{Request, Store, Outcome, lent, room, verdict, settle, outcome}

@@ -95,21 +95,21 @@ module _ (l s : Bytes) (r : Record) (p : Path) (g : Sight) (k : ℕ) (v : Sees l
   }
 
 -- an entry's kind, or without one the listing's
-pub over_file : (e : Option Entry) (n : Option Node) (m : Float) (c : Bytes) → a_file m c ≡ said e → Kind.aFile ≡ kind_of (over e n)
+pub over_file : (e : Option Entry) (n : Option Node) (m : Float) (c : Bytes) → a_file m c ≡ said e → Kind.a_file ≡ kind_of (over e n)
 over_file none n m c h = absurd (bot (cc))
 over_file (some (own a d)) n m c h = refl
 over_file (some (reference a z d)) n m c h = refl
 over_file (some (directory a)) n m c h = absurd (bot (cc))
 over_file (some deleted) n m c h = absurd (bot (cc))
 
-pub over_reference : (e : Option Entry) (n : Option Node) (m : Float) (z : ℕ) (c : Bytes) → a_reference m z c ≡ said e → Kind.aFile ≡ kind_of (over e n)
+pub over_reference : (e : Option Entry) (n : Option Node) (m : Float) (z : ℕ) (c : Bytes) → a_reference m z c ≡ said e → Kind.a_file ≡ kind_of (over e n)
 over_reference none n m z c h = absurd (bot (cc))
 over_reference (some (own a d)) n m z c h = refl
 over_reference (some (reference a y d)) n m z c h = refl
 over_reference (some (directory a)) n m z c h = absurd (bot (cc))
 over_reference (some deleted) n m z c h = absurd (bot (cc))
 
-pub over_directory : (e : Option Entry) (n : Option Node) (m : Float) → a_directory m ≡ said e → Kind.aDirectory ≡ kind_of (over e n)
+pub over_directory : (e : Option Entry) (n : Option Node) (m : Float) → a_directory m ≡ said e → Kind.a_directory ≡ kind_of (over e n)
 over_directory none n m h = absurd (bot (cc))
 over_directory (some (own a d)) n m h = absurd (bot (cc))
 over_directory (some (reference a y d)) n m h = absurd (bot (cc))

@@ -1,6 +1,5 @@
 -- `available_memory` meets its contract: what is left of the whole limit.
 use mathlib.Core.Path.{ap, ◌∙◌}
-use borrow.Author.Rules.{rules}
 use Rattle.base_budget.specs.Budget.{shrunk}
 use Rattle.base_budget.specs.declared.MemoryBudget.{MemoryBudget}
 use Rattle.base_budget.proofs.available_memory.Goals as goal

@@ -1,5 +1,4 @@
 -- `kind_in` meets its contract: the kind of what is found, and the root apart.
-use borrow.Author.Rules.{rules}
 use Rattle.model.specs.Map.{lookup}
 use Rattle.model.specs.Listing.{tree_in}
 use Rattle.listing_dir.proofs.Targets.{root_kind, target_kind_lem}
