@@ -16,7 +16,6 @@ use Rattle.model.specs.Bytes.{Bytes}
 use Rattle.model.specs.Path.{Path, is_path, below, slashless}
 use Rattle.model.specs.Tree.{Node, View}
 use Rattle.model.specs.Listing.{is_listing, tree_in}
-use Rattle.model.specs.Answer.{accepted}
 use Rattle.model.specs.Outcome.{Given, shown_in}
 use Rattle.model.specs.Plain.{visible_tree}
 use Rattle.model.specs.declared.Record.{Record}
@@ -29,7 +28,7 @@ use Rattle.model.proofs.Invariant.{Closed}
 use Rattle.model.proofs.Formed.{listing_fine}
 use Rattle.model.proofs.Resumed.{visible_is, visible_sorted}
 use Rattle.model.proofs.Built.{built_reached}
-use Rattle.show_names.specs.Names.{names, child_names, showing}
+use Rattle.show_names.specs.Names.{names, child_names}
 use Rattle.show_names.specs.Shows.{is_name, child_path, shows_at, FoundIn, StandsIn}
 use Rattle.show_names.proofs.Children.{no_slash_last}
 use Rattle.show_names.proofs.Bounds.{names_bound}

@@ -1,5 +1,4 @@
 -- `below` meets its contract: what stands between the two places is the part.
-use borrow.Author.Rules.{rules}
 use Rattle.table_below.proofs.Cutting.{fewer, part_of_table}
 use Rattle.table_below.proofs.below.Goals as goal
 

@@ -1,7 +1,5 @@
 -- `has_visible_child` meets its contract: each entry that is no such child is passed.
-use borrow.Author.Rules.{rules}
-use Rattle.model.specs.Table.{entry_end}
-use Rattle.table_below.proofs.Children.{Looking, look_start, look_found, look_on, look_less, look_end}
+use Rattle.table_below.proofs.Children.{Looking}
 use Rattle.table_below.proofs.has_visible_child.Given as goal
 
 abbrev pub invariant-loop-left : goal.invariant-loop-left

@@ -1,6 +1,5 @@
 -- `is_visible_child` meets its contract: the key is the entry's, and kind 4 is that of a deleted entry.
 use native.Mathlib.Omega.{arith}
-use borrow.Author.Rules.{rules}
 use Rattle.table_entries.proofs.Entries.{stands_here}
 use Rattle.table_below.proofs.Children.{visible_here}
 use Rattle.table_below.proofs.is_visible_child.Goals as goal

@@ -1,9 +1,8 @@
 -- `plan_sum` meets its contract: each entry adds what the plan has for its key, and takes at least 24 bytes, so that the sum stays small.
-use Prim.Native.Nat.{◌-◌}
 use native.Mathlib.Omega.{arith}
 use borrow.Author.Rules.{rules}
-use Rattle.table_entries.proofs.Entries.{Stands, stands_here}
-use Rattle.table_below.proofs.Sums.{Summing, sum_start, sum_on, sum_end}
+use Rattle.table_entries.proofs.Entries.{stands_here}
+use Rattle.table_below.proofs.Sums.{sum_start, sum_on, sum_end}
 use Rattle.table_below.proofs.plan_sum.Goals as goal
 
 pub loop-left-init : goal.loop-left-init

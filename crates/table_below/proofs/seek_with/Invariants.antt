@@ -1,10 +1,6 @@
 -- `seek_with` meets its contract: an entry whose key is before the path with its byte is passed, and the first other one is where it ends.
 use mathlib.Core.List.{[], ◌∷◌, ◌++◌}
-use Prim.Native.Nat.{◌-◌}
-use native.Mathlib.Omega.{arith}
-use borrow.Author.Rules.{rules}
-use Rattle.table_entries.proofs.Entries.{Stands, stands_here}
-use Rattle.table_entries.proofs.Seeks.{Seeking, seek_start, seek_on, seek_stop, seek_end}
+use Rattle.table_entries.proofs.Seeks.{Seeking}
 use Rattle.table_below.proofs.seek_with.Given as goal
 
 abbrev pub invariant-loop-left : goal.invariant-loop-left
