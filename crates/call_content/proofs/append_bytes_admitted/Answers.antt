@@ -24,4 +24,4 @@ returns-in-Pass c =
     let j = c.append_judge-judged in
     let u = c.in-Pass.is in
     let i = c.insert_appended-inserted in
-    append_inserted a.listing.now a.table.now a.rec a.work.now a.path.now a.mtime a.limit c.requires.given c.requires.table_in_bounds j.result a.«data».now a.lent.now j.ensures.result_value u i.result i.new.0 i.new.1.0 (i.ensures a.listing.now (append_count a.listing.now a.table.now a.rec a.work.now a.path.now a.mtime a.limit c.requires.given c.requires.table_in_bounds j.result a.«data».now a.lent.now j.ensures.result_value u)) c.answered.result c.answered.ensures
+    append_inserted a.listing.now a.table.now a.rec a.work.now a.path.now a.mtime a.limit c.requires.given c.requires.table_in_bounds j.result a.«data».now a.lent.now j.ensures.result_value u i.result i.new.table i.new.work (i.ensures a.listing.now (append_count a.listing.now a.table.now a.rec a.work.now a.path.now a.mtime a.limit c.requires.given c.requires.table_in_bounds j.result a.«data».now a.lent.now j.ensures.result_value u)) c.answered.result c.answered.ensures

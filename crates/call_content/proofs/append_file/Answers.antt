@@ -34,5 +34,5 @@ returns c =
     let i = c.insert_parts in
     λ m k l.
     as_content a.rec.entry_size a.limit s a.work.now (table_in s a.rec) p a.mtime (spliced n d k) (k ++ d)
-    (at_end n d k (ap length x.ensures ∙ ap length (body_there s a.rec p a.place.left a.place.at c.requires.rec_value c.requires.sought c.requires.path_value_2 m k l))) i.result i.new.0 i.new.1.0
+    (at_end n d k (ap length x.ensures ∙ ap length (body_there s a.rec p a.place.left a.place.at c.requires.rec_value c.requires.sought c.requires.path_value_2 m k l))) i.result i.new.table i.new.work
     (record { answer = i.ensures.by_index m k l; bytes = i.ensures.by_index_2 m k l; buffer = i.ensures.work_after })

@@ -34,7 +34,7 @@ returns-then-is_own c =
     λ l z.
     let e = own_there l s a.rec p (sym (own_read l s a.rec p f.result f.ensures.value g.result.entry g.ensures.result_value w.result w.ensures) ∙ c.if-is_own.true) in
     as_content a.rec.entry_size a.limit s a.work.now (table_in s a.rec) p a.mtime (e.content ++ d) (appended (shown_in l s a.rec p) d a.lent.now)
-    (ap (λ (x : Bytes). x ++ d) (sym (e.holds a.lent.now))) i.result i.new.0 i.new.1.0 (i.ensures e.mtime e.content e.is)
+    (ap (λ (x : Bytes). x ++ d) (sym (e.holds a.lent.now))) i.result i.new.table i.new.work (i.ensures e.mtime e.content e.is)
 
 pub insert_lent-requires : goal.insert_lent-requires
 insert_lent-requires c =
@@ -54,5 +54,5 @@ returns c =
     let n = a.lent.now in
     λ l z.
     as_content a.rec.entry_size a.limit s a.work.now (table_in s a.rec) p a.mtime (n ++ d) (appended (shown_in l s a.rec p) d n)
-    (ap (λ (x : Bytes). x ++ d) (sym (lent_content (shown_in l s a.rec p) n (sym (own_read l s a.rec p f.result f.ensures.value g.result.entry g.ensures.result_value w.result w.ensures) ∙ c.if-is_own.false) z))) i.result i.new.0 i.new.1.0
+    (ap (λ (x : Bytes). x ++ d) (sym (lent_content (shown_in l s a.rec p) n (sym (own_read l s a.rec p f.result f.ensures.value g.result.entry g.ensures.result_value w.result w.ensures) ∙ c.if-is_own.false) z))) i.result i.new.table i.new.work
     (record { answer = i.ensures.value; bytes = i.ensures.table_after; buffer = i.ensures.work_after })

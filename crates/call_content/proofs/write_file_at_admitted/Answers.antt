@@ -40,6 +40,6 @@ returns-in-Pass c =
     let v = shown_in a.listing.now s a.rec p in
     let e = own_there a.listing.now s a.rec p (inside_own a.listing.now a.table.now a.rec a.work.now a.path.now a.mtime a.limit c.requires.given c.requires.table_in_bounds j.result a.offset a.«data».now (j.ensures.result_value a.listing.now a.«data».now refl) u) in
     let x = as_content a.rec.entry_size a.limit s a.work.now (table_in s a.rec) p a.mtime (spliced a.offset d e.content) (spliced a.offset d (content_of v []))
-    (ap (spliced a.offset d) (sym (e.holds []))) i.result i.new.0 i.new.1.0
+    (ap (spliced a.offset d) (sym (e.holds []))) i.result i.new.table i.new.work
     (record { answer = i.ensures.by_index e.mtime e.content e.is; bytes = i.ensures.by_index_2 e.mtime e.content e.is; buffer = i.ensures.work_after }) in
-    inside_inserted a.listing.now a.table.now a.rec a.work.now a.path.now a.mtime a.limit c.requires.given c.requires.table_in_bounds j.result a.offset a.«data».now (j.ensures.result_value a.listing.now a.«data».now refl) u i.result i.new.0 i.new.1.0 x c.answered.result c.answered.ensures
+    inside_inserted a.listing.now a.table.now a.rec a.work.now a.path.now a.mtime a.limit c.requires.given c.requires.table_in_bounds j.result a.offset a.«data».now (j.ensures.result_value a.listing.now a.«data».now refl) u i.result i.new.table i.new.work x c.answered.result c.answered.ensures

@@ -18,7 +18,7 @@ returns-in-There c =
     let g = c.in-There.is in
     let z = c.zero_from in
     step_there a.listing.now a.table.now a.rec a.work.now a.path.now a.parents a.exist-ok a.mtime a.limit c.requires.given c.requires.table_in_bounds
-    j.result.step j.ensures.later_value g (j.ensures.path_value_2 g) z.new.0 z.ensures
+    j.result.step j.ensures.later_value g (j.ensures.path_value_2 g) z.new.t z.ensures
 
 pub insert_all-inserted-requires : goal.insert_all-inserted-requires
 insert_all-inserted-requires c =
@@ -34,5 +34,5 @@ returns-in-Make c =
     let x = c.insert_all-inserted in
     let y = c.answered in
     step_made a.listing.now a.table.now a.rec a.work.now a.path.now a.parents a.exist-ok a.mtime a.limit c.requires.given c.requires.table_in_bounds
-    j.result.step j.ensures.later_value g (prefixes a.path.now (ends_of j.result.dirs)) ((j.ensures.path_value g).1.table a.mtime) x.result x.ensures.value x.new.0
-    x.new.1.0 x.ensures.table_after x.ensures.work_after y.result y.ensures
+    j.result.step j.ensures.later_value g (prefixes a.path.now (ends_of j.result.dirs)) ((j.ensures.path_value g).1.table a.mtime) x.result x.ensures.value x.new.table
+    x.new.work x.ensures.table_after x.ensures.work_after y.result y.ensures

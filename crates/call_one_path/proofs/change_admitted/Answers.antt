@@ -27,4 +27,4 @@ returns-in-Pass c =
     let x = c.insert-inserted in
     let y = c.answered in
     call_inserted a.listing.now a.table.now a.rec a.work.now a.path.now a.change a.mtime a.«data».now a.limit c.requires.given c.requires.table_in_bounds j.result j.ensures.result_value c.requires.data_value k.result k.ensures
-    c.in-Pass.is x.result x.ensures.value x.new.0 x.new.1.0 x.ensures.table_after x.ensures.work_after y.result y.ensures
+    c.in-Pass.is x.result x.ensures.value x.new.table x.new.work x.ensures.table_after x.ensures.work_after y.result y.ensures

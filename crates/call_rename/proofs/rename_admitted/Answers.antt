@@ -18,7 +18,7 @@ returns-then-is_onto_itself c =
     let i = c.is_onto_itself in
     let z = c.zero_from in
     itself_meets a.listing.now a.table.now a.rec a.work.now a.source.now a.destination.now a.limit c.requires.given c.requires.table_in_bounds
-    j.result j.ensures g i.result i.ensures c.if-is_onto_itself.true z.new.0 z.ensures
+    j.result j.ensures g i.result i.ensures c.if-is_onto_itself.true z.new.t z.ensures
 
 pub rename_elsewhere-requires : goal.rename_elsewhere-requires
 rename_elsewhere-requires c =

@@ -89,5 +89,5 @@ returns-in-Done c =
     let m = c.last_checks-settled in
     let h = c.in-Done.is in
     let z = c.write_move in
-    settled_done l s a.rec w x y a.limit c.requires.given c.requires.table_in_bounds c.requires.destination_value c.requires.destination_value_2 j.result j.ensures g m.result m.ensures.result_value _ h (m.ensures.after_value _ h) z.new.0
-    z.new.1.0 z.ensures.table_after z.ensures.work_after
+    settled_done l s a.rec w x y a.limit c.requires.given c.requires.table_in_bounds c.requires.destination_value c.requires.destination_value_2 j.result j.ensures g m.result m.ensures.result_value _ h (m.ensures.after_value _ h) z.new.table
+    z.new.work z.ensures.table_after z.ensures.work_after

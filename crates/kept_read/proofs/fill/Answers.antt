@@ -6,5 +6,5 @@ use Rattle.kept_read.proofs.fill.Goals as goal
 pub returns : goal.returns
 returns c =
     let a = c.args in
-    filled_up a.table.now c.copy_in.new.0 c.zero_from.new.0 a.entries.now (search rules)
+    filled_up a.table.now c.copy_in.new.t c.zero_from.new.t a.entries.now (search rules)
     c.copy_in.ensures c.zero_from.ensures

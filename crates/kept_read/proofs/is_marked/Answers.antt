@@ -7,10 +7,6 @@ use Rattle.base_fields.proofs.Pieces.{bytes_of}
 use Rattle.kept_read.proofs.Frames.{headless, by_mark}
 use Rattle.kept_read.proofs.is_marked.Goals as goal
 
--- UNTURNED
-slice-aggregate-is-same : tie.Need-slice-aggregate-is-same
-slice-aggregate-is-same c = search rules
-
 pub returns-then-file-lt-HEAD : goal.returns-then-file-lt-HEAD
 returns-then-file-lt-HEAD c = headless c.args.file.now (search rules)
 

@@ -6,10 +6,6 @@ use Rattle.model.specs.Bytes.{bytes}
 use Rattle.base_fields.proofs.Writes.{two_writes}
 use Rattle.kept_write.proofs.put_head.Goals as goal
 
--- UNTURNED
-slice-aggregate-copy-in : tie.Need-slice-aggregate-copy-in
-slice-aggregate-copy-in c = search rules
-
 pub returns : goal.returns
 returns c =
     let a = c.args in

@@ -15,7 +15,7 @@ pub loop-here-init : goal.loop-here-init
 loop-here-init c =
     let a = c.args in
     let f = c.first_uncovered-here in
-    adding_begun a.part.now a.table.now a.source.now a.count f.new.0 f.result f.ensures.ready_at
+    adding_begun a.part.now a.table.now a.source.now a.count f.new.flags f.result f.ensures.ready_at
     f.ensures.left_le_count
 
 pub record_path-path-requires : goal.record_path-path-requires
@@ -44,7 +44,7 @@ overflow_add-sum c =
     let l = c.loop-here in
     let f = c.first_uncovered-here in
     let s =
-    adding_small a.part.now a.table.now a.source.now a.count f.new.0 f.result l.flags l.sum
+    adding_small a.part.now a.table.now a.source.now a.count f.new.flags f.result l.flags l.sum
     l.stops l.here l.invariant c.requires.part_below in
     let o = c.node_total-one.ensures.sum_bound in
     omega arith
@@ -65,11 +65,11 @@ loop-here-preserved c =
     let o = c.node_total-one in
     let n = c.node_at-found in
     let p = c.record_path-path in
-    adding_on a.part.now a.table.now a.source.now a.count f.new.0 f.result l.flags l.sum
+    adding_on a.part.now a.table.now a.source.now a.count f.new.flags f.result l.flags l.sum
     l.stops k l.invariant c.loop-here-test.true o.result o.ensures.sum_bound
     (o.ensures.sum_value (record_at a.part.now k.at).path (node_of (record_at a.part.now k.at)) n.ensures
     (ap length p.ensures))
-    v.new.0 v.result v.ensures.ready_at_2 v.ensures.left_lt_left v.ensures.ahead_at
+    v.new.flags v.result v.ensures.ready_at_2 v.ensures.left_lt_left v.ensures.ahead_at
 
 pub returns : goal.returns
 returns c =
@@ -77,11 +77,11 @@ returns c =
     let l = c.loop-here in
     let f = c.first_uncovered-here in
     let s =
-    adding_small a.part.now a.table.now a.source.now a.count f.new.0 f.result l.flags l.sum
+    adding_small a.part.now a.table.now a.source.now a.count f.new.flags f.result l.flags l.sum
     l.stops l.here l.invariant c.requires.part_below in
     let t = table_in a.table.now a.rec in
     let v =
-    adding_over a.part.now a.table.now a.source.now a.count f.new.0 f.result l.flags l.sum
+    adding_over a.part.now a.table.now a.source.now a.count f.new.flags f.result l.flags l.sum
     l.stops l.here l.invariant (search rules) t (tree_at a.part.now a.count 0) f.ensures.ahead_at
     (to_come t a.source.now a.part.now a.count 0) f.ensures.at_value in
     record { sum_value = v.0; stops_value = v.1; sum_bound = omega arith }

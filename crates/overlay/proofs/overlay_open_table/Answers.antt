@@ -21,5 +21,5 @@ returns c =
     let u = c.«open» in
     let s = c.store_and_pack in
     let it = open_settled a.entry_size a.table.now a.rec.now c.if-rec-ne-NUMBERS.false u.result u.ensures.0 u.ensures.1.0
-    s.result s.new.0 u.new.0 s.ensures.value s.ensures.rec_after u.ensures.1.1 in
+    s.result s.new.rec u.new.0 s.ensures.value s.ensures.rec_after u.ensures.1.1 in
     record { value = it.0; rec_after = it.1.0; table_after = it.1.1 }

@@ -29,7 +29,7 @@ returns-in-Listed c =
     let n = c.next_uncovered-next in
     let u =
     went_past_listed a.own.now a.part.now a.table.now a.source.now a.flags.now a.stream c.requires.streaming
-    a.head c.requires.next c.in-Listed.is n.new.0 n.result n.ensures.ready_at_2
+    a.head c.requires.next c.in-Listed.is n.new.flags n.result n.ensures.ready_at_2
     n.ensures.left_lt_left n.ensures.ahead_at in
     record { result_bound = u.fewer; streaming_2 = u.streaming; carrying = u.carrying }
 

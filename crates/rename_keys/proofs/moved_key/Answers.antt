@@ -9,4 +9,4 @@ returns c =
     let d = a.destination.now in
     let p = a.path.now in
     let x = c.compose in
-    record { len_bound = (moved_room d p a.from c.requires.1, x.ensures.t_len_unchanged); bytes_value = moved_front d p a.from x.new.0 x.ensures.t_after; len_value = moved_length d p a.from }
+    record { len_bound = (moved_room d p a.from c.requires.1, x.ensures.t_len_unchanged); bytes_value = moved_front d p a.from x.new.t x.ensures.t_after; len_value = moved_length d p a.from }

@@ -24,7 +24,7 @@ loop-place-init c =
     let f = c.first-stream in
     let g = c.first_entry-begin in
     let p = c.projected-top in
-    deleting_begun a.own.now a.part.now a.table.now a.source.now a.rec a.count a.records f.result f.new.0
+    deleting_begun a.own.now a.part.now a.table.now a.source.now a.rec a.count a.records f.result f.new.flags
     c.requires.rec_value c.requires.source_nonzero f.ensures.streaming f.ensures.result_bound f.ensures.carrying
     g.result p.result.place p.result.rec g.ensures.value p.ensures
 
@@ -71,7 +71,7 @@ loop-place-preserved c =
     let f = c.first-stream in
     deleting_on a.own.now a.part.now a.table.now a.source.now a.rec a.count a.records f.result l.flags
     l.place l.after l.stream l.invariant h.result h.ensures.next _ k.ensures p.result.place p.result.rec p.ensures
-    v.new.0 v.result v.ensures.streaming_2 v.ensures.result_bound v.ensures.carrying
+    v.new.flags v.result v.ensures.streaming_2 v.ensures.result_bound v.ensures.carrying
 
 pub returns : goal.returns
 returns c =

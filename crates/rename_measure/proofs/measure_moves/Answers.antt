@@ -28,7 +28,7 @@ loop-stream-init c =
     let p = c.requires.destination_nonzero in
     λ v l.
     moving_begun a.own.now a.part.now a.table.now a.source.now a.destination.now v a.rec a.count a.records
-    f.result f.new.0
+    f.result f.new.flags
     c.requires.rec_value (p.0, p.1) f.ensures.streaming f.ensures.result_bound f.ensures.carrying a.first-len p.2 l t.result t.ensures.measured
     t.ensures.extra_value
 
@@ -78,7 +78,7 @@ loop-stream-preserved c =
     λ v n.
     moving_on a.own.now a.part.now a.table.now a.source.now a.destination.now v a.rec a.count a.records f.result
     l.flags l.tally l.stream (l.invariant v n) h.result h.ensures.next t.result t.ensures
-    y.new.0 y.result y.ensures.streaming_2 y.ensures.result_bound y.ensures.carrying c.requires.destination_nonzero.1 (size_small a.table.now a.rec
+    y.new.flags y.result y.ensures.streaming_2 y.ensures.result_bound y.ensures.carrying c.requires.destination_nonzero.1 (size_small a.table.now a.rec
     c.requires.rec_value)
 
 pub returns : goal.returns

@@ -35,7 +35,7 @@ returns-then-cover c =
     seek_found a.part.now a.table.now a.source.now a.flags.now a.records.left a.records.at a.entries.left a.entries.at
     l.flags l.here.left l.here.at l.place.left l.place.at l.invariant
     c.loop-here-test.true p.result.now p.ensures g.result.entry g.ensures.result_value
-    g.result.place.left g.result.place.at g.ensures.sought y.result y.ensures v.new.0 v.ensures.flags_len v.result v.ensures.value c.if-cover.true in
+    g.result.place.left g.result.place.at g.ensures.sought y.result y.ensures v.new.flags v.ensures.flags_len v.result v.ensures.value c.if-cover.true in
     record { ready_at = q.ready; left_le_left = q.fewer; ahead_at = q.ahead }
 
 pub next_record-here-requires : goal.next_record-here-requires
@@ -60,7 +60,7 @@ loop-here-preserved c =
     seek_on a.part.now a.table.now a.source.now a.flags.now a.records.left a.records.at a.entries.left a.entries.at
     l.flags l.here.left l.here.at l.place.left l.place.at l.invariant
     c.loop-here-test.true p.result.now p.ensures g.result.entry g.ensures.result_value
-    g.result.place.left g.result.place.at g.ensures.sought y.result y.ensures v.new.0 v.ensures.flags_len v.result v.ensures.value c.if-cover.false n.result n.ensures.value
+    g.result.place.left g.result.place.at g.ensures.sought y.result y.ensures v.new.flags v.ensures.flags_len v.result v.ensures.value c.if-cover.false n.result n.ensures.value
 
 pub returns : goal.returns
 returns c =

@@ -27,7 +27,7 @@ put_lower_moves-requires c =
             top T L
                 a.source.now,
           ) ∷ [])
-              (turned (move a.source.now a.destination.now) (lower a.whole T L a.source.now)) p.new.0 p.result p.ensures
+              (turned (move a.source.now a.destination.now) (lower a.whole T L a.source.now)) p.new.work p.result p.ensures
               c.requires.fits }
 
 pub returns : goal.returns
@@ -38,5 +38,5 @@ returns c =
     let p = c.put_top-next in
     let q = c.put_lower_moves in
     both_put a.table.now a.work.now a.merge ((a.destination.now, top T L a.source.now) ∷ [])
-    (turned (move a.source.now a.destination.now) (lower a.whole T L a.source.now)) p.new.0 p.result p.ensures
-    q.new.0 q.result q.ensures
+    (turned (move a.source.now a.destination.now) (lower a.whole T L a.source.now)) p.new.work p.result p.ensures
+    q.new.work q.result q.ensures

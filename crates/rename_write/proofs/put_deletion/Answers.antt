@@ -22,5 +22,5 @@ returns c =
     let i = deletion (item_at a.own.now a.part.now a.stream a.head) in
     let k = c.item_key-key in
     let p = c.put_next in
-    put_of a.table.now a.work.now p.new.0 a.merge p.result i k.result.now deleted k.ensures refl
+    put_of a.table.now a.work.now p.new.work a.merge p.result i k.result.now deleted k.ensures refl
     p.ensures.merged p.ensures.work_len_unchanged p.ensures.at_value

@@ -15,7 +15,7 @@ pub loop-stream-init : goal.loop-stream-init
 loop-stream-init c =
     let a = c.args in
     let f = c.first-stream in
-    begin deletion a.table.now a.work.now a.own.now a.part.now a.source.now f.new.0 f.result a.merge f.ensures.streaming
+    begin deletion a.table.now a.work.now a.own.now a.part.now a.source.now f.new.flags f.result a.merge f.ensures.streaming
 
 pub head_at-head-requires : goal.head_at-head-requires
 head_at-head-requires c =
@@ -35,8 +35,8 @@ put_deletion-next-requires c =
     let h = c.head_at-head in
     let v = c.advance-after in
     let s = l.invariant.streaming in
-    record { standing = s.entries; standing_2 = s.listed.stand; next = h.ensures.next; stream_nonzero = c.has_next.ensures.0 c.loop-stream-test.true; room = room_at_first deletion a.table.now a.work.now a.own.now a.part.now a.source.now f.new.0 f.result a.merge
-                l.flags l.work l.next l.stream l.invariant v.new.0 v.result h.result v.ensures.carrying
+    record { standing = s.entries; standing_2 = s.listed.stand; next = h.ensures.next; stream_nonzero = c.has_next.ensures.0 c.loop-stream-test.true; room = room_at_first deletion a.table.now a.work.now a.own.now a.part.now a.source.now f.new.flags f.result a.merge
+                l.flags l.work l.next l.stream l.invariant v.new.flags v.result h.result v.ensures.carrying
                 (table_in a.table.now a.rec) a.records _ f.ensures.carrying f.ensures.result_value c.requires.puttable }
 
 pub loop-stream-smaller : goal.loop-stream-smaller
@@ -50,9 +50,9 @@ loop-stream-preserved c =
     let h = c.head_at-head in
     let v = c.advance-after in
     let p = c.put_deletion-next in
-    on deletion a.table.now a.work.now a.own.now a.part.now a.source.now f.new.0 f.result a.merge
-    l.flags l.work l.next l.stream l.invariant v.new.0 v.result h.result v.ensures.carrying
-    p.new.0 p.result v.ensures.streaming_2 p.ensures
+    on deletion a.table.now a.work.now a.own.now a.part.now a.source.now f.new.flags f.result a.merge
+    l.flags l.work l.next l.stream l.invariant v.new.flags v.result h.result v.ensures.carrying
+    p.new.work p.result v.ensures.streaming_2 p.ensures
 
 pub shape_of-work : goal.shape_of-work
 shape_of-work c = c.loop-stream.invariant.long
@@ -62,6 +62,6 @@ returns c =
     let a = c.args in
     let f = c.first-stream in
     let l = c.loop-stream in
-    over deletion a.table.now a.work.now a.own.now a.part.now a.source.now f.new.0 f.result a.merge
+    over deletion a.table.now a.work.now a.own.now a.part.now a.source.now f.new.flags f.result a.merge
     l.flags l.work l.next l.stream l.invariant (table_in a.table.now a.rec) a.records
     (c.has_next.ensures.1 c.loop-stream-test.false) _ f.ensures.carrying f.ensures.result_value

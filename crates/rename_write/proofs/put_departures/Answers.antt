@@ -24,7 +24,7 @@ put_lower_deletions-requires c =
     let L = tree_in a.listing.now in
     let p = c.put_source_deletion-next in
     record { rec_value = c.requires.rec_value; listing_value = c.requires.listing_value; fits = fits_second a.table.now a.work.now a.merge ((a.source.now, deleted) ∷ [])
-            (turned deletion (lower a.whole T L a.source.now)) p.new.0 p.result p.ensures c.requires.fits }
+            (turned deletion (lower a.whole T L a.source.now)) p.new.work p.result p.ensures c.requires.fits }
 
 pub returns : goal.returns
 returns c =
@@ -34,4 +34,4 @@ returns c =
     let p = c.put_source_deletion-next in
     let q = c.put_lower_deletions in
     both_put a.table.now a.work.now a.merge ((a.source.now, deleted) ∷ [])
-    (turned deletion (lower a.whole T L a.source.now)) p.new.0 p.result p.ensures q.new.0 q.result q.ensures
+    (turned deletion (lower a.whole T L a.source.now)) p.new.work p.result p.ensures q.new.work q.result q.ensures

@@ -22,7 +22,7 @@ put_departures-requires c =
     let L = tree_in a.listing.now in
     let p = c.put_arrivals-next in
     record { rec_value = c.requires.rec_value; listing_value = c.requires.listing_value; fits = fits_second a.table.now a.work.now a.merge (arrivals a.whole T L a.source.now a.destination.now)
-            (departures a.whole T L a.source.now) p.new.0 p.result p.ensures c.requires.fits }
+            (departures a.whole T L a.source.now) p.new.work p.result p.ensures c.requires.fits }
 
 pub returns : goal.returns
 returns c =
@@ -32,4 +32,4 @@ returns c =
     let p = c.put_arrivals-next in
     let q = c.put_departures in
     both_put a.table.now a.work.now a.merge (arrivals a.whole T L a.source.now a.destination.now)
-    (departures a.whole T L a.source.now) p.new.0 p.result p.ensures q.new.0 q.result q.ensures
+    (departures a.whole T L a.source.now) p.new.work p.result p.ensures q.new.work q.result q.ensures

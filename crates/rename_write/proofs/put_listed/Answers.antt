@@ -21,8 +21,8 @@ returns-in-Directory c =
     let y = told_entry a.listing.now a.source.now _ _ c.find-found.ensures
     c.in-Directory.is in
     let p = c.put_next in
-    one_done a.table.now a.work.now p.new.0 a.merge p.result a.destination.now _ _ y
-    (one_put a.table.now a.work.now p.new.0 a.merge p.result (a.destination.now, _)
+    one_done a.table.now a.work.now p.new.work a.merge p.result a.destination.now _ _ y
+    (one_put a.table.now a.work.now p.new.work a.merge p.result (a.destination.now, _)
     (record { merged = p.ensures.merged; long = p.ensures.work_len_unchanged; end = p.ensures.at_value }))
 
 pub put_next-requires-in-File : goal.put_next-requires-in-File
@@ -40,8 +40,8 @@ returns-in-File c =
     let y = told_entry a.listing.now a.source.now _ _ c.find-found.ensures
     c.in-File.is in
     let p = c.put_next-in-File in
-    one_done a.table.now a.work.now p.new.0 a.merge p.result a.destination.now _ _ y
-    (one_put a.table.now a.work.now p.new.0 a.merge p.result (a.destination.now, _)
+    one_done a.table.now a.work.now p.new.work a.merge p.result a.destination.now _ _ y
+    (one_put a.table.now a.work.now p.new.work a.merge p.result (a.destination.now, _)
     (record { merged = p.ensures.merged; long = p.ensures.work_len_unchanged; end = p.ensures.at_value }))
 
 pub put_source_deletion-requires : goal.put_source_deletion-requires
@@ -56,7 +56,7 @@ returns-in-Link c =
     let y = told_entry a.listing.now a.source.now _ _ c.find-found.ensures
     c.in-Link.is in
     let p = c.put_source_deletion in
-    one_done a.table.now a.work.now p.new.0 a.merge p.result a.destination.now _ _ y p.ensures
+    one_done a.table.now a.work.now p.new.work a.merge p.result a.destination.now _ _ y p.ensures
 
 pub put_source_deletion-requires-in-Absent : goal.put_source_deletion-requires-in-Absent
 put_source_deletion-requires-in-Absent c =
@@ -70,4 +70,4 @@ returns-in-Absent c =
     let y = told_entry a.listing.now a.source.now _ _ c.find-found.ensures
     c.in-Absent.is in
     let p = c.put_source_deletion-in-Absent in
-    one_done a.table.now a.work.now p.new.0 a.merge p.result a.destination.now _ _ y p.ensures
+    one_done a.table.now a.work.now p.new.work a.merge p.result a.destination.now _ _ y p.ensures

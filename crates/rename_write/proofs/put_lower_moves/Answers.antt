@@ -34,5 +34,5 @@ returns c =
     lower_put (move a.source.now a.destination.now) a.table.now a.work.now a.listing.now (table_in a.table.now a.rec)
     a.source.now
     l.result.from l.result.to l.result.count a.merge a.whole c.requires.listing_value l.ensures
-    (c.if-not-whole.false) p.new.1.0 p.result
+    (c.if-not-whole.false) p.new.work p.result
     p.ensures

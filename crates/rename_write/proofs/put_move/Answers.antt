@@ -43,7 +43,7 @@ returns c =
     let b = c.item_body-body in
     let p = c.put_next in
     let o = take k.result.len k.result.bytes in
-    put_of a.table.now a.work.now p.new.0 a.merge p.result (move a.source.now a.destination.now i) o
+    put_of a.table.now a.work.now p.new.work a.merge p.result (move a.source.now a.destination.now i) o
     (entry_of n.result.kind n.result.mtime n.result.size b.result.now)
     (key_bytes a.source.now a.destination.now q.result.now o i q.ensures k.ensures.bytes_value)
     (entry_of_lem i.1 n.result.kind n.result.mtime n.result.size b.result.now

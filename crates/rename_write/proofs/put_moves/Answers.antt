@@ -15,7 +15,7 @@ pub loop-stream-init : goal.loop-stream-init
 loop-stream-init c =
     let a = c.args in
     let f = c.first-stream in
-    begin (move a.source.now a.destination.now) a.table.now a.work.now a.own.now a.part.now a.source.now f.new.0
+    begin (move a.source.now a.destination.now) a.table.now a.work.now a.own.now a.part.now a.source.now f.new.flags
     f.result a.merge f.ensures.streaming
 
 pub head_at-head-requires : goal.head_at-head-requires
@@ -39,10 +39,10 @@ put_move-next-requires c =
     let fit = c.requires.puttable in
     let s = l.invariant.streaming in
     record { standing = s.entries; standing_2 = s.listed.stand; next = h.ensures.next; stream_nonzero = c.has_next.ensures.0 c.loop-stream-test.true; head_value = good_at_first (move a.source.now a.destination.now) a.table.now a.work.now a.own.now a.part.now a.source.now
-                  f.new.0 f.result a.merge l.flags l.work l.next l.stream l.invariant v.new.0 v.result h.result
+                  f.new.flags f.result a.merge l.flags l.work l.next l.stream l.invariant v.new.flags v.result h.result
                   v.ensures.carrying (table_in a.table.now a.rec) a.records _ f.ensures.carrying f.ensures.result_value
                   (movable a.source.now a.destination.now) all.l all.listed all.all; room = room_at_first (move a.source.now a.destination.now) a.table.now a.work.now a.own.now a.part.now a.source.now
-                  f.new.0 f.result a.merge l.flags l.work l.next l.stream l.invariant v.new.0 v.result h.result
+                  f.new.flags f.result a.merge l.flags l.work l.next l.stream l.invariant v.new.flags v.result h.result
                   v.ensures.carrying (table_in a.table.now a.rec) a.records _ f.ensures.carrying f.ensures.result_value fit }
 
 pub loop-stream-smaller : goal.loop-stream-smaller
@@ -56,10 +56,10 @@ loop-stream-preserved c =
     let h = c.head_at-head in
     let v = c.advance-after in
     let p = c.put_move-next in
-    on (move a.source.now a.destination.now) a.table.now a.work.now a.own.now a.part.now a.source.now f.new.0
+    on (move a.source.now a.destination.now) a.table.now a.work.now a.own.now a.part.now a.source.now f.new.flags
     f.result a.merge
-    l.flags l.work l.next l.stream l.invariant v.new.0 v.result h.result v.ensures.carrying
-    p.new.0 p.result v.ensures.streaming_2 p.ensures
+    l.flags l.work l.next l.stream l.invariant v.new.flags v.result h.result v.ensures.carrying
+    p.new.work p.result v.ensures.streaming_2 p.ensures
 
 pub shape_of-work : goal.shape_of-work
 shape_of-work c = c.loop-stream.invariant.long
@@ -69,7 +69,7 @@ returns c =
     let a = c.args in
     let f = c.first-stream in
     let l = c.loop-stream in
-    over (move a.source.now a.destination.now) a.table.now a.work.now a.own.now a.part.now a.source.now f.new.0
+    over (move a.source.now a.destination.now) a.table.now a.work.now a.own.now a.part.now a.source.now f.new.flags
     f.result a.merge
     l.flags l.work l.next l.stream l.invariant (table_in a.table.now a.rec) a.records
     (c.has_next.ensures.1 c.loop-stream-test.false) _ f.ensures.carrying f.ensures.result_value

@@ -45,7 +45,7 @@ returns-then-is_before_with c =
     (sym c.is_before.ensures ∙ c.if-is_before.true)
     (sym c.is_before_with.ensures ∙ c.if-is_before_with.true) in
     let p = c.put_destination_within in
-    put_as a.table.now a.work.now p.new.0 P (chosen (before f g) (before g (f ++ (47 ∷ []))) (before f (g ++ (47 ∷ []))) P
+    put_as a.table.now a.work.now p.new.work P (chosen (before f g) (before g (f ++ (47 ∷ []))) (before f (g ++ (47 ∷ []))) P
     (D ++ M) Q (M ++ D)) a.merge p.result y p.ensures
 
 pub put_source_first-requires : goal.put_source_first-requires
@@ -82,7 +82,7 @@ returns-then-is_before c =
     (sym c.is_before.ensures ∙ c.if-is_before.true)
     (sym c.is_before_with.ensures ∙ c.if-is_before_with.false) in
     let p = c.put_source_first in
-    put_as a.table.now a.work.now p.new.0 (D ++ M) (chosen (before f g) (before g (f ++ (47 ∷ []))) (before f (g ++
+    put_as a.table.now a.work.now p.new.work (D ++ M) (chosen (before f g) (before g (f ++ (47 ∷ []))) (before f (g ++
     (47 ∷ []))) P (D ++ M) Q (M ++ D)) a.merge p.result y p.ensures
 
 pub put_source_within-requires : goal.put_source_within-requires
@@ -119,7 +119,7 @@ returns-then-is_before_with-2 c =
     (sym c.is_before.ensures ∙ c.if-is_before.false)
     (sym c.is_before_with-2.ensures ∙ c.if-is_before_with-2.true) in
     let p = c.put_source_within in
-    put_as a.table.now a.work.now p.new.0 Q (chosen (before f g) (before g (f ++ (47 ∷ []))) (before f (g ++ (47 ∷ []))) P
+    put_as a.table.now a.work.now p.new.work Q (chosen (before f g) (before g (f ++ (47 ∷ []))) (before f (g ++ (47 ∷ []))) P
     (D ++ M) Q (M ++ D)) a.merge p.result y p.ensures
 
 pub put_destination_first-requires : goal.put_destination_first-requires
@@ -156,5 +156,5 @@ returns c =
     (sym c.is_before.ensures ∙ c.if-is_before.false)
     (sym c.is_before_with-2.ensures ∙ c.if-is_before_with-2.false) in
     let p = c.put_destination_first in
-    put_as a.table.now a.work.now p.new.0 (M ++ D) (chosen (before f g) (before g (f ++ (47 ∷ []))) (before f (g ++
+    put_as a.table.now a.work.now p.new.work (M ++ D) (chosen (before f g) (before g (f ++ (47 ∷ []))) (before f (g ++
     (47 ∷ []))) P (D ++ M) Q (M ++ D)) a.merge p.result y p.ensures

@@ -17,5 +17,5 @@ pub returns : goal.returns
 returns c =
     let a = c.args in
     let p = c.put_next in
-    one_put a.table.now a.work.now p.new.0 a.merge p.result (a.source.now, deleted)
+    one_put a.table.now a.work.now p.new.work a.merge p.result (a.source.now, deleted)
     (record { merged = p.ensures.merged; long = p.ensures.work_len_unchanged; end = p.ensures.at_value })

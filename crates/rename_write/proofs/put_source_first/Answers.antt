@@ -21,7 +21,7 @@ put_arrivals-requires c =
     let L = tree_in a.listing.now in
     let p = c.put_departures-next in
     record { rec_value = c.requires.rec_value; listing_value = c.requires.listing_value; source_value = c.requires.source_value; fits = fits_second a.table.now a.work.now a.merge (departures a.whole T L a.source.now)
-              (arrivals a.whole T L a.source.now a.destination.now) p.new.0 p.result p.ensures c.requires.fits }
+              (arrivals a.whole T L a.source.now a.destination.now) p.new.work p.result p.ensures c.requires.fits }
 
 pub returns : goal.returns
 returns c =
@@ -31,4 +31,4 @@ returns c =
     let p = c.put_departures-next in
     let q = c.put_arrivals in
     both_put a.table.now a.work.now a.merge (departures a.whole T L a.source.now)
-    (arrivals a.whole T L a.source.now a.destination.now) p.new.0 p.result p.ensures q.new.0 q.result q.ensures
+    (arrivals a.whole T L a.source.now a.destination.now) p.new.work p.result p.ensures q.new.work q.result q.ensures

@@ -23,8 +23,8 @@ returns c =
     let n = c.entry_fields-item in
     let b = c.entry_body-body in
     let p = c.put_next in
-    one_put a.table.now a.work.now p.new.0 a.merge p.result (a.destination.now, v)
-    (put_of a.table.now a.work.now p.new.0 a.merge p.result (a.destination.now, v) a.destination.now
+    one_put a.table.now a.work.now p.new.work a.merge p.result (a.destination.now, v)
+    (put_of a.table.now a.work.now p.new.work a.merge p.result (a.destination.now, v) a.destination.now
     (entry_of n.result.kind n.result.mtime n.result.size b.result.now) refl
     (entry_of_lem v n.result.kind n.result.mtime n.result.size b.result.now n.ensures.kind_value n.ensures.mtime_value n.ensures.size_value
     b.ensures)

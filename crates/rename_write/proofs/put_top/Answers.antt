@@ -32,7 +32,7 @@ returns-then-is_absent c =
     let t = lookup (entries_at a.table.now f.result.left f.result.at) a.source.now in
     let y = top_listed a.table.now a.rec f.result a.source.now z.result f.ensures.value
     (z.ensures a.table.now t g.ensures.result_value) n c.if-is_absent.true in
-    one_done a.table.now a.work.now p.new.0 a.merge p.result a.destination.now (top_of none n)
+    one_done a.table.now a.work.now p.new.work a.merge p.result a.destination.now (top_of none n)
     (top (table_in a.table.now a.rec) (tree_in a.listing.now) a.source.now) y p.ensures
 
 pub put_stored-requires : goal.put_stored-requires
@@ -62,6 +62,6 @@ returns c =
     let y = top_stored a.table.now a.rec f.result a.source.now z.result f.ensures.value
     (z.ensures a.table.now t g.ensures.result_value) n c.if-is_absent.false f.ensures.standing g.result.place.left
     g.result.place.at g.ensures.sought in
-    one_done a.table.now a.work.now p.new.0 a.merge p.result a.destination.now
+    one_done a.table.now a.work.now p.new.work a.merge p.result a.destination.now
     (entry_at a.table.now g.result.place.at) (top (table_in a.table.now a.rec) (tree_in a.listing.now) a.source.now)
     y.1 p.ensures

@@ -23,14 +23,14 @@ finish-requires c =
     let xs = ordered a.whole (table_in a.table.now a.rec) (tree_in a.listing.now) a.source.now a.destination.now in
     let p = c.requires in
     let q = c.put_ordered-end in
-    let it = done_fits a.table.now a.work.now a.rec xs p.rec_value p.destination_value q.new.0 q.result q.ensures p.rec_in_bounds
+    let it = done_fits a.table.now a.work.now a.rec xs p.rec_value p.destination_value q.new.work q.result q.ensures p.rec_in_bounds
     p.table_in_bounds in
     record { at_le_used = it.0; at_in_bounds = it.1 }
 
 pub shape_of-work : goal.shape_of-work
 shape_of-work c =
     let q = c.put_ordered-end in
-    ap length c.finish.ensures.work_after ∙ length-replicate (length q.new.0) 0 ∙ q.ensures.long
+    ap length c.finish.ensures.work_after ∙ length-replicate (length q.new.work) 0 ∙ q.ensures.long
 
 pub returns : goal.returns
 returns c =
@@ -39,4 +39,4 @@ returns c =
     let p = c.requires in
     let q = c.put_ordered-end in
     let f = c.finish in
-    record { table_after = done_over a.table.now a.work.now a.rec xs p.rec_value p.destination_value q.new.0 q.result q.ensures f.new.0 f.ensures.table_after; work_after = zeros_as_long a.work.now q.new.0 f.new.1.0 f.ensures.work_after q.ensures.long }
+    record { table_after = done_over a.table.now a.work.now a.rec xs p.rec_value p.destination_value q.new.work q.result q.ensures f.new.table f.ensures.table_after; work_after = zeros_as_long a.work.now q.new.work f.new.work f.ensures.work_after q.ensures.long }

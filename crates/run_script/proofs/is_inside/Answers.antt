@@ -13,5 +13,5 @@ pub returns : goal.returns
 returns c =
     let a = c.args in
     let h = c.step_head in
-    let e = c.end_of_lem in
+    let e = c.end_of in
     by_end a.two a.script.now a.at h.result h.ensures.0 (search rules) e.result e.ensures

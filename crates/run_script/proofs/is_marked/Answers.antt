@@ -6,10 +6,6 @@ use lib.Seq.{length-take-le}
 use Rattle.run_script.proofs.Steps.{too_short, by_mark}
 use Rattle.run_script.proofs.is_marked.Goals as goal
 
--- UNTURNED
-slice-aggregate-is-same : tie.Need-slice-aggregate-is-same
-slice-aggregate-is-same c = search rules
-
 pub returns-then-script-lt-SCRIPT_HEAD : goal.returns-then-script-lt-SCRIPT_HEAD
 returns-then-script-lt-SCRIPT_HEAD c = too_short c.args.script.now (search rules)
 

@@ -6,10 +6,6 @@ use lib.Seq.{length-take-le}
 use Rattle.run_script.proofs.Steps.{is_two_is}
 use Rattle.run_script.proofs.is_two.Goals as goal
 
--- UNTURNED
-slice-aggregate-is-same : tie.Need-slice-aggregate-is-same
-slice-aggregate-is-same c = search rules
-
 pub slice_bounds-mark-end : goal.slice_bounds-mark-end
 slice_bounds-mark-end c = sym (length-take-le 4 c.args.script.now (omega arith))
 

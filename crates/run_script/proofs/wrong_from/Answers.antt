@@ -37,7 +37,7 @@ pub end_of-at-requires : goal.end_of-at-requires
 end_of-at-requires c = (step_inside c.loop-left.invariant.kept c.loop-left-test.true c.is_step.ensures (ap not c.if-not-is_step.false)).0
 
 pub loop-left-preserved : goal.loop-left-preserved
-loop-left-preserved c = told_on c.loop-left.invariant c.loop-left-test.true c.is_step.ensures (ap not c.if-not-is_step.false) c.end_of_lem.result c.end_of_lem.ensures
+loop-left-preserved c = told_on c.loop-left.invariant c.loop-left-test.true c.is_step.ensures (ap not c.if-not-is_step.false) c.end_of-at.result c.end_of-at.ensures
 
 pub returns : goal.returns
 returns c =

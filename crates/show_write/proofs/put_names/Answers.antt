@@ -34,7 +34,7 @@ loop-merge-preserved c =
     let r = c.advance-next in
     let w = c.put_name-at in
     put_on a.output.now a.own.now a.part.now a.dir.now a.first c.requires.first_in_bounds l.merge l.output l.at l.invariant h.result r.result r.ensures.merge_value r.ensures.merging_2
-    w.new.0 w.ensures.output_after w.result w.ensures.value
+    w.new.output w.ensures.output_after w.result w.ensures.value
 
 pub zero_from-requires : goal.zero_from-requires
 zero_from-requires c =
@@ -54,4 +54,4 @@ returns c =
     let a = c.args in
     let l = c.loop-merge in
     put_ended a.output.now a.own.now a.part.now a.dir.now a.first c.requires.first_in_bounds l.merge l.output l.at l.invariant (c.has_next.ensures.1 c.loop-merge-test.false)
-    c.zero_from.new.0 c.zero_from.ensures
+    c.zero_from.new.t c.zero_from.ensures

@@ -28,8 +28,8 @@ returns-in-Done c =
     let j = c.judge-answer in
     let d = c.enum_told-1.given in
     let u = c.insert_all_unchecked in
-    let t = if_done_lem j.result _ u.new.0 (padded (length s) (encode new)) s d.1 u.ensures.table_after in
-    let w = if_done_lem j.result _ u.new.1.0 (replicate (length a.work.now) 0) a.work.now d.1 u.ensures.work_after in
+    let t = if_done_lem j.result _ u.new.table (padded (length s) (encode new)) s d.1 u.ensures.table_after in
+    let w = if_done_lem j.result _ u.new.work (replicate (length a.work.now) 0) a.work.now d.1 u.ensures.work_after in
     record { value = answered a.rec.entry_size a.limit (length s) new x.result j.result (x.ensures a.mtime) j.ensures; table_after = t; work_after = w }
 
 pub returns-in-MemoryUsageLimitExceeded : goal.returns-in-MemoryUsageLimitExceeded

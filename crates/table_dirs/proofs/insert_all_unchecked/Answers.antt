@@ -49,7 +49,7 @@ loop-i-preserved c =
     let n = ends_on a.dirs.ends a.dirs.count l.i c.loop-i-test.true (omega (arith, x, h.0)) in
     let es = take a.dirs.count a.dirs.ends in
     merging_on a.mtime a.table.now a.work.now a.path.now es a.rec l.i l.work l.merge l.invariant
-    (get_or a.dirs.ends l.i 0) p.new.0 p.result n p.ensures.merged p.ensures.work_len_unchanged p.ensures.at_value
+    (get_or a.dirs.ends l.i 0) p.new.work p.result n p.ensures.merged p.ensures.work_len_unchanged p.ensures.at_value
 
 pub finish-requires : goal.finish-requires
 finish-requires c =
@@ -76,4 +76,4 @@ returns c =
     let h = c.requires.count_bound in
     let n = ends_over a.dirs.ends a.dirs.count l.i (search rules) (omega (arith, x, h.0)) in
     let es = take a.dirs.count a.dirs.ends in
-    record { table_after = merging_over a.mtime a.table.now a.work.now a.path.now es a.rec l.i l.work l.merge l.invariant c.requires.rec_value n f.new.0 f.ensures.table_after; work_after = merging_zeros a.mtime a.table.now a.work.now a.path.now es a.rec l.i l.work l.merge l.invariant f.new.1.0 f.ensures.work_after }
+    record { table_after = merging_over a.mtime a.table.now a.work.now a.path.now es a.rec l.i l.work l.merge l.invariant c.requires.rec_value n f.new.table f.ensures.table_after; work_after = merging_zeros a.mtime a.table.now a.work.now a.path.now es a.rec l.i l.work l.merge l.invariant f.new.work f.ensures.work_after }

@@ -25,7 +25,7 @@ finish-requires c =
     let t = table_in s a.rec in
     let new = put a.key.now (entry_of a.kind a.mtime a.size a.body.now) t in
     let m = p.ensures.merged t [] (merge_begun s a.work.now a.rec c.requires.rec_value) c.requires.key_value.0 in
-    let f = rest_fits s p.new.0 a.rec new a.key.now p.result.left p.result.at p.result.out c.requires.rec_value m p.ensures.at_value c.requires.rec_in_bounds in
+    let f = rest_fits s p.new.work a.rec new a.key.now p.result.left p.result.at p.result.out c.requires.rec_value m p.ensures.at_value c.requires.rec_in_bounds in
     let l = p.ensures.work_len_unchanged in
     let g = c.requires.key_value.2 in
     record { at_le_used = f.0; at_in_bounds = (f.1, omega arith) }
@@ -40,4 +40,4 @@ returns c =
     let new = put a.key.now (entry_of a.kind a.mtime a.size a.body.now) t in
     let m = p.ensures.merged t [] (merge_begun s a.work.now a.rec c.requires.rec_value) c.requires.key_value.0 in
     let e = same_used s a.rec p.result.left p.result.at c.requires.rec_value p.ensures.at_value in
-    record { table_after = f.ensures.table_after new a.key.now m e; work_after = zeros_as_long a.work.now p.new.0 _ f.ensures.work_after p.ensures.work_len_unchanged }
+    record { table_after = f.ensures.table_after new a.key.now m e; work_after = zeros_as_long a.work.now p.new.work _ f.ensures.work_after p.ensures.work_len_unchanged }

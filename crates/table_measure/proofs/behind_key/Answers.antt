@@ -11,13 +11,13 @@ use Rattle.table_measure.proofs.behind_key.Goals as goal
 pub next_entry-requires : goal.next_entry-requires
 next_entry-requires c =
     let a = c.args in
-    let b = c.has_key_lem in
+    let b = c.has_key in
     record { standing = c.requires; left_nonzero = some_left a.table.now a.key.now a.place.left a.place.at b.result b.ensures c.if-has_key.true }
 
 pub returns-then-has_key : goal.returns-then-has_key
 returns-then-has_key c =
     let a = c.args in
-    let b = c.has_key_lem in
+    let b = c.has_key in
     let n = c.next_entry in
     let h = some_left a.table.now a.key.now a.place.left a.place.at b.result b.ensures c.if-has_key.true in
     record { standing = n.ensures.standing_2; at_value = ap (λ (p : Place). entries_at a.table.now p.left p.at) n.ensures.value
@@ -27,6 +27,6 @@ returns-then-has_key c =
 pub returns : goal.returns
 returns c =
     let a = c.args in
-    let b = c.has_key_lem in
+    let b = c.has_key in
     let t = entries_at a.table.now a.place.left a.place.at in
     record { standing = c.requires; at_value = stayed a.key.now t b.result b.ensures c.if-has_key.false; at_value_2 = refl }

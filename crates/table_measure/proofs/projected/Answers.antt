@@ -8,7 +8,7 @@ pub le32-old-requires : goal.le32-old-requires
 le32-old-requires c =
     let a = c.args in
     let q = c.seek-found in
-    let b = c.has_key_lem in
+    let b = c.has_key in
     let h = some_left a.table.now a.key.now q.result.left q.result.at b.result b.ensures c.if-has_key.true in
     let f = head_fits a.table.now a.key.now a.place.left a.place.at q.result.left q.result.at a.rec c.requires.counts q.ensures h in
     omega (arith, f.0)
@@ -17,14 +17,14 @@ pub next_entry-next-requires : goal.next_entry-next-requires
 next_entry-next-requires c =
     let a = c.args in
     let q = c.seek-found in
-    let b = c.has_key_lem in
+    let b = c.has_key in
     record { standing = q.ensures.stand; left_nonzero = some_left a.table.now a.key.now q.result.left q.result.at b.result b.ensures c.if-has_key.true }
 
 pub with_body-after-requires : goal.with_body-after-requires
 with_body-after-requires c =
     let a = c.args in
     let q = c.seek-found in
-    let b = c.has_key_lem in
+    let b = c.has_key in
     let o = c.le32-old in
     let h = some_left a.table.now a.key.now q.result.left q.result.at b.result b.ensures c.if-has_key.true in
     record { used_bound = (c.requires.counts.used_small, c.requires.counts.charge_small, c.requires.key_len_bound.1); le_used = old_fits a.table.now a.key.now a.place.left a.place.at q.result.left q.result.at a.rec c.requires.counts q.ensures h o.result o.ensures.0 }
@@ -33,7 +33,7 @@ pub returns-then-has_key : goal.returns-then-has_key
 returns-then-has_key c =
     let a = c.args in
     let q = c.seek-found in
-    let b = c.has_key_lem in
+    let b = c.has_key in
     let o = c.le32-old in
     let n = c.next_entry-next in
     let w = c.with_body-after in
@@ -45,7 +45,7 @@ pub returns : goal.returns
 returns c =
     let a = c.args in
     let q = c.seek-found in
-    let b = c.has_key_lem in
+    let b = c.has_key in
     let w = c.with_entry-after in
     λ t k v m up l.
     put_fresh a.table.now t k a.key.now v a.place.left a.place.at q.result.left q.result.at a.rec.entry_size a.len a.rec m up l

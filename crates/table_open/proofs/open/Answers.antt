@@ -14,5 +14,5 @@ returns-then-not-is_sized c =
 pub returns : goal.returns
 returns c =
     let a = c.args in
-    let it = now_open a.entry_size a.buffer.now c.is_sized.ensures (ap not c.if-not-is_sized.false) c.zero_from.new.0 c.zero_from.ensures in
+    let it = now_open a.entry_size a.buffer.now c.is_sized.ensures (ap not c.if-not-is_sized.false) c.zero_from.new.t c.zero_from.ensures in
     record { answer_value = it.0; record_value = it.1.0; buffer_after = it.1.1 }

@@ -7,23 +7,23 @@ use Rattle.table_remove.proofs.record_without.Goals as goal
 pub le32-body_len-requires : goal.le32-body_len-requires
 le32-body_len-requires c =
     let a = c.args in
-    let f = head_fits a.table.now a.rec a.key.now a.place.left a.place.at c.requires.rec_value c.requires.sought c.has_key_lem.result c.has_key_lem.ensures c.if-has_key.true in
+    let f = head_fits a.table.now a.rec a.key.now a.place.left a.place.at c.requires.rec_value c.requires.sought c.has_key.result c.has_key.ensures c.if-has_key.true in
     omega (arith, f)
 
 pub without-requires : goal.without-requires
 without-requires c =
     let a = c.args in
-    let it = in_record a.table.now a.rec a.key.now a.place.left a.place.at c.requires.rec_value c.requires.sought c.has_key_lem.result c.has_key_lem.ensures
+    let it = in_record a.table.now a.rec a.key.now a.place.left a.place.at c.requires.rec_value c.requires.sought c.has_key.result c.has_key.ensures
     c.if-has_key.true c.le32-body_len.result c.le32-body_len.ensures.0 in
     record { entry_size_bound = it.0; body_len_bound = it.1 }
 
 pub returns-then-has_key : goal.returns-then-has_key
 returns-then-has_key c =
     let a = c.args in
-    taken_out a.table.now a.rec a.key.now a.place.left a.place.at c.requires.rec_value c.requires.sought c.has_key_lem.result c.has_key_lem.ensures
+    taken_out a.table.now a.rec a.key.now a.place.left a.place.at c.requires.rec_value c.requires.sought c.has_key.result c.has_key.ensures
     c.if-has_key.true c.le32-body_len.result c.le32-body_len.ensures.0 c.without.result c.without.ensures
 
 pub returns : goal.returns
 returns c =
     let a = c.args in
-    not_there a.table.now a.rec a.key.now a.place.left a.place.at c.requires.rec_value c.requires.sought c.has_key_lem.result c.has_key_lem.ensures c.if-has_key.false
+    not_there a.table.now a.rec a.key.now a.place.left a.place.at c.requires.rec_value c.requires.sought c.has_key.result c.has_key.ensures c.if-has_key.false

@@ -22,7 +22,7 @@ finish-requires c =
     let n = c.behind_key-next in
     let w = c.copy_in in
     let g = fits_back a.table.now a.rec a.key.now x.result f.result n.result c.requires.rec_value
-    x.ensures.value f.ensures n.ensures.standing n.ensures.at_value n.ensures.at_value_2 a.work.now w.new.0 c.requires.table_in_bounds w.ensures in
+    x.ensures.value f.ensures n.ensures.standing n.ensures.at_value n.ensures.at_value_2 a.work.now w.new.t c.requires.table_in_bounds w.ensures in
     let g0 = g.0 in
     let g1 = g.1 in
     let g2 = g.2 in
@@ -41,7 +41,7 @@ returns c =
     let o = c.record_without-after in
     let e = c.finish in
     let m = merged a.table.now a.rec a.key.now x.result f.result n.result c.requires.rec_value
-    x.ensures.value f.ensures n.ensures.standing n.ensures.at_value n.ensures.at_value_2 a.work.now w.new.0 c.requires.table_in_bounds w.ensures in
+    x.ensures.value f.ensures n.ensures.standing n.ensures.at_value n.ensures.at_value_2 a.work.now w.new.t c.requires.table_in_bounds w.ensures in
     let u = used_is a.table.now a.rec a.key.now x.result f.result n.result c.requires.rec_value
     x.ensures.value f.ensures n.ensures.standing n.ensures.at_value n.ensures.at_value_2 in
-    record { value = o.ensures; table_after = e.ensures.table_after (del a.key.now (table_in a.table.now a.rec)) a.key.now m u; work_after = zeros_as_long a.work.now w.new.0 _ e.ensures.work_after w.auto.0 }
+    record { value = o.ensures; table_after = e.ensures.table_after (del a.key.now (table_in a.table.now a.rec)) a.key.now m u; work_after = zeros_as_long a.work.now w.new.t _ e.ensures.work_after w.auto.0 }

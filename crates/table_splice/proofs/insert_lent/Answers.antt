@@ -30,7 +30,7 @@ returns c =
     let g = c.settle in
     let w = c.write_spliced-splice in
     let a = c.args in
-    let b = subst (λ (z : Bytes). Begun a.table.now a.rec a.limit a.key.now (own a.mtime z) a.work.now w.new.0 w.result)
+    let b = subst (λ (z : Bytes). Begun a.table.now a.rec a.limit a.key.now (own a.mtime z) a.work.now w.new.work w.result)
     (spliced_end a.«data».now a.lent.now) w.ensures in
     let y = g.ensures a.limit a.key.now _ a.work.now b in
     record { value = y.0; table_after = y.1; work_after = y.2 }

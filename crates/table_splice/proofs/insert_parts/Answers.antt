@@ -34,6 +34,6 @@ returns c =
     let s = a.table.now in
     let k = a.key.now in
     let body = body_there s a.rec k a.place.left a.place.at p.rec_value p.sought p.key_value_2 in
-    let with = other_content s a.rec a.limit k w.result a.work.now w.new.0 a.«data».now a.mtime a.offset (body_of (entry_at s a.place.at)) in
+    let with = other_content s a.rec a.limit k w.result a.work.now w.new.work a.«data».now a.mtime a.offset (body_of (entry_at s a.place.at)) in
     let left = g.ensures a.limit k in
     record { by_index = λ m b l. (left _ a.work.now (with b (body m b l) w.ensures)).0; by_index_2 = λ m b l. (left _ a.work.now (with b (body m b l) w.ensures)).1; work_after = (left _ a.work.now w.ensures).2 }
