@@ -16,7 +16,7 @@ store_and_pack-requires c =
     let q = requested (write_inside a.path.now a.mtime a.offset a.«data».now) a.limit a.work.now in
     let r = c.record_in-before in
     let u = c.write_file_at-answered in
-    record { rec_len = c.if-rec-ne-NUMBERS.false; fits = call_fits a.listing.now q a.table.now a.rec.now c.if-rec-ne-NUMBERS.false r.result r.ensures u.result u.new.work u.new.1.1.1.0 u.ensures }
+    record { rec_len = c.if-rec-ne-NUMBERS.false; fits = call_fits a.listing.now q a.table.now a.rec.now c.if-rec-ne-NUMBERS.false r.result r.ensures u.result u.new.table u.new.work u.ensures }
 
 pub returns : goal.returns
 returns c =
@@ -25,5 +25,5 @@ returns c =
     let r = c.record_in-before in
     let u = c.write_file_at-answered in
     let s = c.store_and_pack in
-    call_settled a.listing.now q a.table.now a.rec.now c.if-rec-ne-NUMBERS.false r.result r.ensures u.result u.new.work u.new.1.1.1.0 u.ensures
+    call_settled a.listing.now q a.table.now a.rec.now c.if-rec-ne-NUMBERS.false r.result r.ensures u.result u.new.table u.new.work u.ensures
     s.result s.new.rec s.ensures.value s.ensures.rec_after
