@@ -6,7 +6,7 @@ fn main() {
     let folder = env::var_os("OVERLAY_LIB").map_or_else(|| here.join("../../target/staticlib"), PathBuf::from);
     let library = folder.join("liboverlay.a");
     if !library.is_file() {
-        println!("cargo::error={} is not there: `rt staticlib overlay` writes it", library.display());
+        println!("cargo::error={} is not there: `sh tools/library` writes it", library.display());
     }
     println!("cargo::rerun-if-env-changed=OVERLAY_LIB");
     println!("cargo::rerun-if-changed={}", library.display());
