@@ -2,9 +2,11 @@
 // `test_cases`. What each must print is worked out by hand and stands in the program's stdout; items of one function
 // share listings and buffers where they can.
 use crate::scenes;
+use std::io;
 
-fn queries() {
+fn queries(rt: &impl Print) -> io::Result<()> {
     scenes::over_l(
+        rt,
         1024,
         1024,
         40,
@@ -30,11 +32,12 @@ fn queries() {
         exists  - L - ----- z/n|\
         exists  - L - ----- l/n|\
         exists  - L - ----- a/|",
-    );
+    )
 }
 
-fn writes() {
+fn writes(rt: &impl Print) -> io::Result<()> {
     scenes::over_l(
+        rt,
         1024,
         1024,
         40,
@@ -54,11 +57,12 @@ fn writes() {
         unlink  - L - ----- q|\
         write   3 L - ----- q|\
         is_file - L - ----- q|",
-    );
+    )
 }
 
-fn writes_refused() {
+fn writes_refused(rt: &impl Print) -> io::Result<()> {
     scenes::over_l(
+        rt,
         1024,
         1024,
         40,
@@ -88,12 +92,13 @@ fn writes_refused() {
         write   0 L - ----- z|\
         write  16 L - 00611 a/f|\
         write  16 L - 00612 a/f|",
-    );
+    )
 }
 
 // #107: a body is charged rounded up to a multiple of 16.
-fn bodies() {
+fn bodies(rt: &impl Print) -> io::Result<()> {
     scenes::over_l(
+        rt,
         1024,
         1024,
         40,
@@ -116,8 +121,9 @@ fn bodies() {
         write   1 L - 00628 n|\
         unlink  - L - 00611 n|\
         unlink  - L - 00612 n|",
-    );
+    )?;
     scenes::over_l(
+        rt,
         41,
         41,
         40,
@@ -126,11 +132,12 @@ fn bodies() {
         write  16 L - ----- n|\
         write  17 L - 00328 n|\
         write  17 L - 00329 n|",
-    );
+    )
 }
 
-fn mkdirs() {
+fn mkdirs(rt: &impl Print) -> io::Result<()> {
     scenes::over_l(
+        rt,
         1024,
         1024,
         40,
@@ -157,11 +164,12 @@ fn mkdirs() {
         mkdir   p L - ----- |\
         mkdir   e L - ----- |\
         mkdir   b L - 00000 |",
-    );
+    )
 }
 
-fn mkdirs_made() {
+fn mkdirs_made(rt: &impl Print) -> io::Result<()> {
     scenes::over_l(
+        rt,
         1024,
         1024,
         40,
@@ -182,11 +190,12 @@ fn mkdirs_made() {
         is_dir  - L - ----- b/f|\
         mkdir   p L - ----- b/f|\
         mkdir   b L - ----- b/f|",
-    );
+    )
 }
 
-fn mkdirs_with_parents() {
+fn mkdirs_with_parents(rt: &impl Print) -> io::Result<()> {
     scenes::over_l(
+        rt,
         1024,
         1024,
         40,
@@ -202,11 +211,12 @@ fn mkdirs_with_parents() {
         mkdir   p L - ----- b/c|\
         mkdir   e L - ----- b|\
         mkdir   - L - ----- b/c|",
-    );
+    )
 }
 
-fn mkdirs_over_deleted() {
+fn mkdirs_over_deleted(rt: &impl Print) -> io::Result<()> {
     scenes::over_l(
+        rt,
         1024,
         1024,
         40,
@@ -222,11 +232,12 @@ fn mkdirs_over_deleted() {
         mkdir   p L - ----- a/n|\
         exists  - L - ----- a|\
         exists  - L - ----- a/f|",
-    );
+    )
 }
 
-fn unlinks() {
+fn unlinks(rt: &impl Print) -> io::Result<()> {
     scenes::over_l(
+        rt,
         1024,
         1024,
         40,
@@ -258,11 +269,12 @@ fn unlinks() {
         write   2 L - ----- a/f|\
         unlink  - L - ----- a/f|\
         unlink  - L - ----- a/f|",
-    );
+    )
 }
 
-fn rmdirs() {
+fn rmdirs(rt: &impl Print) -> io::Result<()> {
     scenes::over_l(
+        rt,
         1024,
         1024,
         40,
@@ -295,11 +307,12 @@ fn rmdirs() {
         rmdir   - L - ----- b|\
         unlink  - L - ----- b/f|\
         rmdir   - L - ----- b|",
-    );
+    )
 }
 
-fn children() {
+fn children(rt: &impl Print) -> io::Result<()> {
     test_cases::run(
+        rt,
         b"RDL\x01\x00\x02\x00\x00\x00\x01\x00\x01\x00\x00\x00\x00\x00\x00\xF0?\x00\x00\x00\x00\x00\x00\x00\x00a\x03\
         \x00\x03\x00\x00\x00\x00\x00\x00\x00\x00\x00\x00\x00\x00\x00\x00\x00\x00a/l",
         b"RDL\x01\x00\x00\x00\x00\x00",
@@ -309,8 +322,9 @@ fn children() {
         b"# a link counts as a child; L is a/ a/l@|\
         rmdir   - L - ----- a|\
         unlink  - L - ----- a/l|",
-    );
+    )?;
     test_cases::run(
+        rt,
         b"RDL\x01\x00\x03\x00\x00\x00\x01\x00\x01\x00\x00\x00\x00\x00\x00\xF0?\x00\x00\x00\x00\x00\x00\x00\x00a\x03\
         \x00\x02\x00\x00\x00\x00\x00\x00\x00\x00\x00\x00\x00\x00\x00\x00\x00\x00a-b\x02\x00\x02\x00\x00\x00\x00\x00\
         \x00\x00\x00\x00\x00\x00\x00\x00\x00\x00\x00a0",
@@ -327,11 +341,12 @@ fn children() {
         exists  - L - ----- a|\
         # the same with all of them listed only; L is a/ a-b a0|\
         rmdir   - L - ----- a|",
-    );
+    )
 }
 
-fn children_not_listed() {
+fn children_not_listed(rt: &impl Print) -> io::Result<()> {
     test_cases::run(
+        rt,
         b"RDL\x01\x00\x00\x00\x00\x00",
         b"RDL\x01\x00\x00\x00\x00\x00",
         1024,
@@ -348,11 +363,12 @@ fn children_not_listed() {
         write   0 L - ----- a/f|\
         write   1 L - ----- a-b|\
         +|",
-    );
+    )
 }
 
-fn deep_directory() {
+fn deep_directory(rt: &impl Print) -> io::Result<()> {
     test_cases::run(
+        rt,
         b"RDL\x01\x00\x03\x00\x00\x00\x01\x00\x01\x00\x00\x00\x00\x00\x00\xF0?\x00\x00\x00\x00\x00\x00\x00\x00a\x03\
         \x00\x01\x00\x00\x00\x00\x00\x00\xF0?\x00\x00\x00\x00\x00\x00\x00\x00a/b\x05\x00\x02\x00\x00\x00\x00\x00\x00\
         \x00\x00\x00\x00\x00\x00\x00\x00\x00\x00a/b/c",
@@ -367,11 +383,12 @@ fn deep_directory() {
         rmdir   - L - ----- a|\
         rmdir   - L - ----- a/b|\
         rmdir   - L - ----- a|",
-    );
+    )
 }
 
-fn other_listings() {
+fn other_listings(rt: &impl Print) -> io::Result<()> {
     test_cases::run(
+        rt,
         b"RDL\x01\x00\x01\x00\x00\x00\x01\x00\x01\x00\x00\x00\x00\x00\x00\xF0?\x00\x00\x00\x00\x00\x00\x00\x00a",
         b"RDL\x01\x00\x02\x00\x00\x00\x01\x00\x01\x00\x00\x00\x00\x00\x00\xF0?\x00\x00\x00\x00\x00\x00\x00\x00a\x03\
         \x00\x01\x00\x00\x00\x00\x00\x00\xF0?\x00\x00\x00\x00\x00\x00\x00\x00a/b",
@@ -381,8 +398,9 @@ fn other_listings() {
         b"# a table built over another listing; L is a/, M is a/ a/b/|\
         write   0 M - ----- a/b/c|\
         rmdir   - L - ----- a|",
-    );
+    )?;
     scenes::over_l(
+        rt,
         1024,
         1024,
         40,
@@ -393,11 +411,12 @@ fn other_listings() {
         mkdir   - M - ----- l|\
         write   0 L - ----- l/x|\
         is_dir  - L - ----- l|",
-    );
+    )
 }
 
-fn order_of_refusals() {
+fn order_of_refusals(rt: &impl Print) -> io::Result<()> {
     scenes::over_l(
+        rt,
         1024,
         1024,
         40,
@@ -423,11 +442,12 @@ fn order_of_refusals() {
         is_file - L - ----- a//f|\
         is_dir  - X - ----- a//f|\
         is_dir  - L - ----- a//f|",
-    );
+    )
 }
 
-fn malformed() {
+fn malformed(rt: &impl Print) -> io::Result<()> {
     scenes::over_l(
+        rt,
         1024,
         1024,
         40,
@@ -446,11 +466,12 @@ fn malformed() {
         mkdir   p L - ----- b//c|\
         unlink  - L - ----- z/|\
         rmdir   - L - ----- /|",
-    );
+    )
 }
 
-fn short_work() {
+fn short_work(rt: &impl Print) -> io::Result<()> {
     scenes::over_l(
+        rt,
         1024,
         1023,
         40,
@@ -463,8 +484,9 @@ fn short_work() {
         mkdir   e L - ----- a|\
         unlink  - L - ----- z|\
         rmdir   - L - ----- a|",
-    );
+    )?;
     scenes::over_l(
+        rt,
         1024,
         1024,
         40,
@@ -476,11 +498,12 @@ fn short_work() {
         is_dir  - L - ----- a|\
         !|\
         write   1 L - ----- z|",
-    );
+    )
 }
 
-fn rooms() {
+fn rooms(rt: &impl Print) -> io::Result<()> {
     scenes::over_l(
+        rt,
         29,
         29,
         40,
@@ -491,8 +514,9 @@ fn rooms() {
         write   3 L - 00315 a/f|\
         unlink  - L - ----- a/f|\
         unlink  - L - ----- z|",
-    );
+    )?;
     scenes::over_l(
+        rt,
         25,
         25,
         40,
@@ -502,8 +526,9 @@ fn rooms() {
         mkdir   - L - ----- b|\
         mkdir   - L - ----- z|\
         mkdir   e L - ----- a|",
-    );
+    )?;
     scenes::over_both(
+        rt,
         b"RDL\x01\x00\x01\x00\x00\x00\x01\x00\x01\x00\x00\x00\x00\x00\x00\xF0?\x00\x00\x00\x00\x00\x00\x00\x00a",
         24,
         24,
@@ -514,19 +539,21 @@ fn rooms() {
         mkdir   - L - ----- b|\
         write   0 L - ----- b|\
         rmdir   - M - ----- a|",
-    );
+    )
 }
 
-fn rooms_for_two() {
+fn rooms_for_two(rt: &impl Print) -> io::Result<()> {
     scenes::over_l(
+        rt,
         52,
         52,
         40,
         b"# table of 52 bytes|\
         mkdir   p L - ----- b/ff|\
         mkdir   p L - ----- b/f|",
-    );
+    )?;
     scenes::over_l(
+        rt,
         51,
         51,
         40,
@@ -534,19 +561,21 @@ fn rooms_for_two() {
         mkdir   p L - ----- b/f|\
         unlink  - L - ----- a/f|\
         rmdir   - L - ----- a|",
-    );
+    )?;
     scenes::over_l(
+        rt,
         52,
         60,
         40,
         b"# table of 52 bytes, work of 60|\
         unlink  - L - ----- a/f|\
         rmdir   - L - ----- a|",
-    );
+    )
 }
 
-fn room_again() {
+fn room_again(rt: &impl Print) -> io::Result<()> {
     scenes::over_l(
+        rt,
         60,
         60,
         40,
@@ -558,8 +587,9 @@ fn room_again() {
         write   8 L - ----- cc|\
         write   1 L - ----- b|\
         write   2 L - ----- b|",
-    );
+    )?;
     scenes::over_l(
+        rt,
         0,
         0,
         40,
@@ -567,53 +597,56 @@ fn room_again() {
         exists  - L - ----- a|\
         mkdir   e L - ----- a|\
         write   0 L - ----- q|",
-    );
+    )
 }
 
-fn entry_sizes() {
+fn entry_sizes(rt: &impl Print) -> io::Result<()> {
     scenes::over_l(
+        rt,
         100,
         100,
         0,
         b"# E 0|\
         write   2 L - ----- a/f|",
-    );
+    )?;
     scenes::over_l(
+        rt,
         100,
         100,
         4097,
         b"# E 4097|\
         write   2 L - ----- a/f|",
-    );
+    )?;
     scenes::over_l(
+        rt,
         100,
         100,
         4096,
         b"# E 4096|\
         write   2 L - ----- a/f|",
-    );
+    )
 }
 
-pub fn run() {
-    queries();
-    writes();
-    writes_refused();
-    bodies();
-    mkdirs();
-    mkdirs_made();
-    mkdirs_with_parents();
-    mkdirs_over_deleted();
-    unlinks();
-    rmdirs();
-    children();
-    children_not_listed();
-    deep_directory();
-    other_listings();
-    order_of_refusals();
-    malformed();
-    short_work();
-    rooms();
-    rooms_for_two();
-    room_again();
-    entry_sizes();
+pub fn run(rt: &impl Print) -> io::Result<()> {
+    queries(rt)?;
+    writes(rt)?;
+    writes_refused(rt)?;
+    bodies(rt)?;
+    mkdirs(rt)?;
+    mkdirs_made(rt)?;
+    mkdirs_with_parents(rt)?;
+    mkdirs_over_deleted(rt)?;
+    unlinks(rt)?;
+    rmdirs(rt)?;
+    children(rt)?;
+    children_not_listed(rt)?;
+    deep_directory(rt)?;
+    other_listings(rt)?;
+    order_of_refusals(rt)?;
+    malformed(rt)?;
+    short_work(rt)?;
+    rooms(rt)?;
+    rooms_for_two(rt)?;
+    room_again(rt)?;
+    entry_sizes(rt)
 }

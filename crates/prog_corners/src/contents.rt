@@ -1,9 +1,11 @@
 // The cases of #103, adding to a file and writing inside it, with the charges of #107, and the corners beside them, as
 // texts for `test_cases`. What each must print is worked out by hand from both and stands in the program's stdout.
 use crate::scenes;
+use std::io;
 
-fn appends() {
+fn appends(rt: &impl Print) -> io::Result<()> {
     scenes::over_l(
+        rt,
         1024,
         1024,
         40,
@@ -28,11 +30,12 @@ fn appends() {
         append  1 L - 00922 z|\
         append  1 L - 00923 z|\
         +|",
-    );
+    )
 }
 
-fn appends_lent() {
+fn appends_lent(rt: &impl Print) -> io::Result<()> {
     scenes::over_l(
+        rt,
         1024,
         1024,
         40,
@@ -48,11 +51,12 @@ fn appends_lent() {
         append  0 L - 00315 a/f 12345|\
         append  0 L - 00612 z|\
         +|",
-    );
+    )
 }
 
-fn appends_moved() {
+fn appends_moved(rt: &impl Print) -> io::Result<()> {
     scenes::over_l(
+        rt,
         1024,
         1024,
         40,
@@ -68,12 +72,13 @@ fn appends_moved() {
         append  0 L - 00609 y|\
         append  0 L - 00610 y|\
         +|",
-    );
+    )
 }
 
 // #107: what is added within the multiple of 16 that is charged already costs nothing.
-fn sixteens() {
+fn sixteens(rt: &impl Print) -> io::Result<()> {
     scenes::over_l(
+        rt,
         1024,
         1024,
         40,
@@ -106,12 +111,13 @@ fn sixteens() {
         inside  0 L - 00312 n 9|\
         inside  0 L - 00313 n 9|\
         +|",
-    );
+    )
 }
 
 // #107: only charges are rounded; the bytes that have to be free beside the charge are not.
-fn sixteens_lent() {
+fn sixteens_lent(rt: &impl Print) -> io::Result<()> {
     scenes::over_l(
+        rt,
         1024,
         1024,
         40,
@@ -129,11 +135,12 @@ fn sixteens_lent() {
         rename  - L - ----- z y|\
         append 17 L - 00626 y|\
         append 17 L - 00627 y|",
-    );
+    )
 }
 
-fn lent_counts() {
+fn lent_counts(rt: &impl Print) -> io::Result<()> {
     scenes::over_l(
+        rt,
         1024,
         1024,
         40,
@@ -149,11 +156,12 @@ fn lent_counts() {
         append  0 L - 00000 n 1|\
         unlink  - L - ----- a/f|\
         append  0 L - 00000 a/f 12345|",
-    );
+    )
 }
 
-fn appends_refused() {
+fn appends_refused(rt: &impl Print) -> io::Result<()> {
     scenes::over_l(
+        rt,
         1024,
         1024,
         40,
@@ -174,11 +182,12 @@ fn appends_refused() {
         rmdir   - L - ----- a|\
         append  1 L - ----- a/f|\
         append  1 L - ----- a|",
-    );
+    )
 }
 
-fn insides() {
+fn insides(rt: &impl Print) -> io::Result<()> {
     scenes::over_l(
+        rt,
         1024,
         1024,
         40,
@@ -198,11 +207,12 @@ fn insides() {
         +|\
         inside  4 L - 00313 n 0|\
         +|",
-    );
+    )
 }
 
-fn gaps() {
+fn gaps(rt: &impl Print) -> io::Result<()> {
     scenes::over_l(
+        rt,
         1024,
         1024,
         40,
@@ -222,11 +232,12 @@ fn gaps() {
         inside  0 L - 00312 n 1|\
         inside  0 L - 00313 n 1|\
         +|",
-    );
+    )
 }
 
-fn insides_refused() {
+fn insides_refused(rt: &impl Print) -> io::Result<()> {
     scenes::over_l(
+        rt,
         1024,
         1024,
         40,
@@ -246,11 +257,12 @@ fn insides_refused() {
         inside  1 L - ----- z 0|\
         rename  - L - ----- a/f y|\
         inside  1 L - ----- y 0|",
-    );
+    )
 }
 
-fn ranges() {
+fn ranges(rt: &impl Print) -> io::Result<()> {
     scenes::over_l(
+        rt,
         1024,
         1024,
         40,
@@ -264,12 +276,13 @@ fn ranges() {
         inside  1 L - ----- n -1|\
         inside  9 L - ----- n -8|\
         inside  8 L - ----- n -8|",
-    );
+    )
 }
 
 // #107: a charge that would pass 2^64 - 1 counts as 2^64 - 1.
-fn sums_cut() {
+fn sums_cut(rt: &impl Print) -> io::Result<()> {
     scenes::over_l(
+        rt,
         1024,
         1024,
         40,
@@ -289,11 +302,12 @@ fn sums_cut() {
         inside  1 L - max-0 n 0|\
         append  1 L - max-0 n|\
         +|",
-    );
+    )
 }
 
-fn rooms() {
+fn rooms(rt: &impl Print) -> io::Result<()> {
     scenes::over_l(
+        rt,
         27,
         27,
         40,
@@ -306,8 +320,9 @@ fn rooms() {
         inside  0 L - 00312 n 3|\
         inside  0 L - 00313 n 3|\
         inside  2 L - 00313 n 0|",
-    );
+    )?;
     scenes::over_l(
+        rt,
         28,
         28,
         40,
@@ -316,8 +331,9 @@ fn rooms() {
         write   0 L - ----- n|\
         inside  0 L - 00313 n 3|\
         inside  1 L - ----- n 3|",
-    );
+    )?;
     scenes::over_l(
+        rt,
         41,
         41,
         40,
@@ -328,11 +344,12 @@ fn rooms() {
         inside  8 L - 00328 n 9|\
         inside  8 L - 00329 n 9|\
         inside  7 L - 00313 n 9|",
-    );
+    )
 }
 
-fn order_of_refusals() {
+fn order_of_refusals(rt: &impl Print) -> io::Result<()> {
     scenes::over_l(
+        rt,
         1024,
         1024,
         40,
@@ -346,8 +363,9 @@ fn order_of_refusals() {
         append  1 L e ----- n|\
         write   1 L - ----- n|\
         inside  1 L u ----- n 0|",
-    );
+    )?;
     scenes::over_l(
+        rt,
         1024,
         1023,
         40,
@@ -355,11 +373,12 @@ fn order_of_refusals() {
         append  1 X - 00000 a: 1|\
         inside  1 X - 00000 a: -0|\
         append  1 L - ----- n|",
-    );
+    )
 }
 
-fn lists_of_calls() {
+fn lists_of_calls(rt: &impl Print) -> io::Result<()> {
     scenes::over_l(
+        rt,
         1024,
         1024,
         40,
@@ -372,8 +391,9 @@ fn lists_of_calls() {
         rename  - L - ----- m n|\
         append  1 L - ----- n|\
         +|",
-    );
+    )?;
     scenes::over_both(
+        rt,
         b"RDL\x01\x00\x01\x00\x00\x00\x01\x00\x01\x00\x00\x00\x00\x00\x00\xF0?\x00\x00\x00\x00\x00\x00\x00\x00z",
         1024,
         1024,
@@ -382,23 +402,23 @@ fn lists_of_calls() {
         write   0 M - ----- z/n|\
         append  0 L - ----- z/n|\
         inside  1 L - ----- z/n 0|",
-    );
+    )
 }
 
-pub fn run() {
-    appends();
-    appends_lent();
-    appends_moved();
-    sixteens();
-    sixteens_lent();
-    lent_counts();
-    appends_refused();
-    insides();
-    gaps();
-    insides_refused();
-    ranges();
-    sums_cut();
-    rooms();
-    order_of_refusals();
-    lists_of_calls();
+pub fn run(rt: &impl Print) -> io::Result<()> {
+    appends(rt)?;
+    appends_lent(rt)?;
+    appends_moved(rt)?;
+    sixteens(rt)?;
+    sixteens_lent(rt)?;
+    lent_counts(rt)?;
+    appends_refused(rt)?;
+    insides(rt)?;
+    gaps(rt)?;
+    insides_refused(rt)?;
+    ranges(rt)?;
+    sums_cut(rt)?;
+    rooms(rt)?;
+    order_of_refusals(rt)?;
+    lists_of_calls(rt)
 }

@@ -3,13 +3,15 @@
 // a multiple of 16 bytes; it takes 24 bytes, its key and its body as it is.
 #![tactic(auto)]
 
+use std::io;
+
 mod cases;
 mod contents;
 mod renames;
 mod scenes;
 
-fn main() {
-    cases::run();
-    renames::run();
-    contents::run();
+fn main(rt: HostRuntime) -> io::Result<()> {
+    cases::run(&rt)?;
+    renames::run(&rt)?;
+    contents::run(&rt)
 }

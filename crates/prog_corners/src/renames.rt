@@ -2,10 +2,12 @@
 // two paths of a rename stand apart by a space. What each must print is worked out by hand and stands in the program's
 // stdout; items of one function share listings and buffers where they can.
 use crate::scenes;
+use std::io;
 
 // Two directories; and a directory with a directory and a file, whose names have 255 and 253 bytes.
-fn over_long(n: usize, entry_size: u64, list: &[u8]) {
+fn over_long(rt: &impl Print, n: usize, entry_size: u64, list: &[u8]) -> io::Result<()> {
     test_cases::run(
+        rt,
         b"RDL\x01\x00\x02\x00\x00\x00\x01\x00\x01\x00\x00\x00\x00\x00\x00\xF0?\x00\x00\x00\x00\x00\x00\x00\x00a\x01\
         \x00\x01\x00\x00\x00\x00\x00\x00\x00@\x00\x00\x00\x00\x00\x00\x00\x00d",
         b"RDL\x01\x00\x03\x00\x00\x00\x01\x00\x01\x00\x00\x00\x00\x00\x00\xF0?\x00\x00\x00\x00\x00\x00\x00\x00a\x01\
@@ -22,11 +24,12 @@ fn over_long(n: usize, entry_size: u64, list: &[u8]) {
         n,
         entry_size,
         list,
-    );
+    )
 }
 
-fn directories() {
+fn directories(rt: &impl Print) -> io::Result<()> {
     scenes::over_l(
+        rt,
         1024,
         1024,
         40,
@@ -58,11 +61,12 @@ fn directories() {
         rename  - L - ----- c b|\
         rename  - L - ----- b b/g/x|\
         rename  - L - ----- c c/x|",
-    );
+    )
 }
 
-fn files() {
+fn files(rt: &impl Print) -> io::Result<()> {
     scenes::over_l(
+        rt,
         1024,
         1024,
         40,
@@ -89,12 +93,13 @@ fn files() {
         rename  - L - 00593 c b|\
         rename  - L - 00594 c b|\
         +|",
-    );
+    )
 }
 
 // #107: a reference's body is the listed path, and is charged rounded up to a multiple of 16.
-fn listed_paths() {
+fn listed_paths(rt: &impl Print) -> io::Result<()> {
     test_cases::run(
+        rt,
         b"RDL\x01\x00\x02\x00\x00\x00\x10\x00\x02\x00\x00\x00\x00\x00\x00\x00\x00\x00\x00\x00\x00\x00\x00\x00\x00\
         0123456789abcdef\x11\x00\x02\x00\x00\x00\x00\x00\x00\x00\x00\x00\x00\x00\x00\x00\x00\x00\x000123456789abcdefg",
         b"RDL\x01\x00\x00\x00\x00\x00",
@@ -109,11 +114,12 @@ fn listed_paths() {
         rename  - L - 00641 0123456789abcdefg b|\
         rename  - L - 00642 0123456789abcdefg b|\
         +|",
-    );
+    )
 }
 
-fn itself() {
+fn itself(rt: &impl Print) -> io::Result<()> {
     scenes::over_l(
+        rt,
         1024,
         1024,
         40,
@@ -140,11 +146,12 @@ fn itself() {
         rename  - L u ----- z z|\
         rename  - M - ----- z z|\
         rename  - L - ----- ./z ./z|",
-    );
+    )
 }
 
-fn refused() {
+fn refused(rt: &impl Print) -> io::Result<()> {
     scenes::over_l(
+        rt,
         1024,
         1024,
         40,
@@ -175,11 +182,12 @@ fn refused() {
         rename  - L - -----  |\
         rename  - L - 00000  q/x|\
         rename  - L - 00000 q/x |",
-    );
+    )
 }
 
-fn own_entries() {
+fn own_entries(rt: &impl Print) -> io::Result<()> {
     scenes::over_l(
+        rt,
         1024,
         1024,
         40,
@@ -210,11 +218,12 @@ fn own_entries() {
         rename  - L - ----- z a/x|\
         rename  - L - ----- z a|\
         +|",
-    );
+    )
 }
 
-fn deleted_entries() {
+fn deleted_entries(rt: &impl Print) -> io::Result<()> {
     scenes::over_l(
+        rt,
         1024,
         1024,
         40,
@@ -238,11 +247,12 @@ fn deleted_entries() {
         mkdir   - M - ----- a|\
         rename  - L - ----- a b|\
         +|",
-    );
+    )
 }
 
-fn malformed() {
+fn malformed(rt: &impl Print) -> io::Result<()> {
     scenes::over_l(
+        rt,
         1024,
         1024,
         40,
@@ -264,19 +274,21 @@ fn malformed() {
         rename  - L - ----- q q/n|\
         !|\
         rename  - L - ----- a b|",
-    );
+    )?;
     scenes::over_l(
+        rt,
         1024,
         1023,
         40,
         b"# rename, work one byte less than the table|\
         rename  - X - 00000 a: b:|\
         rename  - L - ----- a b|",
-    );
+    )
 }
 
-fn rooms() {
+fn rooms(rt: &impl Print) -> io::Result<()> {
     scenes::over_l(
+        rt,
         107,
         107,
         40,
@@ -285,8 +297,9 @@ fn rooms() {
         rename  - L - ----- b a|\
         rename  - L - 00000 z z|\
         rename  - L - ----- z y|",
-    );
+    )?;
     scenes::over_l(
+        rt,
         106,
         106,
         40,
@@ -294,23 +307,26 @@ fn rooms() {
         rename  - L - ----- a b|\
         rename  - L - 01207 a b|\
         rename  - L - 01208 a b|",
-    );
+    )?;
     scenes::over_l(
+        rt,
         51,
         51,
         40,
         b"# rename in a table of 51 bytes|\
         rename  - L - ----- z y|",
-    );
+    )?;
     scenes::over_l(
+        rt,
         50,
         50,
         40,
         b"# rename in a table of 50 bytes|\
         rename  - L - ----- z y|\
         rename  - L - ----- z z|",
-    );
+    )?;
     scenes::over_l(
+        rt,
         59,
         59,
         40,
@@ -319,11 +335,12 @@ fn rooms() {
         write   0 L - ----- c|\
         rename  - L - ----- c b|\
         rename  - L - ----- b e|",
-    );
+    )
 }
 
-fn beside() {
+fn beside(rt: &impl Print) -> io::Result<()> {
     test_cases::run(
+        rt,
         b"RDL\x01\x00\x04\x00\x00\x00\x01\x00\x01\x00\x00\x00\x00\x00\x00\xF0?\x00\x00\x00\x00\x00\x00\x00\x00a\x03\
         \x00\x02\x00\x00\x00\x00\x00\x00\x00\x00\x03\x00\x00\x00\x00\x00\x00\x00a-b\x03\x00\x02\x00\x00\x00\x00\x00\
         \x00\x00@\x05\x00\x00\x00\x00\x00\x00\x00a/x\x02\x00\x02\x00\x00\x00\x00\x00\x00\x00\x00\x07\x00\x00\x00\x00\
@@ -346,11 +363,12 @@ fn beside() {
         rename  - L - 01788 a c|\
         rename  - L - 01789 a c|\
         +|",
-    );
+    )
 }
 
-fn not_below() {
+fn not_below(rt: &impl Print) -> io::Result<()> {
     test_cases::run(
+        rt,
         b"RDL\x01\x00\x03\x00\x00\x00\x01\x00\x01\x00\x00\x00\x00\x00\x00\xF0?\x00\x00\x00\x00\x00\x00\x00\x00a\x03\
         \x00\x02\x00\x00\x00\x00\x00\x00\x00\x00\x03\x00\x00\x00\x00\x00\x00\x00a-b\x02\x00\x02\x00\x00\x00\x00\x00\
         \x00\x00\x00\x07\x00\x00\x00\x00\x00\x00\x00a0",
@@ -362,8 +380,9 @@ fn not_below() {
         mkdir   - L - ----- d|\
         rename  - L - ----- d a|\
         +|",
-    );
+    )?;
     test_cases::run(
+        rt,
         b"RDL\x01\x00\x03\x00\x00\x00\x01\x00\x01\x00\x00\x00\x00\x00\x00\xF0?\x00\x00\x00\x00\x00\x00\x00\x00a\x03\
         \x00\x01\x00\x00\x00\x00\x00\x00\xF0?\x00\x00\x00\x00\x00\x00\x00\x00a-b\x02\x00\x01\x00\x00\x00\x00\x00\x00\
         \xF0?\x00\x00\x00\x00\x00\x00\x00\x00a0",
@@ -375,8 +394,9 @@ fn not_below() {
         rename  - L - ----- a a-b/n|\
         rename  - L - ----- a-b/n a0/n|\
         rename  - L - ----- a-b a-b/m|",
-    );
+    )?;
     test_cases::run(
+        rt,
         b"RDL\x01\x00\x02\x00\x00\x00\x01\x00\x01\x00\x00\x00\x00\x00\x00\xF0?\x00\x00\x00\x00\x00\x00\x00\x00a\x03\
         \x00\x03\x00\x00\x00\x00\x00\x00\x00\x00\x00\x00\x00\x00\x00\x00\x00\x00a/l",
         b"RDL\x01\x00\x00\x00\x00\x00",
@@ -390,11 +410,12 @@ fn not_below() {
         rename  - L - ----- a a|\
         rename  - L - ----- a/l b|\
         rename  - L - ----- d a/l|",
-    );
+    )
 }
 
-fn onto_directories() {
+fn onto_directories(rt: &impl Print) -> io::Result<()> {
     test_cases::run(
+        rt,
         b"RDL\x01\x00\x04\x00\x00\x00\x01\x00\x01\x00\x00\x00\x00\x00\x00\xF0?\x00\x00\x00\x00\x00\x00\x00\x00a\x03\
         \x00\x02\x00\x00\x00\x00\x00\x00\x00@\x05\x00\x00\x00\x00\x00\x00\x00a/f\x01\x00\x01\x00\x00\x00\x00\x00\x00\
         \x08@\x00\x00\x00\x00\x00\x00\x00\x00d\x03\x00\x02\x00\x00\x00\x00\x00\x00\x00\x00\x06\x00\x00\x00\x00\x00\x00\
@@ -416,11 +437,12 @@ fn onto_directories() {
         rename  - L - 01506 a d|\
         rename  - L - 01507 a d|\
         +|",
-    );
+    )
 }
 
-fn levels() {
+fn levels(rt: &impl Print) -> io::Result<()> {
     test_cases::run(
+        rt,
         b"RDL\x01\x00\x03\x00\x00\x00\x01\x00\x01\x00\x00\x00\x00\x00\x00\xF0?\x00\x00\x00\x00\x00\x00\x00\x00a\x03\
         \x00\x01\x00\x00\x00\x00\x00\x00\x00@\x00\x00\x00\x00\x00\x00\x00\x00a/b\x05\x00\x02\x00\x00\x00\x00\x00\x00\
         \x08@\x04\x00\x00\x00\x00\x00\x00\x00a/b/f",
@@ -446,11 +468,12 @@ fn levels() {
         +|\
         exists  - L - ----- c/b|\
         is_dir  - L - ----- c|",
-    );
+    )
 }
 
-fn walk_to_links() {
+fn walk_to_links(rt: &impl Print) -> io::Result<()> {
     test_cases::run(
+        rt,
         b"RDL\x01\x00\x03\x00\x00\x00\x01\x00\x01\x00\x00\x00\x00\x00\x00\x00@\x00\x00\x00\x00\x00\x00\x00\x00a\x03\
         \x00\x01\x00\x00\x00\x00\x00\x00\x00@\x00\x00\x00\x00\x00\x00\x00\x00a/b\x05\x00\x03\x00\x00\x00\x00\x00\x00\
         \x00\x00\x00\x00\x00\x00\x00\x00\x00\x00a/b/l",
@@ -473,11 +496,12 @@ fn walk_to_links() {
         mkdir   - M - ----- a/b|\
         rename  - L - ----- a c|\
         +|",
-    );
+    )
 }
 
-fn walk_order() {
+fn walk_order(rt: &impl Print) -> io::Result<()> {
     test_cases::run(
+        rt,
         b"RDL\x01\x00\x03\x00\x00\x00\x01\x00\x01\x00\x00\x00\x00\x00\x00\x00@\x00\x00\x00\x00\x00\x00\x00\x00a\x03\
         \x00\x01\x00\x00\x00\x00\x00\x00\x00@\x00\x00\x00\x00\x00\x00\x00\x00a/b\x05\x00\x03\x00\x00\x00\x00\x00\x00\
         \x00\x00\x00\x00\x00\x00\x00\x00\x00\x00a/b/l",
@@ -488,8 +512,9 @@ fn walk_order() {
         b"# the source's own entry covers nothing; L is a/ a/b/ a/b/l@, M is empty|\
         mkdir   - M - ----- a|\
         rename  - L - ----- a c|",
-    );
+    )?;
     test_cases::run(
+        rt,
         b"RDL\x01\x00\x05\x00\x00\x00\x01\x00\x01\x00\x00\x00\x00\x00\x00\xF0?\x00\x00\x00\x00\x00\x00\x00\x00a\x03\
         \x00\x01\x00\x00\x00\x00\x00\x00\x00@\x00\x00\x00\x00\x00\x00\x00\x00a/b\x05\x00\x03\x00\x00\x00\x00\x00\x00\
         \x00\x00\x00\x00\x00\x00\x00\x00\x00\x00a/b/l\x03\x00\x01\x00\x00\x00\x00\x00\x00\x08@\x00\x00\x00\x00\x00\x00\
@@ -501,11 +526,12 @@ fn walk_order() {
         b"# the last directory found is entered first; L is a/ a/b/ a/b/l@ a/c/ a/c/f|\
         rename  - L - 01566 a c|\
         rename  - L - 01567 a c|",
-    );
+    )
 }
 
-fn walk_sums() {
+fn walk_sums(rt: &impl Print) -> io::Result<()> {
     test_cases::run(
+        rt,
         b"RDL\x01\x00\x01\x00\x00\x00\x01\x00\x01\x00\x00\x00\x00\x00\x00\x00@\x00\x00\x00\x00\x00\x00\x00\x00a",
         b"RDL\x01\x00\x00\x00\x00\x00",
         1024,
@@ -520,8 +546,9 @@ fn walk_sums() {
         +|\
         # an empty listed directory onto itself; L is a/|\
         rename  - L - 00000 a a|",
-    );
+    )?;
     test_cases::run(
+        rt,
         b"RDL\x01\x00\x02\x00\x00\x00\x01\x00\x01\x00\x00\x00\x00\x00\x00\xF0?\x00\x00\x00\x00\x00\x00\x00\x00a\x03\
         \x00\x01\x00\x00\x00\x00\x00\x00\x00@\x00\x00\x00\x00\x00\x00\x00\x00a/d",
         b"RDL\x01\x00\x00\x00\x00\x00",
@@ -536,11 +563,12 @@ fn walk_sums() {
         rename  - L - 01039 a b|\
         rename  - L - 01040 a b|\
         +|",
-    );
+    )
 }
 
-fn other_listings() {
+fn other_listings(rt: &impl Print) -> io::Result<()> {
     test_cases::run(
+        rt,
         b"RDL\x01\x00\x04\x00\x00\x00\x01\x00\x01\x00\x00\x00\x00\x00\x00\xF0?\x00\x00\x00\x00\x00\x00\x00\x00a\x03\
         \x00\x02\x00\x00\x00\x00\x00\x00\x00@\x05\x00\x00\x00\x00\x00\x00\x00a/f\x01\x00\x03\x00\x00\x00\x00\x00\x00\
         \x00\x00\x00\x00\x00\x00\x00\x00\x00\x00l\x01\x00\x02\x00\x00\x00\x00\x00\x00\x00\x00\x00\x00\x00\x00\x00\x00\
@@ -554,11 +582,12 @@ fn other_listings() {
         write   0 M - ----- b/x/y|\
         rename  - L - ----- a b|\
         +|",
-    );
+    )
 }
 
-fn long_keys() {
+fn long_keys(rt: &impl Print) -> io::Result<()> {
     over_long(
+        rt,
         4096,
         40,
         b"# a moved key of 513 bytes, and of 512; L is a/ d/, M is a/ and in it a directory with a file, their names \
@@ -582,11 +611,12 @@ fn long_keys() {
         rename  - M - ----- a bbb|\
         rename  - M - 03828 a bb|\
         rename  - M - 03829 a bb|",
-    );
+    )
 }
 
-fn long_keys_in_order() {
+fn long_keys_in_order(rt: &impl Print) -> io::Result<()> {
     over_long(
+        rt,
         535,
         40,
         b"# 12 before 13; a table of 535 bytes|\
@@ -597,16 +627,18 @@ fn long_keys_in_order() {
         yyyyyyyyyyyyyyyyyyyyyyyyyyyyyyyyyyyyyyyyyyyyyyyyyyyyyyyyyyyyyyyyyyyyyyyyyyyyyyyyyyyyyyyyyyy|\
         rename  - L - ----- a bbb|\
         rename  - L - ----- a bb|",
-    );
+    )?;
     over_long(
+        rt,
         2195,
         40,
         b"# 11 before 12 before 13; a table of 2195 bytes|\
         rename  - M - 03828 a bb|\
         rename  - M - ----- a bb|\
         rename  - M - ----- a bbb|",
-    );
+    )?;
     over_long(
+        rt,
         2196,
         4096,
         b"# 11 before 12; a table of 2196 bytes, E 4096|\
@@ -622,11 +654,12 @@ fn long_keys_in_order() {
         rename  - L - 10000 a bbb|\
         rename  - L - 18435 a bbb|\
         rename  - L - 18436 a bbb|",
-    );
+    )
 }
 
-fn many_components() {
+fn many_components(rt: &impl Print) -> io::Result<()> {
     test_cases::run(
+        rt,
         b"RDL\x01\x00\x02\x00\x00\x00\x01\x00\x01\x00\x00\x00\x00\x00\x00\xF0?\x00\x00\x00\x00\x00\x00\x00\x00a\x01\
         \x00\x01\x00\x00\x00\x00\x00\x00\x00@\x00\x00\x00\x00\x00\x00\x00\x00d",
         b"RDL\x01\x00\x00\x00\x00\x00",
@@ -637,11 +670,12 @@ fn many_components() {
         mkdir   p L - ----- a/1/2/3/4/5/6/7/8/9/a/b/c/d/e/f/g/h/i/j/k/l/m/n/o/p/q/r/s/t/u/v|\
         rename  - L - ----- a d/b|\
         rename  - L - ----- a b|",
-    );
+    )
 }
 
-fn a_list_of_calls() {
+fn a_list_of_calls(rt: &impl Print) -> io::Result<()> {
     test_cases::run(
+        rt,
         b"RDL\x01\x00\x06\x00\x00\x00\x01\x00\x01\x00\x00\x00\x00\x00\x00\xF0?\x00\x00\x00\x00\x00\x00\x00\x00a\x03\
         \x00\x01\x00\x00\x00\x00\x00\x00\x00@\x00\x00\x00\x00\x00\x00\x00\x00a/b\x05\x00\x02\x00\x00\x00\x00\x00\x00\
         \x08@\x05\x00\x00\x00\x00\x00\x00\x00a/b/f\x03\x00\x02\x00\x00\x00\x00\x00\x00\x00\x00\x03\x00\x00\x00\x00\x00\
@@ -677,29 +711,29 @@ fn a_list_of_calls() {
         exists  - L - ----- d/f|\
         is_file - L - ----- d/h|\
         exists  - L - ----- m|",
-    );
+    )
 }
 
-pub fn run() {
-    directories();
-    files();
-    listed_paths();
-    itself();
-    refused();
-    own_entries();
-    deleted_entries();
-    malformed();
-    rooms();
-    beside();
-    not_below();
-    onto_directories();
-    levels();
-    walk_to_links();
-    walk_order();
-    walk_sums();
-    other_listings();
-    long_keys();
-    long_keys_in_order();
-    many_components();
-    a_list_of_calls();
+pub fn run(rt: &impl Print) -> io::Result<()> {
+    directories(rt)?;
+    files(rt)?;
+    listed_paths(rt)?;
+    itself(rt)?;
+    refused(rt)?;
+    own_entries(rt)?;
+    deleted_entries(rt)?;
+    malformed(rt)?;
+    rooms(rt)?;
+    beside(rt)?;
+    not_below(rt)?;
+    onto_directories(rt)?;
+    levels(rt)?;
+    walk_to_links(rt)?;
+    walk_order(rt)?;
+    walk_sums(rt)?;
+    other_listings(rt)?;
+    long_keys(rt)?;
+    long_keys_in_order(rt)?;
+    many_components(rt)?;
+    a_list_of_calls(rt)
 }

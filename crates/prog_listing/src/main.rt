@@ -6,7 +6,9 @@
 
 ghost use Rattle.std.specs.Prelude.{◌≤◌};
 
-use libc::STDOUT_FILENO;
+use std::env::FillError;
+use std::io;
+use std::rt::{CpuClock, Env};
 
 fn push(s: &mut [u8], at: usize, b: u8) -> usize {
     if at < s.len() {
@@ -147,65 +149,74 @@ fn siblings(s: &mut [u8], n: u64) -> usize
     families(s, at, n)
 }
 
-fn told(answer: bool) {
+fn told(rt: &impl Print, answer: bool) -> io::Result<()> {
     if answer {
-        io::write_all(STDOUT_FILENO, b" a listing");
+        rt.print(" a listing")
     } else {
-        io::write_all(STDOUT_FILENO, b" no listing");
+        rt.print(" no listing")
+    }
+}
+
+// Whether times are asked for: whether there is an argument behind the program's name.
+fn is_timed(rt: &impl Env) -> bool {
+    let mut start = [0u8; 1];
+    match rt.arg(1, &mut start) {
+        Ok(_) | Err(FillError::TooLong) => true,
+        Err(FillError::NotPresent) => false,
     }
 }
 
 // The check of the first n bytes, and how long it took where times are asked for.
-fn timed(s: &[u8], n: usize) {
+fn timed(rt: &(impl Print + Env + CpuClock), s: &[u8], n: usize) -> io::Result<()> {
     if n <= s.len() {
-        let before = test_clock::micros();
+        let before = test_clock::micros(rt);
         let answer = listing_check::check(&s[0..n]);
-        let after = test_clock::micros();
-        told(answer);
-        if os::arg_count() > 1 {
-            io::write_all(STDOUT_FILENO, b", ");
-            io::print_decimal(STDOUT_FILENO, std::num::wrapping_sub_u64(after, before));
-            io::write_all(STDOUT_FILENO, b" us");
+        let after = test_clock::micros(rt);
+        told(rt, answer)?;
+        if is_timed(rt) {
+            let micros = std::num::wrapping_sub_u64(after, before);
+            print!(rt; ", {micros} us")?;
         }
     }
+    Ok(())
 }
 
 // A listing of one shape, whole and without its last byte.
-fn shown(name: &[u8], s: &[u8], n: usize) {
-    io::write_all(STDOUT_FILENO, name);
-    io::print_decimal(STDOUT_FILENO, n as u64);
-    io::write_all(STDOUT_FILENO, b" bytes:");
-    timed(s, n);
+fn shown(rt: &(impl Print + Env + CpuClock), name: &[u8], s: &[u8], n: usize) -> io::Result<()> {
+    rt.write_all(name)?;
+    print!(rt; "{n} bytes:")?;
+    timed(rt, s, n)?;
     if n > 0 {
-        io::write_all(STDOUT_FILENO, b"; one byte less:");
-        timed(s, n - 1);
+        rt.print("; one byte less:")?;
+        timed(rt, s, n - 1)?;
     }
-    io::write_all(STDOUT_FILENO, b"\n");
+    rt.write_all(b"\n")
 }
 
 // The three shapes, of about the size that k groups of each have.
-fn shapes_of(s: &mut [u8], times: u64) {
+fn shapes_of(rt: &(impl Print + Env + CpuClock), s: &mut [u8], times: u64) -> io::Result<()> {
     if times <= 8 {
         let n = flat(s, 37000 * times);
-        shown(b"flat ", s, n);
+        shown(rt, b"flat ", s, n)?;
         let n = deep(s, 538 * times);
-        shown(b"deep ", s, n);
+        shown(rt, b"deep ", s, n)?;
         let n = siblings(s, 39 * times);
-        shown(b"siblings ", s, n);
+        shown(rt, b"siblings ", s, n)?;
     }
+    Ok(())
 }
 
-fn both(s: &mut [u8; 8000000]) {
-    shapes_of(s, 1);
-    shapes_of(s, 8);
+fn both(rt: &(impl Print + Env + CpuClock), s: &mut [u8; 8000000]) -> io::Result<()> {
+    shapes_of(rt, s, 1)?;
+    shapes_of(rt, s, 8)
 }
 
 // The buffer stands in one function, which lends it on.
-fn held() {
+fn held(rt: &(impl Print + Env + CpuClock)) -> io::Result<()> {
     let mut buf = [0u8; 8000000];
-    both(&mut buf);
+    both(rt, &mut buf)
 }
 
-fn main() {
-    held();
+fn main(rt: HostRuntime) -> io::Result<()> {
+    held(&rt)
 }

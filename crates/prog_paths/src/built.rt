@@ -2,7 +2,7 @@
 ghost use Rattle.std.specs.Prelude.{◌<◌};
 
 use crate::tally::{Tally, counted, none, one, print};
-use libc::STDOUT_FILENO;
+use std::io;
 
 // Each byte from `from` up to, not including, `to`, alone before a space: no UTF-8.
 fn lonely(from: u8, to: u8) -> Tally {
@@ -15,11 +15,11 @@ fn lonely(from: u8, to: u8) -> Tally {
     t
 }
 
-pub fn lonely_bytes() {
-    io::write_all(STDOUT_FILENO, b"Kuhn 3.1.9, each continuation byte");
-    print(lonely(0x80, 0xC0));
-    io::write_all(STDOUT_FILENO, b"Kuhn 3.2, lonely start bytes");
-    print(lonely(0xC0, 0xFE));
+pub fn lonely_bytes(rt: &impl Print) -> io::Result<()> {
+    rt.write_all(b"Kuhn 3.1.9, each continuation byte")?;
+    print(rt, lonely(0x80, 0xC0))?;
+    rt.write_all(b"Kuhn 3.2, lonely start bytes")?;
+    print(rt, lonely(0xC0, 0xFE))
 }
 
 fn first(t: Tally, s: &[u8], n: usize, must: bool) -> Tally {
@@ -41,21 +41,21 @@ fn long(t: Tally, i: usize, k: usize, n: usize, must: bool) -> Tally
 
 // A component alone, behind a slash and before one; then paths whose components are 255 and 255, 255, 254 and 1, 255,
 // 254 and 2, and 255, 255 and 1 bytes long.
-pub fn sizes() {
+pub fn sizes(rt: &impl Print) -> io::Result<()> {
     let t = long(none(), 513, 513, 255, true);
     let t = long(t, 513, 513, 256, false);
     let t = long(t, 1, 513, 257, true);
     let t = long(t, 1, 513, 258, false);
     let t = long(t, 255, 513, 257, true);
     let t = long(t, 256, 513, 258, false);
-    io::write_all(STDOUT_FILENO, b"01, 255 and 256 bytes in a component");
-    print(t);
+    rt.write_all(b"01, 255 and 256 bytes in a component")?;
+    print(rt, t)?;
     let t = long(none(), 255, 513, 511, true);
     let t = long(t, 255, 510, 512, true);
     let t = long(t, 255, 510, 513, false);
     let t = long(t, 255, 511, 513, false);
-    io::write_all(STDOUT_FILENO, b"01, 512 and 513 bytes");
-    print(t);
+    rt.write_all(b"01, 512 and 513 bytes")?;
+    print(rt, t)
 }
 
 fn wide(b: u8) -> usize {
@@ -83,11 +83,11 @@ fn climbed(t: Tally, path: &[u8], ends: &[u8]) -> Tally {
     counted(t, ok & (i == ends.len()))
 }
 
-pub fn ancestors() {
+pub fn ancestors(rt: &impl Print) -> io::Result<()> {
     let t = climbed(none(), b"", b"");
     let t = climbed(t, b"a", b"");
     let t = climbed(t, b"a/f", b"\x01");
     let t = climbed(t, b"ab/c/def/g", b"\x02\x04\x08");
-    io::write_all(STDOUT_FILENO, b"01, proper ancestors");
-    print(t);
+    rt.write_all(b"01, proper ancestors")?;
+    print(rt, t)
 }

@@ -2,25 +2,25 @@
 // of a group, + what must be, - what must not be, 0 what is UTF-8 and no path, and . the end of a group. An item that
 // is empty is a vector that gave the wrong answer.
 use crate::tally::{Tally, counted, is_utf8, none, one, print};
-use libc::STDOUT_FILENO;
+use std::io;
 
-fn item(t: Tally, s: &[u8], text: bool) -> Tally {
+fn item(rt: &impl Print, t: Tally, s: &[u8], text: bool) -> io::Result<Tally> {
     if s.len() == 0 {
-        return counted(t, false);
+        return Ok(counted(t, false));
     }
     let mark = s[0];
     if mark == b'=' {
-        io::write_all(STDOUT_FILENO, &s[1..]);
-        return t;
+        rt.write_all(&s[1..])?;
+        return Ok(t);
     }
     if mark == b'.' {
-        print(t);
-        return none();
+        print(rt, t)?;
+        return Ok(none());
     }
     if mark == b'0' {
-        return zero(t, &s[1..]);
+        return Ok(zero(t, &s[1..]));
     }
-    one(t, &s[1..], text, mark == b'+')
+    Ok(one(t, &s[1..], text, mark == b'+'))
 }
 
 fn zero(t: Tally, s: &[u8]) -> Tally {
@@ -29,15 +29,16 @@ fn zero(t: Tally, s: &[u8]) -> Tally {
     counted(t, !a & b)
 }
 
-pub fn run(list: &[u8], text: bool) {
+pub fn run(rt: &impl Print, list: &[u8], text: bool) -> io::Result<()> {
     let mut t = none();
     let mut from = 0;
     let mut i = 0;
     while i < list.len() {
         if list[i] == b'|' {
-            t = item(t, &list[from..i], text);
+            t = item(rt, t, &list[from..i], text)?;
             from = i + 1;
         }
         i += 1;
     }
+    Ok(())
 }

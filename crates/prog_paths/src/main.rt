@@ -3,6 +3,8 @@
 // capability and stress test" and document 01.
 #![tactic(auto)]
 
+use std::io;
+
 mod built;
 mod listed;
 mod malformed;
@@ -10,11 +12,11 @@ mod paths;
 mod tally;
 mod texts;
 
-fn main() {
-    texts::run();
-    malformed::run();
-    built::lonely_bytes();
-    paths::run();
-    built::sizes();
-    built::ancestors();
+fn main(rt: HostRuntime) -> io::Result<()> {
+    texts::run(&rt)?;
+    malformed::run(&rt)?;
+    built::lonely_bytes(&rt)?;
+    paths::run(&rt)?;
+    built::sizes(&rt)?;
+    built::ancestors(&rt)
 }

@@ -1,12 +1,14 @@
 // What is not UTF-8: groups 3, 4, 5.1 and 5.2 of the stress test, under their numbers, and characters above 10FFFF.
 // None of them has a byte that a path forbids.
 use crate::listed;
+use std::io;
 
 // 3.3 has first what would be U+0000 and then the last character of each length; 4.2 the last overlong character of
 // each length; 5.1 D800, DB7F, DB80, DBFF, DC00, DF80, DFFF; 5.2 D800, DB7F, DB80 and DBFF, each before DC00 and before
 // DFFF; and above 10FFFF are 110000, 13FFFF, 140000, 1FFFFF.
-pub fn run() {
+pub fn run(rt: &impl Print) -> io::Result<()> {
     listed::run(
+        rt,
         b"=Kuhn 3.1, continuation bytes|\
         -\x80|-\xBF|-\x80\xBF|-\x80\xBF\x80|-\x80\xBF\x80\xBF|-\x80\xBF\x80\xBF\x80|-\x80\xBF\x80\xBF\x80\xBF|-\x80\
 \xBF\x80\xBF\x80\xBF\x80|.|\
@@ -32,5 +34,5 @@ pub fn run() {
         =above 10FFFF|\
         -\xF4\x90\x80\x80|-\xF4\xBF\xBF\xBF|-\xF5\x80\x80\x80|-\xF7\xBF\xBF\xBF|.|",
         true,
-    );
+    )
 }

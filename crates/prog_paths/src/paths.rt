@@ -1,9 +1,11 @@
 // Document 01, "Paths and the published tree": which bytes are a path.
 use crate::listed;
+use std::io;
 
 // Beside byte 0, backslash and colon stand their neighbours; what is not UTF-8 is so in a component, or across a slash.
-pub fn run() {
+pub fn run(rt: &impl Print) -> io::Result<()> {
     listed::run(
+        rt,
         b"=01, the root|\
         +|.|\
         =01, components|\
@@ -23,5 +25,5 @@ pub fn run() {
         +\xC3\xA9|+a/\xC3\xA9/b|+\xE6\x97\xA5/\xE6\x9C\xAC|+\xF0\xA3\x8E\xB4|\
         -a/\xC3/b|-\xC3/\xA9|-\xED\xA0\x80/a|-a/\xC0\xAF|-\xFF|-a/\xF4\x90\x80\x80|.|",
         false,
-    );
+    )
 }

@@ -4,10 +4,10 @@ ghost use Rattle.std.specs.Prelude.{◌≡◌};
 ghost use Rattle.model.specs.Utf8.{utf8};
 ghost use Rattle.prog_paths.specs.Tallied.{tallied, agrees, gave};
 
-use libc::STDOUT_FILENO;
+use std::io;
 
 // How many vectors were run, and how many gave what they must.
-#[derive(Drop)]
+#[derive(Clone, Copy)]
 pub struct Tally {
     pub run: u64,
     pub right: u64,
@@ -28,12 +28,9 @@ pub fn counted(t: Tally, ok: bool) -> Tally
 }
 
 // The end of a group's line, behind its name.
-pub fn print(t: Tally) {
-    io::write_all(STDOUT_FILENO, b": ");
-    io::print_decimal(STDOUT_FILENO, t.run);
-    io::write_all(STDOUT_FILENO, b" run, ");
-    io::print_decimal(STDOUT_FILENO, t.right);
-    io::write_all(STDOUT_FILENO, b" as expected\n");
+pub fn print(rt: &impl Print, t: Tally) -> io::Result<()> {
+    let Tally { run, right } = t;
+    println!(rt; ": {run} run, {right} as expected")
 }
 
 // Whether s is UTF-8, by the steps that `is_path` takes.

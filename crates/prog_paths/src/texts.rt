@@ -2,12 +2,14 @@
 // test. By RFC 3629 no character has five or six bytes, and FFFE and FFFF are characters. Cut, a text is UTF-8 where a
 // character ends.
 use crate::listed;
+use std::io;
 
 // The examples are A, not identical to, alpha, full stop; hangugeo; nihongo; a byte order mark before U+233B4. 2.1 is
 // U+0000, U+0080, U+0800, U+10000, 200000, 4000000; 2.2 U+007F, U+07FF, U+FFFF, 1FFFFF, 3FFFFFF, 7FFFFFFF; 2.3 U+D7FF,
 // U+E000, U+FFFD, U+10FFFF, 110000; and cut are U+00A2, U+20AC, U+10348.
-pub fn run() {
+pub fn run(rt: &impl Print) -> io::Result<()> {
     listed::run(
+        rt,
         b"=RFC 3629 7, examples|\
         +\x41\xE2\x89\xA2\xCE\x91\x2E|\
         +\xED\x95\x9C\xEA\xB5\xAD\xEC\x96\xB4|\
@@ -34,5 +36,5 @@ pub fn run() {
         =Kuhn 5.3, noncharacters|\
         +\xEF\xBF\xBE|+\xEF\xBF\xBF|.|",
         true,
-    );
+    )
 }

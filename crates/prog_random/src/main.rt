@@ -10,8 +10,8 @@ ghost use Rattle.std.specs.Prelude.{◌≡◌, true};
 ghost use Rattle.model.specs.Table.{is_table};
 
 use call_values::{Kind, Order};
-use libc::STDOUT_FILENO;
 use model::{Answer, Answered, Finding, Record};
+use std::io;
 use table_entries::OverlayEntry;
 use test_rows::{DIRECTORY, FILE, LINK, NOTHING, PATHS};
 
@@ -23,7 +23,7 @@ const MTIME: u64 = 0x3FF0_0000_0000_0000;
 // A call as it is drawn: w, a for append, i for writing inside, m, u, r for rmdir or n for rename, the number of its
 // path, and another: a rename's destination, or the path that a write, an append or a writing inside has as its data.
 // An append is lent what it needs or, with `again`, its data. The seed is the generator's number behind it.
-#[derive(Drop)]
+#[derive(Clone, Copy)]
 struct Call {
     letter: u8,
     path: usize,
@@ -37,7 +37,7 @@ struct Call {
 }
 
 // The record of the table, the generator's number, and what is counted.
-#[derive(Drop)]
+#[derive(Clone, Copy)]
 struct State {
     rec: Record,
     seed: u64,
@@ -886,9 +886,9 @@ fn lists(names: &[u8], st: State) -> State {
 }
 
 // A number behind a text.
-fn say(s: &[u8], n: u64) {
-    io::write_all(STDOUT_FILENO, s);
-    io::print_decimal(STDOUT_FILENO, n);
+fn say(rt: &impl Print, s: &[u8], n: u64) -> io::Result<()> {
+    rt.write_all(s)?;
+    rt.print(n)
 }
 
 fn run() -> State {
@@ -922,14 +922,14 @@ fn run() -> State {
     )
 }
 
-fn main() {
+fn main(rt: HostRuntime) -> io::Result<()> {
     let st = run();
-    say(b"random calls: accepted ", st.accepted);
-    say(b", of these renames ", st.moved);
-    say(b", appends ", st.added);
-    say(b", writings inside ", st.inside);
-    say(b"; refused ", st.refused);
-    say(b", of these at the limit ", st.limited);
-    say(b"; differences ", st.wrong);
-    io::write_all(STDOUT_FILENO, b"\n");
+    say(&rt, b"random calls: accepted ", st.accepted)?;
+    say(&rt, b", of these renames ", st.moved)?;
+    say(&rt, b", appends ", st.added)?;
+    say(&rt, b", writings inside ", st.inside)?;
+    say(&rt, b"; refused ", st.refused)?;
+    say(&rt, b", of these at the limit ", st.limited)?;
+    say(&rt, b"; differences ", st.wrong)?;
+    rt.write_all(b"\n")
 }

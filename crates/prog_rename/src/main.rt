@@ -6,8 +6,10 @@
 
 ghost use Rattle.std.specs.Prelude.{◌+◌, ◌*◌, ◌≤◌, length};
 
-use libc::STDOUT_FILENO;
 use model::{Answered, Record};
+use std::env::FillError;
+use std::io;
+use std::rt::{CpuClock, Env};
 
 const ENTRY_SIZE: u64 = 40;
 
@@ -15,7 +17,7 @@ const NO_LIMIT: u64 = 1_000_000_000;
 
 // How many nodes are listed and how many are entries. They are files whose numbers rise by `step`: with 2, even ones
 // are listed and odd ones entries; or, if `deep`, listed directories in chains.
-#[derive(Drop)]
+#[derive(Clone, Copy)]
 struct Shape {
     listed: usize,
     entered: usize,
@@ -24,7 +26,7 @@ struct Shape {
 }
 
 // What a call answered, and its processor time in microseconds.
-#[derive(Drop)]
+#[derive(Clone, Copy)]
 struct Measured {
     done: Answered,
     micros: u64,
@@ -207,68 +209,72 @@ fn make_table(t: &mut [u8], shape: Shape) -> Record
 }
 
 // The call on a table made anew.
-fn timed(listing: &[u8], table: &mut [u8], work: &mut [u8], shape: Shape) -> Measured
+fn timed(
+    rt: &impl CpuClock,
+    listing: &[u8],
+    table: &mut [u8],
+    work: &mut [u8],
+    shape: Shape,
+) -> Measured
     requires { (shape.entered ≤ 10000) × (shape.step ≤ 2) × (25 + shape.entered * 39 ≤ length table.old) }
 {
     let rec = make_table(table, shape);
-    let before = test_clock::micros();
+    let before = test_clock::micros(rt);
     let done = call_rename::rename(listing, table, rec, work, b"d", b"e", NO_LIMIT);
-    let after = test_clock::micros();
+    let after = test_clock::micros(rt);
     Measured {
         done: done,
         micros: std::num::wrapping_sub_u64(after, before),
     }
 }
 
-fn tell_answer(answer: model::Answer) {
+fn tell_answer(rt: &impl Print, answer: model::Answer) -> io::Result<()> {
     match answer {
-        model::Answer::Accepted(_) => {
-            io::write_all(STDOUT_FILENO, b": accepted, ");
-        }
-        model::Answer::Refused(_) => {
-            io::write_all(STDOUT_FILENO, b": refused, ");
-        }
+        model::Answer::Accepted(_) => rt.print(": accepted, "),
+        model::Answer::Refused(_) => rt.print(": refused, "),
+    }
+}
+
+// Whether times are asked for: whether there is an argument behind the program's name.
+fn is_timed(rt: &impl Env) -> bool {
+    let mut start = [0u8; 1];
+    match rt.arg(1, &mut start) {
+        Ok(_) | Err(FillError::TooLong) => true,
+        Err(FillError::NotPresent) => false,
     }
 }
 
 // The time, where times are asked for.
-fn tell_time(micros: u64) {
-    if os::arg_count() > 1 {
-        io::write_all(STDOUT_FILENO, b", ");
-        io::print_decimal(STDOUT_FILENO, micros);
-        io::write_all(STDOUT_FILENO, b" us");
+fn tell_time(rt: &(impl Print + Env), micros: u64) -> io::Result<()> {
+    if is_timed(rt) {
+        print!(rt; ", {micros} us")?;
     }
-    io::write_all(STDOUT_FILENO, b"\n");
+    rt.write_all(b"\n")
 }
 
 // The name of the shape of this number.
-fn tell_name(number: u64) {
+fn tell_name(rt: &impl Print, number: u64) -> io::Result<()> {
     match number {
-        0 => {
-            io::write_all(STDOUT_FILENO, b"listed ");
-        }
-        1 => {
-            io::write_all(STDOUT_FILENO, b"entries ");
-        }
-        2 => {
-            io::write_all(STDOUT_FILENO, b"mixed ");
-        }
-        _ => {
-            io::write_all(STDOUT_FILENO, b"chains ");
-        }
+        0 => rt.print("listed "),
+        1 => rt.print("entries "),
+        2 => rt.print("mixed "),
+        _ => rt.print("chains "),
     }
 }
 
-fn tell(number: u64, n: u64, run: Measured) {
+fn tell(rt: &(impl Print + Env), number: u64, n: u64, run: Measured) -> io::Result<()> {
     let done = run.done;
-    let answer = done.answer;
-    tell_name(number);
-    io::print_decimal(STDOUT_FILENO, n);
-    tell_answer(answer);
-    io::print_decimal(STDOUT_FILENO, done.record.count);
-    io::write_all(STDOUT_FILENO, b" entries, charge ");
-    io::print_decimal(STDOUT_FILENO, done.record.charge);
-    tell_time(run.micros);
+    let Record {
+        used: _,
+        count,
+        charge,
+        entry_size: _,
+    } = done.record;
+    tell_name(rt, number)?;
+    rt.print(n)?;
+    tell_answer(rt, done.answer)?;
+    print!(rt; "{count} entries, charge {charge}")?;
+    tell_time(rt, run.micros)
 }
 
 // The shape of a number from 0 to 3: n files that are listed, n that are entries, n of which every second is listed, n
@@ -303,57 +309,88 @@ fn shape_of(number: u64, n: usize) -> Shape
 }
 
 // One shape.
-fn shown(s: &mut [u8], table: &mut [u8], work: &mut [u8], number: u64, n: usize)
+fn shown(
+    rt: &(impl Print + Env + CpuClock),
+    s: &mut [u8],
+    table: &mut [u8],
+    work: &mut [u8],
+    number: u64,
+    n: usize,
+) -> io::Result<()>
     requires { (n ≤ 10000) × (800000 ≤ length s.old) × (50 + n * 110 ≤ length table.old) }
 {
     let shape = shape_of(number, n);
     let len = make_listing(s, shape);
-    let run = timed(&s[0..len], table, work, shape);
-    tell(number, n as u64, run);
+    let run = timed(rt, &s[0..len], table, work, shape);
+    tell(rt, number, n as u64, run)
 }
 
 // The four shapes of n nodes; n is a multiple of 25.
-fn shapes_of(s: &mut [u8], table: &mut [u8], work: &mut [u8], n: usize)
+fn shapes_of(
+    rt: &(impl Print + Env + CpuClock),
+    s: &mut [u8],
+    table: &mut [u8],
+    work: &mut [u8],
+    n: usize,
+) -> io::Result<()>
     requires { (n ≤ 10000) × (800000 ≤ length s.old) × (50 + n * 110 ≤ length table.old) }
 {
     for number in 0..4u64 {
-        shown(s, table, work, number, n);
+        shown(rt, s, table, work, number, n)?;
     }
+    Ok(())
 }
 
 // The same, in buffers with the room that they can take: 50 bytes for `d` and `e`, and at most 110 for a node's two
 // entries, in chains on average.
-fn fitted(s: &mut [u8], table: &mut [u8], work: &mut [u8], n: usize)
+fn fitted(
+    rt: &(impl Print + Env + CpuClock),
+    s: &mut [u8],
+    table: &mut [u8],
+    work: &mut [u8],
+    n: usize,
+) -> io::Result<()>
     requires n_bound { n ≤ 10000 }
     requires in_bounds { (800000 ≤ length s.old) × (1200000 ≤ length table.old) × (1200000 ≤ length work.old) }
 {
     let room = 50 + n * 110;
-    shapes_of(s, &mut table[0..room], &mut work[0..room], n);
+    shapes_of(rt, s, &mut table[0..room], &mut work[0..room], n)
 }
 
 // The shapes of 100 nodes, of 1,000 and of 10,000.
-fn sizes(s: &mut [u8], table: &mut [u8], work: &mut [u8])
+fn sizes(
+    rt: &(impl Print + Env + CpuClock),
+    s: &mut [u8],
+    table: &mut [u8],
+    work: &mut [u8],
+) -> io::Result<()>
     requires { (800000 ≤ length s.old) × (1200000 ≤ length table.old) × (1200000 ≤ length work.old) }
 {
     let mut n = 100;
     while n <= 10000 {
-        fitted(s, table, work, n);
+        fitted(rt, s, table, work, n)?;
         n *= 10;
     }
+    Ok(())
 }
 
-fn all(s: &mut [u8; 800000], table: &mut [u8; 1200000], work: &mut [u8; 1200000]) {
-    sizes(s, table, work);
+fn all(
+    rt: &(impl Print + Env + CpuClock),
+    s: &mut [u8; 800000],
+    table: &mut [u8; 1200000],
+    work: &mut [u8; 1200000],
+) -> io::Result<()> {
+    sizes(rt, s, table, work)
 }
 
 // The buffers stand in one function, which lends them on.
-fn held() {
+fn held(rt: &(impl Print + Env + CpuClock)) -> io::Result<()> {
     let mut s = [0u8; 800000];
     let mut table = [0u8; 1200000];
     let mut work = [0u8; 1200000];
-    all(&mut s, &mut table, &mut work);
+    all(rt, &mut s, &mut table, &mut work)
 }
 
-fn main() {
-    held();
+fn main(rt: HostRuntime) -> io::Result<()> {
+    held(&rt)
 }

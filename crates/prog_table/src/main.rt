@@ -8,6 +8,7 @@ ghost use Rattle.std.specs.Prelude.{◌≤◌};
 mod tell;
 
 use model::Record;
+use std::io;
 
 const ENTRY_SIZE: u64 = 40;
 
@@ -19,7 +20,14 @@ fn empty_listing() -> [u8; 9] {
 }
 
 // A write of n bytes of data at a path of one byte, and what is left.
-fn write(table: &mut [u8], rec: Record, work: &mut [u8], name: &[u8], n: usize) -> Record {
+fn write(
+    rt: &impl Print,
+    table: &mut [u8],
+    rec: Record,
+    work: &mut [u8],
+    name: &[u8],
+    n: usize,
+) -> io::Result<Record> {
     let listing = empty_listing();
     let data = [7u8; 512];
     if n <= 512 {
@@ -34,51 +42,58 @@ fn write(table: &mut [u8], rec: Record, work: &mut [u8], name: &[u8], n: usize) 
             NO_LIMIT,
         );
         let answer = done.answer;
-        tell::step(b"write ", name, n as u64);
-        tell::answer(answer);
-        tell::record(done.record);
-        tell::state(table_open::check(table, done.record), work);
-        return done.record;
+        tell::step(rt, b"write ", name, n as u64)?;
+        tell::answer(rt, answer)?;
+        tell::record(rt, done.record)?;
+        tell::state(rt, table_open::check(table, done.record), work)?;
+        return Ok(done.record);
     }
-    rec
+    Ok(rec)
 }
 
-fn unlink(table: &mut [u8], rec: Record, work: &mut [u8], name: &[u8]) -> Record {
+fn unlink(
+    rt: &impl Print,
+    table: &mut [u8],
+    rec: Record,
+    work: &mut [u8],
+    name: &[u8],
+) -> io::Result<Record> {
     let listing = empty_listing();
     let done = call_one_path::unlink(&listing, table, rec, work, name, NO_LIMIT);
     let answer = done.answer;
-    tell::step(b"unlink ", name, 0);
-    tell::answer(answer);
-    tell::record(done.record);
-    tell::state(table_open::check(table, done.record), work);
-    done.record
+    tell::step(rt, b"unlink ", name, 0)?;
+    tell::answer(rt, answer)?;
+    tell::record(rt, done.record)?;
+    tell::state(rt, table_open::check(table, done.record), work)?;
+    Ok(done.record)
 }
 
-fn steps() {
+fn steps(rt: &impl Print) -> io::Result<()> {
     let mut table = [255u8; 100];
     let mut work = [255u8; 100];
     let opened = table_open::open(&mut table, ENTRY_SIZE);
     let mut rec = opened.record;
-    rec = write(&mut table, rec, &mut work, b"a", 75);
-    rec = write(&mut table, rec, &mut work, b"a", 76);
-    rec = write(&mut table, rec, &mut work, b"b", 0);
-    rec = write(&mut table, rec, &mut work, b"a", 10);
-    rec = write(&mut table, rec, &mut work, b"b", 40);
-    rec = write(&mut table, rec, &mut work, b"b", 41);
-    rec = unlink(&mut table, rec, &mut work, b"b");
-    rec = write(&mut table, rec, &mut work, b"a", 50);
-    write(&mut table, rec, &mut work, b"a", 51);
+    rec = write(rt, &mut table, rec, &mut work, b"a", 75)?;
+    rec = write(rt, &mut table, rec, &mut work, b"a", 76)?;
+    rec = write(rt, &mut table, rec, &mut work, b"b", 0)?;
+    rec = write(rt, &mut table, rec, &mut work, b"a", 10)?;
+    rec = write(rt, &mut table, rec, &mut work, b"b", 40)?;
+    rec = write(rt, &mut table, rec, &mut work, b"b", 41)?;
+    rec = unlink(rt, &mut table, rec, &mut work, b"b")?;
+    rec = write(rt, &mut table, rec, &mut work, b"a", 50)?;
+    write(rt, &mut table, rec, &mut work, b"a", 51)?;
+    Ok(())
 }
 
-fn lengths() {
+fn lengths(rt: &impl Print) -> io::Result<()> {
     let mut table = [0u8; 400];
     let mut work = [0u8; 400];
-    every_length(&mut table, &mut work);
+    every_length(rt, &mut table, &mut work)
 }
 
-fn main() {
-    steps();
-    lengths();
+fn main(rt: HostRuntime) -> io::Result<()> {
+    steps(&rt)?;
+    lengths(&rt)
 }
 
 // Whether a write of n bytes of data at `a` into an empty table in this buffer is accepted.
@@ -133,14 +148,12 @@ fn tried(table: &mut [u8], work: &mut [u8], n: usize, over: usize) -> u64
 }
 
 // In each length from 25 on: data that fills the buffer, and one byte more.
-fn every_length(table: &mut [u8], work: &mut [u8]) {
+fn every_length(rt: &impl Print, table: &mut [u8], work: &mut [u8]) -> io::Result<()> {
     let mut exact: u64 = 0;
     let mut more: u64 = 0;
-    let mut n: usize = 25;
-    while n <= 400 {
+    for n in 25..401usize {
         exact += tried(table, work, n, 0);
         more += tried(table, work, n, 1);
-        n += 1;
     }
-    tell::counts(exact, more);
+    tell::counts(rt, exact, more)
 }

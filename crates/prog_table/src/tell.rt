@@ -1,65 +1,51 @@
 // What the program prints of a step.
-use libc::STDOUT_FILENO;
+use std::io;
 
-pub fn step(call: &[u8], name: &[u8], n: u64) {
-    io::write_all(STDOUT_FILENO, call);
-    io::write_all(STDOUT_FILENO, name);
-    io::write_all(STDOUT_FILENO, b" ");
-    io::print_decimal(STDOUT_FILENO, n);
-    io::write_all(STDOUT_FILENO, b": ");
+pub fn step(rt: &impl Print, call: &[u8], name: &[u8], n: u64) -> io::Result<()> {
+    rt.write_all(call)?;
+    rt.write_all(name)?;
+    print!(rt; " {n}: ")
 }
 
-pub fn answer(answer: model::Answer) {
+pub fn answer(rt: &impl Print, answer: model::Answer) -> io::Result<()> {
     match answer {
-        model::Answer::Accepted(value) => {
-            io::write_all(STDOUT_FILENO, b"accepted ");
-            io::print_decimal(STDOUT_FILENO, value);
-        }
-        model::Answer::Refused(refusal) => {
-            refused(refusal);
-        }
+        model::Answer::Accepted(value) => print!(rt; "accepted {value}"),
+        model::Answer::Refused(refusal) => refused(rt, refusal),
     }
 }
 
 // 13 is the one refusal that this program expects.
-fn refused(refusal: model::Refusal) {
+fn refused(rt: &impl Print, refusal: model::Refusal) -> io::Result<()> {
     match refusal {
-        model::Refusal::NoRoom => {
-            io::write_all(STDOUT_FILENO, b"13");
-        }
-        _ => {
-            io::write_all(STDOUT_FILENO, b"refused by another number");
-        }
+        model::Refusal::NoRoom => rt.print("13"),
+        _ => rt.print("refused by another number"),
     }
 }
 
-pub fn record(rec: model::Record) {
-    io::write_all(STDOUT_FILENO, b", used ");
-    io::print_decimal(STDOUT_FILENO, rec.used);
-    io::write_all(STDOUT_FILENO, b", count ");
-    io::print_decimal(STDOUT_FILENO, rec.count);
-    io::write_all(STDOUT_FILENO, b", charge ");
-    io::print_decimal(STDOUT_FILENO, rec.charge);
+pub fn record(rt: &impl Print, rec: model::Record) -> io::Result<()> {
+    let model::Record {
+        used,
+        count,
+        charge,
+        entry_size: _,
+    } = rec;
+    print!(rt; ", used {used}, count {count}, charge {charge}")
 }
 
 // Whether the table is well-formed with its record, and whether the work buffer is all 0.
-pub fn state(formed: bool, work: &[u8]) {
+pub fn state(rt: &impl Print, formed: bool, work: &[u8]) -> io::Result<()> {
     if formed {
-        io::write_all(STDOUT_FILENO, b", well-formed");
+        rt.print(", well-formed")?;
     } else {
-        io::write_all(STDOUT_FILENO, b", malformed");
+        rt.print(", malformed")?;
     }
     if base_fields::all_zero(work, 0) {
-        io::write_all(STDOUT_FILENO, b", work 0\n");
+        rt.println(", work 0")
     } else {
-        io::write_all(STDOUT_FILENO, b", work not 0\n");
+        rt.println(", work not 0")
     }
 }
 
-pub fn counts(exact: u64, more: u64) {
-    io::write_all(STDOUT_FILENO, b"lengths from 25 to 400 filled exactly: ");
-    io::print_decimal(STDOUT_FILENO, exact);
-    io::write_all(STDOUT_FILENO, b"; with one byte more: ");
-    io::print_decimal(STDOUT_FILENO, more);
-    io::write_all(STDOUT_FILENO, b"\n");
+pub fn counts(rt: &impl Print, exact: u64, more: u64) -> io::Result<()> {
+    println!(rt; "lengths from 25 to 400 filled exactly: {exact}; with one byte more: {more}")
 }

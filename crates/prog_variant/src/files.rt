@@ -1,49 +1,76 @@
 // Files by the names that the arguments give, read whole into a buffer.
-// What cannot be done is said on standard error.
-ghost use Rattle.std.specs.Prelude.{◌≤◌, length};
+// What cannot be done is said on standard error, which is lent.
+ghost use Rattle.std.specs.Prelude.{◌≤◌, length, IfOk};
 
+use crate::args::{NAME_SIZE, file_name};
 use crate::said;
+use std::fs::File;
+use std::io;
+use std::io::Read;
+use std::rt::{Env, Files};
 
-// Opens the file that argument i names, and answers a descriptor, or -1 with errno set, as where the name is too long.
-fn open_file(i: usize) -> i32 {
-    let mut name = io::buffer();
-    let length = os::arg(i, &mut name);
-    if os::errno() != 0 {
-        return -1;
-    }
-    os::open_read(&name[..length])
+// Opens the file that argument i names, or answers why not, as where the name is too long.
+fn open_file<R: Env + Files>(rt: &R, i: usize) -> io::Result<R::File> {
+    let mut name = [0u8; NAME_SIZE];
+    let path = file_name(rt, i, &mut name)?;
+    File::open(rt, path)
 }
 
-// What one read more answers: below 0 where the file cannot be read, as a directory.
-fn read_more(fd: i32) -> isize {
+// Reads until the buffer is full or the file ends, and answers how many bytes it put at the buffer's start.
+fn read_full(file: &mut impl Read, buf: &mut [u8]) -> io::Result<usize>
+    ensures { IfOk result (λ n. n ≤ length buf.new) }
+{
+    let mut done = 0;
+    while done < buf.len() {
+        let n = file.read(&mut buf[done..])?;
+        if n == 0 {
+            break;
+        }
+        done += n;
+    }
+    Ok(done)
+}
+
+// What one read more answers: an error where the file cannot be read, as a directory.
+fn read_more(file: &mut impl Read) -> io::Result<usize> {
     let mut one = [0u8; 1];
-    libc::read(fd, &mut one)
+    file.read(&mut one)
+}
+
+// Opens the file that argument i names, and reads it into the buffer.
+fn read_named(rt: &(impl Env + Files), i: usize, buf: &mut [u8]) -> io::Result<usize>
+    ensures { IfOk result (λ n. n ≤ length buf.new) }
+{
+    let mut file = open_file(rt, i)?;
+    let n = read_full(&mut file, buf)?;
+    read_more(&mut file)?;
+    Ok(n)
 }
 
 // Reads the file that argument i names, and answers how many of its bytes are in the buffer: none if it cannot be read,
-// is empty, or fills the buffer, since then it may go on behind it.
-pub fn read_file(i: usize, buf: &mut [u8]) -> usize
-    ensures { result ≤ length buf.new }
+// is empty, or fills the buffer, since then it may go on behind it. It is an error only where that cannot be said.
+pub fn read_file(
+    rt: &(impl Env + Files),
+    err: &impl Print,
+    i: usize,
+    buf: &mut [u8],
+) -> io::Result<usize>
+    ensures { IfOk result (λ n. n ≤ length buf.new) }
 {
-    let fd = open_file(i);
-    if fd < 0 {
-        said::unread(i, os::errno());
-        return 0;
+    match read_named(rt, i, buf) {
+        Ok(n) => {
+            if buf.len() <= n {
+                said::of_file(rt, err, i, b"has 1 MiB or more")?;
+                return Ok(0);
+            }
+            if n == 0 {
+                said::of_file(rt, err, i, b"is empty")?;
+            }
+            Ok(n)
+        }
+        Err(error) => {
+            said::unread(rt, err, i, error)?;
+            Ok(0)
+        }
     }
-    let n = io::read_full(fd, buf);
-    let more = read_more(fd);
-    let error = os::errno();
-    libc::close(fd);
-    if more < 0 {
-        said::unread(i, error);
-        return 0;
-    }
-    if buf.len() <= n {
-        said::of_file(i, b"has 1 MiB or more");
-        return 0;
-    }
-    if n == 0 {
-        said::of_file(i, b"is empty");
-    }
-    n
 }

@@ -3,109 +3,154 @@
 // is left as it is.
 ghost use Rattle.std.specs.Prelude.{◌<◌, length};
 
-use crate::args::Asked;
+use crate::args::{Asked, NAME_SIZE, count, file_name};
 use crate::{said, show, views};
 use kept_file::Writing;
-use libc::STDOUT_FILENO;
 use model::Record;
-use test_lines::text;
+use std::fs::{OpenFile, OpenOptions};
+use std::io::Write;
+use std::rt::{Env, Files};
+use std::{fs, io};
 
-// What the table holds. Where standard output cannot be written to, this line shows it, and the answer is false.
-fn show_left(rec: Record) -> bool {
-    text(b"the table holds ");
-    io::print_decimal(STDOUT_FILENO, rec.count);
-    text(b" entries in ");
-    io::print_decimal(STDOUT_FILENO, rec.used);
-    text(b" bytes, charged ");
-    io::print_decimal(STDOUT_FILENO, rec.charge);
-    show::printed(io::write_all(STDOUT_FILENO, b"\n"))
+// What the table holds. Where standard output cannot be written to, this line or one before it shows it.
+fn show_left(rt: &impl Print, rec: Record) -> io::Result<()> {
+    let Record {
+        used,
+        count,
+        charge,
+        entry_size: _,
+    } = rec;
+    println!(rt; "the table holds {count} entries in {used} bytes, charged {charge}")
 }
 
 // The length of the kept file that was written.
-fn show_length(len: u64) {
-    text(b"the kept file has ");
-    io::print_decimal(STDOUT_FILENO, len);
-    text(b" bytes");
-    show::printed(io::write_all(STDOUT_FILENO, b"\n"));
+fn show_length(rt: &impl Print, len: u64) -> io::Result<()> {
+    println!(rt; "the kept file has {len} bytes")
 }
 
-// Makes the file that argument i names, and answers a descriptor, or -1 with errno set, as where there is one already.
-fn make_file(i: usize) -> i32 {
-    let mut name = io::buffer();
-    let length = os::arg(i, &mut name);
-    if os::errno() != 0 {
-        return -1;
-    }
-    os::create(&name[..length])
+// Makes the file that argument i names, or answers why not, as where there is one already.
+fn make_file<R: Env + Files>(rt: &R, i: usize) -> io::Result<R::File> {
+    let mut name = [0u8; NAME_SIZE];
+    let path = file_name(rt, i, &mut name)?;
+    OpenOptions::new()
+        .write(true)
+        .create_new(true)
+        .open(rt, path)
 }
 
-// Removes the file that argument i names, and answers 0, or -1.
-fn remove_file(i: usize) -> i32 {
-    let mut name = io::buffer();
-    let length = os::arg(i, &mut name);
-    os::unlink(&name[..length])
+// Removes the file that argument i names.
+fn remove_file(rt: &(impl Env + Files), i: usize) -> io::Result<()> {
+    let mut name = [0u8; NAME_SIZE];
+    let path = file_name(rt, i, &mut name)?;
+    fs::remove_file(rt, path)
+}
+
+// Writes the bytes to the file, and closes it. That it has them all is asked before, since closing answers nothing.
+fn write_whole<F: Write + OpenFile + Drop>(mut file: F, bytes: &[u8]) -> io::Result<()> {
+    file.write_all(bytes)?;
+    file.sync_all()
 }
 
 // Writes the bytes to a new file that argument i names, and answers whether it has them. A file that does not get them
 // all is removed; one that was there before is left as it is.
-fn write_file(i: usize, bytes: &[u8]) -> bool {
-    let fd = make_file(i);
-    if fd < 0 {
-        said::unmade(i, os::errno());
-        return false;
+fn write_file(
+    rt: &(impl Env + Files),
+    err: &impl Print,
+    i: usize,
+    bytes: &[u8],
+) -> io::Result<bool> {
+    match make_file(rt, i) {
+        Ok(file) => {
+            if write_whole(file, bytes).is_ok() {
+                return Ok(true);
+            }
+        }
+        Err(error) => {
+            said::unmade(rt, err, i, error)?;
+            return Ok(false);
+        }
     }
-    let whole = io::write_all(fd, bytes);
-    let closed = libc::close(fd);
-    if whole & (closed == 0) {
-        return true;
-    }
-    if remove_file(i) == 0 {
-        said::of_file(i, b"could not be written whole, and is removed");
+    if remove_file(rt, i).is_ok() {
+        said::of_file(rt, err, i, b"could not be written whole, and is removed")?;
     } else {
-        said::of_file(i, b"could not be written whole, and could not be removed");
+        said::of_file(
+            rt,
+            err,
+            i,
+            b"could not be written whole, and could not be removed",
+        )?;
     }
-    false
+    Ok(false)
 }
 
 // Makes the kept file in the output, writes it to the file that argument i names, and shows its length.
-fn write_kept(i: usize, listing: &[u8], table: &[u8], rec: Record, output: &mut [u8]) {
+fn write_kept(
+    rt: &(impl Env + Files + Print),
+    err: &impl Print,
+    i: usize,
+    listing: &[u8],
+    table: &[u8],
+    rec: Record,
+    output: &mut [u8],
+) -> io::Result<()> {
     let writing = kept_write::write(listing, table, rec, output);
     match writing {
         Writing::Done(len) => {
             let n = len as usize;
-            if write_file(i, &output[..n]) {
-                show_length(len);
+            if write_file(rt, err, i, &output[..n])? {
+                show::printed(err, show_length(rt, len).is_ok())?;
             }
+            Ok(())
         }
-        Writing::NoRoom => {
-            said::of_file(i, b"would have 1 MiB or more, and is not written");
-        }
+        Writing::NoRoom => said::of_file(
+            rt,
+            err,
+            i,
+            b"would have 1 MiB or more, and is not written",
+        ),
         Writing::MalformedTable | Writing::MalformedListing | Writing::OtherEntrySize => {
-            said::of_file(i, b"cannot be made of what the run left");
+            said::of_file(rt, err, i, b"cannot be made of what the run left")
         }
     }
 }
 
 // Keeps what the run left, if argument i is there. A plan that fills its buffer is not taken, so the kept file may not
 // fill the work buffer, which is as long: whatever is kept can be given as a plan.
-fn keep(i: usize, listing: &[u8], table: &[u8], rec: Record, work: &mut [u8])
+fn keep(
+    rt: &(impl Env + Files + Print),
+    err: &impl Print,
+    i: usize,
+    listing: &[u8],
+    table: &[u8],
+    rec: Record,
+    work: &mut [u8],
+) -> io::Result<()>
     requires { 0 < length work.old }
 {
-    if os::arg_count() <= i {
-        return;
+    if count(rt) <= i {
+        return Ok(());
     }
     let most = work.len() - 1;
-    write_kept(i, listing, table, rec, &mut work[..most]);
+    write_kept(rt, err, i, listing, table, rec, &mut work[..most])
 }
 
 // Shows what the run left, and keeps it. Where standard output cannot be written to, nothing is kept.
-pub fn show_and_keep(asked: Asked, listing: &[u8], table: &[u8], rec: Record, work: &mut [u8])
+pub fn show_and_keep(
+    rt: &(impl Env + Files + Print),
+    err: &impl Print,
+    asked: Asked,
+    listing: &[u8],
+    table: &[u8],
+    rec: Record,
+    work: &mut [u8],
+) -> io::Result<()>
     requires { 0 < length work.old }
 {
-    if !show_left(rec) {
-        return;
+    if !show::printed(err, show_left(rt, rec).is_ok())? {
+        return Ok(());
     }
-    if views::show(asked, listing, table, rec) {
-        keep(asked.kept, listing, table, rec, work);
+    if views::show(rt, err, asked, listing, table, rec)? {
+        keep(rt, err, asked.kept, listing, table, rec, work)?;
     }
+    Ok(())
 }

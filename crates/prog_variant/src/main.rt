@@ -5,8 +5,8 @@
 // file, which gets the kept file of the table after the last call. Each of the files has less than 1 MiB, the table
 // 1 MiB, and the report room for 32,768 calls. The five buffers of 1 MiB are locals: the program needs a stack of
 // 6 MiB.
-// What it does not take it says on standard error, in a line with the file's name. A program of Rattle has no exit
-// status; `tools/variant` gives one, by whether anything was said there.
+// What it does not take it says on standard error, in a line with the file's name, and its exit status is 0 all the same,
+// but where standard error cannot be written to; `tools/variant` gives one, by whether anything was said there.
 #![tactic(auto)]
 
 mod args;
@@ -21,9 +21,13 @@ ghost use Rattle.std.specs.Prelude.{◌<◌, length};
 use crate::args::Asked;
 use kept_file::Reading;
 use run_calls::RanNew;
+use std::io;
+use std::rt::{Env, Files};
 
 // Shows what was run, and keeps what it left; or says why it was not run.
 fn finish(
+    rt: &(impl Env + Files + Print),
+    err: &impl Print,
     asked: Asked,
     ran: RanNew,
     listing: &[u8],
@@ -31,54 +35,58 @@ fn finish(
     table: &[u8],
     work: &mut [u8],
     report: &[u8],
-)
+) -> io::Result<()>
     requires { 0 < length work.old }
 {
     match ran {
         RanNew::Done(rec) => {
-            show::calls(script, report);
-            keep::show_and_keep(asked, listing, table, rec, work);
+            let shown = show::calls(rt, script, report).is_ok();
+            if show::printed(err, shown)? {
+                keep::show_and_keep(rt, err, asked, listing, table, rec, work)?;
+            }
+            Ok(())
         }
         RanNew::MalformedScript => {
-            said::no_script(asked.script, run_script::wrong_from(script));
+            said::no_script(rt, err, asked.script, run_script::wrong_from(script))
         }
         RanNew::ShortReport => {
-            said::of_file(asked.script, b"has more than 32,768 calls");
+            said::of_file(rt, err, asked.script, b"has more than 32,768 calls")
         }
-        RanNew::MalformedTable => {
-            said::text(b"variant: the table could not be opened\n");
-        }
+        RanNew::MalformedTable => { said::text(err, b"variant: the table could not be opened\n") }
     }
 }
 
 // Begins with an empty table over a listing. The contract of `run_new` has demand 3 in it.
 fn begin(
+    rt: &(impl Env + Files + Print),
+    err: &impl Print,
     asked: Asked,
     listing: &[u8],
     script: &[u8],
     table: &mut [u8],
     work: &mut [u8],
     report: &mut [u8],
-)
+) -> io::Result<()>
     requires { 0 < length work.old }
 {
     if !listing_check::check(listing) {
-        said::of_file(asked.plan, b"is not a listing");
-        return;
+        return said::of_file(rt, err, asked.plan, b"is not a listing");
     }
     let ran = run_calls::run_new(listing, kept_file::ENTRY_SIZE, table, work, script, report);
-    finish(asked, ran, listing, script, table, work, report);
+    finish(rt, err, asked, ran, listing, script, table, work, report)
 }
 
 // Goes on from a kept file.
 fn go_on(
+    rt: &(impl Env + Files + Print),
+    err: &impl Print,
     asked: Asked,
     file: &[u8],
     script: &[u8],
     table: &mut [u8],
     work: &mut [u8],
     report: &mut [u8],
-)
+) -> io::Result<()>
     requires { 0 < length work.old }
 {
     let reading = kept_read::read(file, table);
@@ -88,6 +96,8 @@ fn go_on(
             let listing = kept_read::listing_part(file);
             let ran = run_calls::run(listing, table, rec, work, script, report);
             finish(
+                rt,
+                err,
                 asked,
                 run_calls::as_new(ran),
                 listing,
@@ -95,19 +105,19 @@ fn go_on(
                 table,
                 work,
                 report,
-            );
+            )
         }
         Reading::NotKept => {
             said::of_file(
+                rt,
+                err,
                 asked.plan,
                 b"is a kept file of another version, or too short to name one",
-            );
+            )
         }
-        Reading::Damaged => {
-            said::of_file(asked.plan, b"is a damaged kept file");
-        }
+        Reading::Damaged => { said::of_file(rt, err, asked.plan, b"is a damaged kept file") }
         Reading::NoRoom | Reading::LongTable => {
-            said::of_file(asked.plan, b"does not go into the table's buffer");
+            said::of_file(rt, err, asked.plan, b"does not go into the table's buffer")
         }
     }
 }
@@ -123,73 +133,93 @@ fn is_kept(plan: &[u8]) -> bool {
 
 // Runs what the files hold, and shows it.
 fn run_files(
+    rt: &(impl Env + Files + Print),
+    err: &impl Print,
     asked: Asked,
     plan: &[u8],
     script: &[u8],
     table: &mut [u8],
     work: &mut [u8],
     report: &mut [u8],
-)
+) -> io::Result<()>
     requires { 0 < length work.old }
 {
     if is_kept(plan) {
-        go_on(asked, plan, script, table, work, report);
+        go_on(rt, err, asked, plan, script, table, work, report)
     } else {
-        begin(asked, plan, script, table, work, report);
+        begin(rt, err, asked, plan, script, table, work, report)
     }
 }
 
 fn read_and_run(
+    rt: &(impl Env + Files + Print),
+    err: &impl Print,
     asked: Asked,
     plan: &mut [u8],
     script: &mut [u8],
     table: &mut [u8],
     work: &mut [u8],
     report: &mut [u8],
-)
+) -> io::Result<()>
     requires { 0 < length work.old }
 {
-    let n = files::read_file(asked.plan, plan);
-    let m = files::read_file(asked.script, script);
+    let n = files::read_file(rt, err, asked.plan, plan)?;
+    let m = files::read_file(rt, err, asked.script, script)?;
     if (n == 0) | (m == 0) {
-        return;
+        return Ok(());
     }
-    run_files(asked, &plan[..n], &script[..m], table, work, report);
+    run_files(
+        rt,
+        err,
+        asked,
+        &plan[..n],
+        &script[..m],
+        table,
+        work,
+        report,
+    )
 }
 
 fn run_in(
+    rt: &(impl Env + Files + Print),
+    err: &impl Print,
     asked: Asked,
     plan: &mut [u8; 1048576],
     script: &mut [u8; 1048576],
     table: &mut [u8; 1048576],
     work: &mut [u8; 1048576],
     report: &mut [u8; 1048576],
-) {
-    read_and_run(asked, plan, script, table, work, report);
+) -> io::Result<()> {
+    read_and_run(rt, err, asked, plan, script, table, work, report)
 }
 
 // The buffers stand in one function, which lends them on.
-fn held(asked: Asked) {
+fn held(rt: &(impl Env + Files + Print), err: &impl Print, asked: Asked) -> io::Result<()> {
     let mut plan = [0u8; 1048576];
     let mut script = [0u8; 1048576];
     let mut table = [0u8; 1048576];
     let mut work = [0u8; 1048576];
     let mut report = [0u8; 1048576];
     run_in(
+        rt,
+        err,
         asked,
         &mut plan,
         &mut script,
         &mut table,
         &mut work,
         &mut report,
-    );
+    )
 }
 
-fn main() {
-    let asked = args::given();
+fn main(rt: HostRuntime) -> io::Result<()> {
+    let err = rt.stderr();
+    let asked = args::given(&rt);
     if !asked.right {
-        said::text(b"usage: prog_variant [--tree] [--changes] PLAN SCRIPT [KEPT]\n");
-        return;
+        return said::text(
+            &err,
+            b"usage: prog_variant [--tree] [--changes] PLAN SCRIPT [KEPT]\n",
+        );
     }
-    held(asked);
+    held(&rt, &err, asked)
 }

@@ -1,64 +1,76 @@
-// What is said on standard error: a line, with the name of the file that it is about.
-use libc::STDERR_FILENO;
+// What is said on standard error, which is lent: a line, with the name of the file that it is about.
+use crate::args::NAME_SIZE;
+use std::io;
+use std::io::{Error, ErrorKind};
+use std::rt::Env;
 
-pub fn text(s: &[u8]) {
-    io::write_all(STDERR_FILENO, s);
+// The system's number for a missing permission of the file; `ErrorKind::PermissionDenied` is for others too.
+const EACCES: i32 = 13;
+
+pub fn text(err: &impl Print, s: &[u8]) -> io::Result<()> {
+    err.write_all(s)
 }
 
 // The start of a line: the file that argument i names, or the argument's number if it is empty or too long for a name.
-fn name(i: usize) {
-    let mut name = io::buffer();
-    let length = os::arg(i, &mut name);
-    text(b"variant: ");
+fn name(rt: &impl Env, err: &impl Print, i: usize) -> io::Result<()> {
+    let mut name = [0u8; NAME_SIZE];
+    let length = rt.arg(i, &mut name).unwrap_or(0);
+    text(err, b"variant: ")?;
     if length == 0 {
-        text(b"argument ");
-        io::print_decimal(STDERR_FILENO, i as u64);
+        text(err, b"argument ")?;
+        err.print(i)?;
     }
-    test_lines::bytes(STDERR_FILENO, &name[..length]);
-    text(b": ");
+    test_lines::bytes(err, &name[..length])?;
+    text(err, b": ")
 }
 
 // That the file that argument i names is not taken, and why.
-pub fn of_file(i: usize, why: &[u8]) {
-    name(i);
-    text(why);
-    text(b"\n");
+pub fn of_file(rt: &impl Env, err: &impl Print, i: usize, why: &[u8]) -> io::Result<()> {
+    name(rt, err, i)?;
+    text(err, why)?;
+    text(err, b"\n")
 }
 
-// That it could not be read, by the error's number.
-pub fn unread(i: usize, error: i32) {
-    if (error == libc::ENOENT) | (error == libc::ENOTDIR) {
-        of_file(i, b"there is no such file");
-    } else if error == libc::EISDIR {
-        of_file(i, b"is a directory");
-    } else if error == libc::EACCES {
-        of_file(i, b"may not be read");
-    } else if error == libc::ENAMETOOLONG {
-        of_file(i, b"has too long a name");
+fn is_forbidden(error: Error) -> bool {
+    error.raw_os_error() == Some(EACCES)
+}
+
+// That it could not be read, by the error.
+pub fn unread(rt: &impl Env, err: &impl Print, i: usize, error: Error) -> io::Result<()> {
+    let kind = error.kind();
+    if (kind == ErrorKind::NotFound) | (kind == ErrorKind::NotADirectory) {
+        of_file(rt, err, i, b"there is no such file")
+    } else if kind == ErrorKind::IsADirectory {
+        of_file(rt, err, i, b"is a directory")
+    } else if is_forbidden(error) {
+        of_file(rt, err, i, b"may not be read")
+    } else if kind == ErrorKind::InvalidFilename {
+        of_file(rt, err, i, b"has too long a name")
     } else {
-        of_file(i, b"cannot be read");
+        of_file(rt, err, i, b"cannot be read")
     }
 }
 
-// That it could not be made, by the error's number.
-pub fn unmade(i: usize, error: i32) {
-    if error == libc::EEXIST {
-        of_file(i, b"is there already, and is not written over");
-    } else if (error == libc::ENOENT) | (error == libc::ENOTDIR) {
-        of_file(i, b"there is no such folder");
-    } else if (error == libc::EACCES) | (error == libc::EROFS) {
-        of_file(i, b"may not be written");
-    } else if error == libc::ENAMETOOLONG {
-        of_file(i, b"has too long a name");
+// That it could not be made, by the error.
+pub fn unmade(rt: &impl Env, err: &impl Print, i: usize, error: Error) -> io::Result<()> {
+    let kind = error.kind();
+    if kind == ErrorKind::AlreadyExists {
+        of_file(rt, err, i, b"is there already, and is not written over")
+    } else if (kind == ErrorKind::NotFound) | (kind == ErrorKind::NotADirectory) {
+        of_file(rt, err, i, b"there is no such folder")
+    } else if is_forbidden(error) | (kind == ErrorKind::ReadOnlyFilesystem) {
+        of_file(rt, err, i, b"may not be written")
+    } else if kind == ErrorKind::InvalidFilename {
+        of_file(rt, err, i, b"has too long a name")
     } else {
-        of_file(i, b"cannot be written");
+        of_file(rt, err, i, b"cannot be written")
     }
 }
 
 // That it is no script, and where it goes wrong.
-pub fn no_script(i: usize, at: usize) {
-    name(i);
-    text(b"is not a script: wrong at byte ");
-    io::print_decimal(STDERR_FILENO, at as u64);
-    text(b", counted from 0\n");
+pub fn no_script(rt: &impl Env, err: &impl Print, i: usize, at: usize) -> io::Result<()> {
+    name(rt, err, i)?;
+    text(err, b"is not a script: wrong at byte ")?;
+    err.print(at)?;
+    text(err, b", counted from 0\n")
 }

@@ -1,6 +1,6 @@
 // The tree that a run leaves, and what it changed against the published plan, where the arguments ask for them (#102).
 // What the run left is checked here, and what is behind stands on that.
-ghost use Rattle.std.specs.Prelude.{◌≡◌, true, false, ◌||◌, ◌≤◌};
+ghost use Rattle.std.specs.Prelude.{◌≡◌, true, false, ◌||◌, ◌≤◌, Ok};
 ghost use Rattle.model.specs.Listing.{is_listing};
 ghost use Rattle.model.specs.Table.{is_table};
 ghost use Rattle.view_merge.specs.Merges.{Merging};
@@ -8,44 +8,45 @@ ghost use Rattle.test_lines.specs.Totals.{total};
 
 use crate::args::Asked;
 use crate::{said, show};
-use libc::STDOUT_FILENO;
 use model::Record;
-use test_lines::{Counts, text};
+use std::io;
+use test_lines::Counts;
 use view_merge::Merge;
 
-// Every visible path; false where standard output cannot be written to.
-fn tree(own: &[u8], part: &[u8], first: Merge, counts: Counts) -> bool
+// Every visible path.
+fn tree(rt: &impl Print, own: &[u8], part: &[u8], first: Merge, counts: Counts) -> io::Result<()>
     requires merging { Merging own.now part.now first }
     requires counts_bound { total counts ≤ 0x1_0000_0000 }
 {
-    text(b"the tree has ");
-    io::print_decimal(STDOUT_FILENO, counts.same + counts.new + counts.changed);
-    text(b" paths:");
-    if !show::printed(io::write_all(STDOUT_FILENO, b"\n")) {
-        return false;
-    }
-    show::printed(test_lines::print_lines(own, part, first, false))
+    let paths = counts.same + counts.new + counts.changed;
+    println!(rt; "the tree has {paths} paths:")?;
+    test_lines::print_lines(rt, own, part, first, false)
 }
 
 // Every path whose mark is a change.
-fn changes(own: &[u8], part: &[u8], first: Merge, counts: Counts) -> bool
+fn changes(rt: &impl Print, own: &[u8], part: &[u8], first: Merge, counts: Counts) -> io::Result<()>
     requires { Merging own.now part.now first }
 {
-    text(b"against the published plan ");
-    io::print_decimal(STDOUT_FILENO, counts.new);
-    text(b" paths are new, ");
-    io::print_decimal(STDOUT_FILENO, counts.gone);
-    text(b" gone, ");
-    io::print_decimal(STDOUT_FILENO, counts.changed);
-    text(b" changed:");
-    if !show::printed(io::write_all(STDOUT_FILENO, b"\n")) {
-        return false;
-    }
-    show::printed(test_lines::print_lines(own, part, first, true))
+    let Counts {
+        same: _,
+        new,
+        gone,
+        changed,
+    } = counts;
+    println!(rt;
+        "against the published plan {new} paths are new, {gone} gone, {changed} changed:"
+    )?;
+    test_lines::print_lines(rt, own, part, first, true)
 }
 
 // The marks are counted once, for both.
-fn show_checked(asked: Asked, listing: &[u8], table: &[u8], rec: Record) -> bool
+fn show_checked(
+    rt: &impl Print,
+    asked: Asked,
+    listing: &[u8],
+    table: &[u8],
+    rec: Record,
+) -> io::Result<()>
     requires { (is_listing listing.now ≡ true) × (is_table table.now rec ≡ true) }
 {
     let entries = table_entries::first_entry(table, rec);
@@ -56,30 +57,36 @@ fn show_checked(asked: Asked, listing: &[u8], table: &[u8], rec: Record) -> bool
     };
     let counts = test_lines::count(table, listing, first);
     if asked.tree {
-        if !tree(table, listing, first, counts) {
-            return false;
-        }
+        tree(rt, table, listing, first, counts)?;
     }
     if asked.changes {
-        return changes(table, listing, first, counts);
+        changes(rt, table, listing, first, counts)?;
     }
-    true
+    Ok(())
 }
 
 // Shows what is asked for, and answers whether it could be.
-pub fn show(asked: Asked, listing: &[u8], table: &[u8], rec: Record) -> bool
-    ensures { (asked.tree || asked.changes) ≡ false → result ≡ true }
+pub fn show(
+    rt: &impl Print,
+    err: &impl Print,
+    asked: Asked,
+    listing: &[u8],
+    table: &[u8],
+    rec: Record,
+) -> io::Result<bool>
+    ensures { (asked.tree || asked.changes) ≡ false → result ≡ Ok true }
 {
     if !(asked.tree | asked.changes) {
-        return true;
+        return Ok(true);
     }
     if !listing_check::check(listing) {
-        said::text(b"variant: the run left no listing to show\n");
-        return false;
+        said::text(err, b"variant: the run left no listing to show\n")?;
+        return Ok(false);
     }
     if !table_open::check(table, rec) {
-        said::text(b"variant: the run left no table to show\n");
-        return false;
+        said::text(err, b"variant: the run left no table to show\n")?;
+        return Ok(false);
     }
-    show_checked(asked, listing, table, rec)
+    let shown = show_checked(rt, asked, listing, table, rec).is_ok();
+    show::printed(err, shown)
 }

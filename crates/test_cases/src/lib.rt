@@ -3,18 +3,29 @@
 // stands in script.rt.
 #![tactic(auto)]
 
+use std::io;
+
 mod script;
 mod tell;
 
 // Runs a text over two listings, in a table buffer of n bytes with a work buffer of m. The buffers stand here and are
 // lent on.
-pub fn run(first: &[u8], second: &[u8], n: usize, m: usize, entry_size: u64, list: &[u8]) {
+pub fn run(
+    rt: &impl Print,
+    first: &[u8],
+    second: &[u8],
+    n: usize,
+    m: usize,
+    entry_size: u64,
+    list: &[u8],
+) -> io::Result<()> {
     let mut table = [255u8; 4096];
     let mut old = [0u8; 4096];
     let mut work = [255u8; 4096];
     if n <= 4096 {
         if m <= 4096 {
-            script::run(
+            return script::run(
+                rt,
                 first,
                 second,
                 &mut table[0..n],
@@ -25,4 +36,5 @@ pub fn run(first: &[u8], second: &[u8], n: usize, m: usize, entry_size: u64, lis
             );
         }
     }
+    Ok(())
 }

@@ -10,6 +10,7 @@ ghost use Rattle.std.specs.Prelude.{◌≤◌, length};
 use crate::tell;
 use call_values::{Kind, Order};
 use model::{Answer, Finding, Record};
+use std::io;
 
 // The mtime of every write and mkdir: the bits of 1.0. Append and writing inside have another, so that it shows that
 // they set it: the bits of 2.0.
@@ -144,6 +145,7 @@ fn given(rec: Record, wrong: u8) -> Record {
 // What a call answered, and whether it kept what it must; a refused call's record is not handed on, since it may be a
 // wrong one.
 fn reported(
+    rt: &impl Print,
     table: &[u8],
     old: &[u8],
     work: &[u8],
@@ -151,20 +153,19 @@ fn reported(
     after: Record,
     before_call: Record,
     rec: Record,
-) -> Record {
-    tell::answer(answer);
-    tell::rec(after);
+) -> io::Result<Record> {
+    tell::answer(rt, answer)?;
+    tell::rec(rt, after)?;
     match answer {
         Answer::Accepted(_) => {
-            tell::end(test_kept::is_clean(table, work, after), b", work 0\n");
-            return after;
+            let right = test_kept::is_clean(table, work, after);
+            tell::end(rt, right, b", work 0\n")?;
+            Ok(after)
         }
         Answer::Refused(_) => {
-            tell::end(
-                test_kept::is_kept(table, old, work, after, before_call),
-                b", all kept\n",
-            );
-            return rec;
+            let right = test_kept::is_kept(table, old, work, after, before_call);
+            tell::end(rt, right, b", all kept\n")?;
+            Ok(rec)
         }
     }
 }
@@ -172,6 +173,7 @@ fn reported(
 // A changing call; `second` is its data or a rename's destination, and `third` what stands behind its path: only an
 // append is lent it.
 fn change(
+    rt: &impl Print,
     listing: &[u8],
     table: &mut [u8],
     old: &mut [u8],
@@ -181,14 +183,14 @@ fn change(
     path: &[u8],
     second: &[u8],
     third: &[u8],
-) -> Record {
+) -> io::Result<Record> {
     let rec_given = given(rec, byte_at(s, 12));
     let order = order(s, third);
     test_kept::prepare(table, old, work);
     let done = call_order::make(listing, table, rec_given, work, path, second, third, order);
     let after = done.record;
     let answer = done.answer;
-    reported(table, old, work, answer, after, rec_given, rec)
+    reported(rt, table, old, work, answer, after, rec_given, rec)
 }
 
 // exists, is_file or is_dir, by the letter in which their names differ.
@@ -202,17 +204,25 @@ fn asked(listing: &[u8], table: &[u8], rec: Record, letter: u8, path: &[u8]) -> 
     call_queries::is_dir(listing, table, rec, path)
 }
 
-fn query(listing: &[u8], table: &[u8], rec: Record, s: &[u8], path: &[u8]) {
+fn query(
+    rt: &impl Print,
+    listing: &[u8],
+    table: &[u8],
+    rec: Record,
+    s: &[u8],
+    path: &[u8],
+) -> io::Result<()> {
     let rec_given = given(rec, byte_at(s, 12));
     let finding = asked(listing, table, rec_given, byte_at(s, 3), path);
-    tell::finding(finding);
-    tell::rec(rec);
-    tell::text(b"\n");
+    tell::finding(rt, finding)?;
+    tell::rec(rt, rec)?;
+    tell::text(rt, b"\n")
 }
 
 // A changing call by its columns. A write's data are sevens; what is added or written inside counts up from 1, so that
 // its order shows.
 fn change_by(
+    rt: &impl Print,
     listing: &[u8],
     table: &mut [u8],
     old: &mut [u8],
@@ -221,11 +231,11 @@ fn change_by(
     s: &[u8],
     path: &[u8],
     third: &[u8],
-) -> Record {
+) -> io::Result<Record> {
     let letter = byte_at(s, 0);
     let n = (10 * digit(s, 7) + digit(s, 8)) as usize;
     if letter == b'r' {
-        return change(listing, table, old, work, rec, s, path, third, third);
+        return change(rt, listing, table, old, work, rec, s, path, third, third);
     }
     if letter == b'w' {
         let sevens = data(
@@ -233,36 +243,37 @@ fn change_by(
             \x07\x07\x07\x07\x07\x07\x07\x07\x07\x07\x07\x07\x07\x07\x07\x07",
             n,
         );
-        return change(listing, table, old, work, rec, s, path, sevens, third);
+        return change(rt, listing, table, old, work, rec, s, path, sevens, third);
     }
     let counting = data(
         b"\x01\x02\x03\x04\x05\x06\x07\x08\x09\x0A\x0B\x0C\x0D\x0E\x0F\x10\
         \x11\x12\x13\x14\x15\x16\x17\x18\x19\x1A\x1B\x1C\x1D\x1E\x1F\x20",
         n,
     );
-    change(listing, table, old, work, rec, s, path, counting, third)
+    change(rt, listing, table, old, work, rec, s, path, counting, third)
 }
 
 fn called(
+    rt: &impl Print,
     listing: &[u8],
     table: &mut [u8],
     old: &mut [u8],
     work: &mut [u8],
     rec: Record,
     s: &[u8],
-) -> Record {
+) -> io::Result<Record> {
     if s.len() < 20 {
-        return rec;
+        return Ok(rec);
     }
-    tell::text(s);
+    tell::text(rt, s)?;
     let end = find(s, 20, b' ');
     let path = &s[20..end];
     if (byte_at(s, 0) == b'e') | (byte_at(s, 1) == b's') {
-        query(listing, table, rec, s, path);
-        return rec;
+        query(rt, listing, table, rec, s, path)?;
+        return Ok(rec);
     }
     let third = behind(s, end);
-    change_by(listing, table, old, work, rec, s, path, third)
+    change_by(rt, listing, table, old, work, rec, s, path, third)
 }
 
 fn flip(table: &mut [u8]) {
@@ -273,35 +284,37 @@ fn flip(table: &mut [u8]) {
     }
 }
 
-fn entries(table: &[u8], used: u64) {
+fn entries(rt: &impl Print, table: &[u8], used: u64) -> io::Result<()> {
     if used <= table.len() as u64 {
         let n = used as usize;
-        tell::bytes(&table[0..n]);
+        return tell::bytes(rt, &table[0..n]);
     }
+    Ok(())
 }
 
 // A title, which opens the table anew, the table's entries, or its last byte changed.
-fn marked(table: &mut [u8], rec: Record, s: &[u8]) -> Record {
-    tell::text(s);
+fn marked(rt: &impl Print, table: &mut [u8], rec: Record, s: &[u8]) -> io::Result<Record> {
+    tell::text(rt, s)?;
     let letter = byte_at(s, 0);
     if letter == b'#' {
         let opened = table_open::open(table, rec.entry_size);
         let answer = opened.answer;
-        tell::answer(answer);
-        tell::text(b"\n");
-        return opened.record;
+        tell::answer(rt, answer)?;
+        tell::text(rt, b"\n")?;
+        return Ok(opened.record);
     }
     if letter == b'+' {
-        entries(table, rec.used);
-        tell::text(b"\n");
-        return rec;
+        entries(rt, table, rec.used)?;
+        tell::text(rt, b"\n")?;
+        return Ok(rec);
     }
     flip(table);
-    tell::text(b"\n");
-    rec
+    tell::text(rt, b"\n")?;
+    Ok(rec)
 }
 
 fn item(
+    rt: &impl Print,
     first: &[u8],
     second: &[u8],
     table: &mut [u8],
@@ -309,24 +322,25 @@ fn item(
     work: &mut [u8],
     rec: Record,
     s: &[u8],
-) -> Record {
+) -> io::Result<Record> {
     let which = byte_at(s, 10);
     let n = first.len();
     if byte_at(s, 0) < b'a' {
-        return marked(table, rec, s);
+        return marked(rt, table, rec, s);
     }
     if which == b'M' {
-        return called(second, table, old, work, rec, s);
+        return called(rt, second, table, old, work, rec, s);
     }
     if which == b'X' {
         if 0 < n {
-            return called(&first[0..n - 1], table, old, work, rec, s);
+            return called(rt, &first[0..n - 1], table, old, work, rec, s);
         }
     }
-    called(first, table, old, work, rec, s)
+    called(rt, first, table, old, work, rec, s)
 }
 
 pub fn run(
+    rt: &impl Print,
     first: &[u8],
     second: &[u8],
     table: &mut [u8],
@@ -334,7 +348,7 @@ pub fn run(
     work: &mut [u8],
     entry_size: u64,
     list: &[u8],
-) {
+) -> io::Result<()> {
     let mut rec = Record {
         used: 0,
         count: 0,
@@ -344,8 +358,9 @@ pub fn run(
     let mut from = 0;
     let mut end = find(list, 0, b'|');
     while end < list.len() {
-        rec = item(first, second, table, old, work, rec, &list[from..end]);
+        rec = item(rt, first, second, table, old, work, rec, &list[from..end])?;
         from = end + 1;
         end = find(list, from, b'|');
     }
+    Ok(())
 }

@@ -1,72 +1,63 @@
 // What the program prints: texts with numbers, an answer as document 01 numbers it, and what a call left.
 // An accepted call shows its value, a refused one its number and in brackets a path and a length.
-use libc::STDOUT_FILENO;
 use model::{Answer, Finding, Record, Refusal};
+use std::io;
 
-pub fn text(s: &[u8]) {
-    io::write_all(STDOUT_FILENO, s);
+pub fn text(rt: &impl Print, s: &[u8]) -> io::Result<()> {
+    rt.write_all(s)
 }
 
 // A number behind a text.
-pub fn number(s: &[u8], n: u64) {
-    io::write_all(STDOUT_FILENO, s);
-    io::print_decimal(STDOUT_FILENO, n);
+pub fn number(rt: &impl Print, s: &[u8], n: u64) -> io::Result<()> {
+    rt.write_all(s)?;
+    rt.print(n)
 }
 
 // A refusal's number, and in brackets its path and length.
-fn refused(refusal: Refusal) {
+fn refused(rt: &impl Print, refusal: Refusal) -> io::Result<()> {
     let row = call_values::told(Answer::Refused(refusal));
-    number(b": ", row.number);
-    number(b" (", row.path);
-    number(b", ", row.len);
-    text(b")");
+    number(rt, b": ", row.number)?;
+    number(rt, b" (", row.path)?;
+    number(rt, b", ", row.len)?;
+    text(rt, b")")
 }
 
-pub fn answer(answer: Answer) {
+pub fn answer(rt: &impl Print, answer: Answer) -> io::Result<()> {
     match answer {
-        Answer::Accepted(value) => {
-            number(b": accepted ", value);
-        }
-        Answer::Refused(refusal) => {
-            refused(refusal);
-        }
+        Answer::Accepted(value) => number(rt, b": accepted ", value),
+        Answer::Refused(refusal) => refused(rt, refusal),
     }
 }
 
-pub fn finding(finding: Finding) {
+pub fn finding(rt: &impl Print, finding: Finding) -> io::Result<()> {
     match finding {
-        Finding::Yes => {
-            text(b": yes");
-        }
-        Finding::No => {
-            text(b": no");
-        }
-        Finding::Unanswered(refusal) => {
-            refused(refusal);
-        }
+        Finding::Yes => text(rt, b": yes"),
+        Finding::No => text(rt, b": no"),
+        Finding::Unanswered(refusal) => refused(rt, refusal),
     }
 }
 
-pub fn rec(rec: Record) {
-    number(b"; charge ", rec.charge);
-    number(b", entries ", rec.count);
+pub fn rec(rt: &impl Print, rec: Record) -> io::Result<()> {
+    number(rt, b"; charge ", rec.charge)?;
+    number(rt, b", entries ", rec.count)
 }
 
 // The end of a line, if what it says is so.
-pub fn end(right: bool, s: &[u8]) {
+pub fn end(rt: &impl Print, right: bool, s: &[u8]) -> io::Result<()> {
     if right {
-        text(s);
+        text(rt, s)
     } else {
-        text(b", WRONG\n");
+        text(rt, b", WRONG\n")
     }
 }
 
-fn byte(b: u8) {
-    number(b" ", b as u64);
+fn byte(rt: &impl Print, b: u8) -> io::Result<()> {
+    number(rt, b" ", b as u64)
 }
 
-pub fn bytes(s: &[u8]) {
-    for i in 0..s.len() {
-        byte(s[i]);
+pub fn bytes(rt: &impl Print, s: &[u8]) -> io::Result<()> {
+    for b in s {
+        byte(rt, *b)?;
     }
+    Ok(())
 }

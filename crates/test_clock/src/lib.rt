@@ -1,16 +1,27 @@
 // The processor time that the running program has used, for programs that tell how long a call takes.
-// The C library's clock counts microseconds, and answers -1 where it has no time to tell.
+// std's clock of the process counts nanoseconds, and answers an error where it has no time to tell.
 #![tactic(auto)]
 
 ghost use Rattle.std.specs.Prelude.{◌<◌};
 
+use std::time::CpuClock;
+
 // The processor time used so far in microseconds, or 0 where the clock fails.
-pub fn micros() -> u64
+pub fn micros(rt: &impl CpuClock) -> u64
     ensures { result < 0x8000_0000_0000_0000 }
 {
-    let t = libc::clock();
-    if t > 0 {
-        return t as u64;
+    match rt.process_cpu_time() {
+        Ok(time) => told(time.as_micros()),
+        Err(_) => 0,
+    }
+}
+
+// A time of so many microseconds; one of 2^63 or more counts as none.
+fn told(micros: u128) -> u64
+    ensures { result < 0x8000_0000_0000_0000 }
+{
+    if micros < 0x8000_0000_0000_0000 {
+        return micros as u64;
     }
     0
 }

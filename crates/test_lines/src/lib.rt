@@ -1,32 +1,42 @@
 // Lines on standard output: texts, numbers in columns, and bytes as a terminal may be given them; and, of a merge of
 // entries and records, the lines of the tree that they show and of what is not as it is listed (#102). Those assume a
-// merge over a checked table and a checked listing.
+// merge over a checked table and a checked listing. What is printed to is lent, and each gives the error of a write
+// that fails.
 #![tactic(auto)]
+
+ghost use Rattle.std.specs.Prelude.{◌<◌, ◌≤◌};
 
 mod counts;
 mod lines;
 mod shown;
 
 pub use counts::{Counts, count};
-use libc::STDOUT_FILENO;
 pub use lines::print_lines;
 pub use shown::bytes;
+use std::io;
 
-pub fn text(s: &[u8]) {
-    io::write_all(STDOUT_FILENO, s);
+pub fn text(rt: &impl Print, s: &[u8]) -> io::Result<()> {
+    rt.write_all(s)
+}
+
+// How many decimal digits a number has.
+fn digits(n: u64) -> usize {
+    match n.checked_ilog10() {
+        Some(power) => power as usize + 1,
+        None => 1,
+    }
 }
 
 // A number at the right of a column of this width. A blank stands before it however wide it is.
-pub fn column(n: u64, width: usize) {
-    let mut digits = [0u8; 20];
-    let k = io::decimal(n, &mut digits);
+pub fn column(rt: &impl Print, n: u64, width: usize) -> io::Result<()> {
+    let k = digits(n);
     let blanks = [b' '; 20];
-    text(b" ");
+    text(rt, b" ")?;
     if k < width {
         if width <= 20 {
             let from = k + 1;
-            io::write_all(STDOUT_FILENO, &blanks[from..width]);
+            rt.write_all(&blanks[from..width])?;
         }
     }
-    io::write_all(STDOUT_FILENO, &digits[..k]);
+    rt.print(n)
 }

@@ -4,6 +4,7 @@ ghost use Rattle.std.specs.Prelude.{◌≡◌, true, ◌+◌, ◌-◌, ◌≤◌
 ghost use Rattle.model.specs.Utf8.{utf8};
 
 use base_paths::{Tail, next_tail};
+use std::io;
 
 // Where the character at `at` ends. A byte that begins none, or whose character is cut short, stands alone; so what has
 // more than one byte is UTF-8.
@@ -41,23 +42,24 @@ fn is_plain(first: u8, last: u8, len: usize) -> bool {
     (first != 0xC2) | (0xA0 <= last)
 }
 
-fn character(fd: i32, s: &[u8]) {
+fn character(out: &impl Print, s: &[u8]) -> io::Result<()> {
     if s.len() == 0 {
-        return;
+        return Ok(());
     }
     let len = s.len();
     if is_plain(s[0], s[len - 1], len) {
-        io::write_all(fd, s);
+        out.write_all(s)
     } else {
-        io::write_all(fd, b"?");
+        out.write_all(b"?")
     }
 }
 
-pub fn bytes(fd: i32, s: &[u8]) {
+pub fn bytes(out: &impl Print, s: &[u8]) -> io::Result<()> {
     let mut at: usize = 0;
     while at < s.len() {
         let end = character_end(s, at);
-        character(fd, &s[at..end]);
+        character(out, &s[at..end])?;
         at = end;
     }
+    Ok(())
 }
