@@ -152,7 +152,7 @@ turn p k r e h f =
 pub done : (p : Path) (k : ℕ) → length p ≤ k → ancestors_from p k ≡ []
 done p k h = ends p (over p k h)
 
--- the path lies below what stands before a slash of it, which is then a path too (`path-ancestor` of model)
+-- the path lies below what stands before a slash of it, which is then a path too (`path_ancestor` of model)
 pub before_slash : (p : Path) (k : ℕ) → k < length p → get_or p k 0 ≡ 47 → below (take k p) p ≡ true
 before_slash [] k h e = absurd (omega arith)
 before_slash (b ∷ p) zero h e = eq-eqb b 47 e

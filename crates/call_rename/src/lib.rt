@@ -97,7 +97,8 @@ fn rename_elsewhere(
 ) -> Answered
     requires given { Given listing.now table.old rec }
     requires table_in_bounds { length table.old ≤ length work.old }
-    requires destination_value { (calls.forms (calls.rename source.now destination.now) then rename_paths (table_in table.old rec)
+    requires destination_value { (calls.forms (calls.rename source.now destination.now) then rename_paths
+        (table_in table.old rec)
         (tree_in listing.now) source.now destination.now) ≡ pass }
     requires destination_value_2 { onto_itself (shown_in listing.now table.old rec) source.now destination.now ≡ false }
     ensures { Meets (outcome listing.now (requested (calls.rename source.now

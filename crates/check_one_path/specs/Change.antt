@@ -4,7 +4,8 @@ use Rattle.std.specs.Prelude.{ℕ, length}
 use Rattle.model.specs.Path.{Path}
 use Rattle.model.specs.Map.{lookup}
 use Rattle.model.specs.Tree.{Entry, view, Table, Tree, View, shown, Kind, kind_of, kind}
-use Rattle.model.specs.Checks.{Check, ◌then◌, parent_checks, write_at, write_checks, unlink_at, unlink_checks, directory_at}
+use Rattle.model.specs.Checks.{Check, ◌then◌, parent_checks, write_at, write_checks, unlink_at, unlink_checks}
+use Rattle.model.specs.Checks.{directory_at}
 use Rattle.model.specs.Checks.{rmdir_checks}
 use Rattle.check_one_path.specs.declared.Change.{Change}
 use Rattle.check_one_path.specs.declared.Change.TheVariants.{Write, Unlink, Rmdir}

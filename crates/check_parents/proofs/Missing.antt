@@ -8,7 +8,7 @@ use lib.Dec.{eqb, ltb}
 use lib.ListN.{length, length-map, take}
 use lib.Seq.{length-take-le}
 use borrow.Author.Tests.{ltb-true, ltb-false, lt-ltb, le-leb}
-use Rattle.model.specs.Bytes.{Bytes, cons_if}
+use Rattle.model.specs.Bytes.{cons_if}
 use Rattle.model.specs.Path.{Path, components, is_path, ancestors}
 use Rattle.model.specs.Tree.{Kind, is_nothing, is_directory}
 use Rattle.model.specs.Checks.{Check, pass, ◌then◌, ancestor_at, ancestors_in, missing}

@@ -54,7 +54,8 @@ entry_size_in s = 40
 -- the entries in s up to its end, at most n of them: their count isn't written
 abbrev pub entries_up_to : Bytes → ℕ → ℕ → Table
 entries_up_to s zero at = []
-entries_up_to s (suc n) at = cond (leb (length s) at) [] ((key_at s at, entry_at s at) ∷ entries_up_to s n (entry_end s at))
+entries_up_to s (suc n) at = cond (leb (length s) at) [] ((key_at s at, entry_at s at) ∷ entries_up_to s n
+    (entry_end s at))
 
 -- "The charge isn't written either; the reader sums it."
 abbrev pub summed : ℕ → Bytes → Record

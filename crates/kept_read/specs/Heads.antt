@@ -19,7 +19,8 @@ abbrev pub heads_from : ℕ → Bytes → ℕ → ℕ → ℕ → ℕ → Summed
 heads_from E s zero at n c = Whole (filled_by E s n c)
 heads_from E s (suc left) at n c =
     cond (leb (length s) at) (Whole (filled_by E s n c)) (cond (fits s at)
-    (heads_from E s left (entry_end s at) (n + 1) (c + charge_by E (number_at s at 2) (number_at s (at + 4) 4))) Damaged)
+    (heads_from E s left (entry_end s at) (n + 1) (c + charge_by E (number_at s at 2) (number_at s (at + 4) 4)))
+    Damaged)
 
 abbrev pub heads : ℕ → Bytes → Summed
 heads E s = heads_from E s (length s) 0 0 0

@@ -1,4 +1,4 @@
--- What a call needs of the limit: 11 is given exactly where the limit is below it (proofs/Needs.antt, `need-least`).
+-- What a call needs of the limit: 11 is given exactly where the limit is below it (proofs/Needs.antt, `need_least`).
 -- It is 0 where no limit is asked for: at a call that is refused before, and at one that changes nothing.
 use Rattle.std.specs.Prelude.{cond, ℕ, ◌+◌, ◌*◌, max, ltb, length}
 use Rattle.std.proofs.Math.Option.{Option, none}

@@ -8,7 +8,7 @@ use Rattle.model.specs.Listing.{ListingRecord, record_end, ruled}
 abbrev pub fits : Bytes → ℕ → Bool
 fits s at = leb (at + 19) (length s) && leb (record_end s at) (length s)
 
--- what `formedRecord` asks of a record by itself
+-- what `formed_record` asks of a record by itself
 abbrev pub formed_alone : ListingRecord → Bool
 formed_alone r = is_path r.path && ruled r
 

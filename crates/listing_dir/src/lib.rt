@@ -1,7 +1,7 @@
 // Dir of overlay.rs: a reader that holds the lent listing and its count, with thin functions that give kind and record
 // at a path. The work is done by `kind_in` and listing_records' `find_in`, on the slice and the number; `kind_of` and
-// `find`, whose parameters are plain, serve every other caller. Assumes bytes that are a listing: only this repository's
-// crates call, after a check.
+// `find`, whose parameters are plain, serve every other caller. Assumes bytes that are a listing: only the crates of
+// this repository call, after a check.
 #![tactic(auto)]
 
 ghost use Rattle.std.specs.Prelude.{◌≡◌, true};

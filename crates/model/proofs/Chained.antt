@@ -1,5 +1,5 @@
 -- Demand 3 and POSIX for whoever makes calls one after the other and hands the table on: what was seen is what the list of calls has.
--- Assumes what `demand-3` does: the listing's elements are bytes, and mtime arguments have 64 bits.
+-- Assumes what `demand_3` does: the listing's elements are bytes, and mtime arguments have 64 bits.
 use mathlib.Core.Path.{◌≡◌, refl, ap, sym, ◌∙◌, subst}
 use mathlib.Core.List.{List, [], ◌∷◌, ◌++◌}
 use Prim.Native.Nat.{ℕ}

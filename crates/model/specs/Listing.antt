@@ -1,5 +1,6 @@
 -- Document 01, "Paths and the published tree": the listing's bytes, its rules, and the tree that it gives.
-use Rattle.std.specs.Prelude.{Bool, cond, ◌&&◌, ◌||◌, List, [], ◌∷◌, ℕ, zero, suc, ◌+◌, ltb, leb, eqb, length, take, drop, get_or}
+use Rattle.std.specs.Prelude.{Bool, cond, ◌&&◌, ◌||◌, List, [], ◌∷◌, ℕ, zero, suc, ◌+◌, ltb, leb, eqb, length}
+use Rattle.std.specs.Prelude.{take, drop, get_or}
 use Rattle.model.specs.Bytes.{Bytes, every, number_at, same}
 use Rattle.model.specs.Path.{Path, is_path, ancestors}
 use Rattle.model.specs.Map.{lookup, ascends}

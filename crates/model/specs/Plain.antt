@@ -1,5 +1,5 @@
 -- Document 01, "The list of calls and the plain tree". The plain tree reads neither entries nor record; from an opening
--- on it begins as the listing's tree (`treeIn`), from any other table as the tree that the table shows.
+-- on it begins as the listing's tree (`tree_in`), from any other table as the tree that the table shows.
 use Rattle.std.specs.Prelude.{cond, [], ◌∷◌, ℕ, length}
 use Rattle.std.proofs.Math.Option.{Option, none, some}
 use Rattle.model.specs.Bytes.{Bytes, same}

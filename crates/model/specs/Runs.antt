@@ -72,7 +72,8 @@ moved_to n x = record {
 -- #108, #111: "tables that our calls built": what an accepted opening gave, what a call, accepted or refused, left of
 -- such a table, and (#101) such a table written to a file and read again, into a buffer that it fits
 pub data Built (listing : Bytes) (E : ℕ) : State → Type 0 where
-  by_opening : (buffer : Bytes) (v : ℕ) → (opened E buffer).reply ≡ accepted v → Built listing E (begin listing E buffer)
+  by_opening : (buffer : Bytes) (v : ℕ) → (opened E buffer).reply ≡ accepted v
+      → Built listing E (begin listing E buffer)
   by_call : (x : State) (q : Request) → WordedCall q.call → Built listing E x → Built listing E (step listing q x)
   by_reading : (x : State) (n : ℕ) → x.store.rec.used ≤ n → n ≤ 16777216 → Built listing E x
       → Built listing E (moved_to n x)

@@ -1,5 +1,6 @@
 -- Document 01, "The table and its charge": the table's bytes, its record and its charge.
-use Rattle.std.specs.Prelude.{Bool, true, cond, ◌&&◌, [], ◌∷◌, ◌++◌, ℕ, zero, suc, ◌+◌, ◌*◌, ◌/◌, ◌-◌, min, leb, ltb, eqb, length, take, drop, replicate}
+use Rattle.std.specs.Prelude.{Bool, true, cond, ◌&&◌, [], ◌∷◌, ◌++◌, ℕ, zero, suc, ◌+◌, ◌*◌, ◌/◌, ◌-◌, min, leb}
+use Rattle.std.specs.Prelude.{ltb, eqb, length, take, drop, replicate}
 use Rattle.model.specs.Bytes.{Bytes, every, number_at, bytes, same}
 use Rattle.model.specs.Path.{Path, is_path}
 use Rattle.model.specs.Map.{ascends}
@@ -67,7 +68,7 @@ charge_sum E [] = 0
 charge_sum E (x ∷ xs) = entry_charge E x.0 x.1 + charge_sum E xs
 
 -- #107: "A rounded length or sum that would pass 2^64 − 1 counts as 2^64 − 1": cut once, at the end, since a cut on the
--- way there changes nothing (`cut-on-the-way`)
+-- way there changes nothing (`cut_on_the_way`)
 abbrev pub capped : ℕ → ℕ
 capped n = min n 0xFFFF_FFFF_FFFF_FFFF
 
@@ -75,7 +76,7 @@ abbrev pub charge : ℕ → Table → ℕ
 charge E t = capped (charge_sum E t)
 
 -- "The record by value holds bytes used, count, charge and E": the sum itself, which for a table is never cut
--- (`charge-exact`)
+-- (`charge_exact`)
 abbrev pub record_of : ℕ → Table → Record
 record_of E t = record { used = length (encode t); count = length t; charge = charge_sum E t; entry_size = E }
 

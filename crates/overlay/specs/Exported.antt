@@ -14,7 +14,8 @@ use Rattle.show_names.specs.Names.{showing}
 use Rattle.least_rename.specs.declared.Report.{Report}
 use Rattle.least_rename.specs.Reports.{Reports, told_report}
 use Rattle.kept_file.specs.Kept.{written, read_back}
-use Rattle.overlay_packed.specs.Packed.{packed, numbers, record_in, ran_number, ran_numbers, content_numbers, content_place}
+use Rattle.overlay_packed.specs.Packed.{packed, numbers, record_in, ran_number, ran_numbers, content_numbers}
+use Rattle.overlay_packed.specs.Packed.{content_place}
 use Rattle.overlay_packed.specs.Packed.{report_numbers}
 
 abbrev pub is_four : List ℕ → Bool

@@ -210,7 +210,8 @@ fn list_differs(
 // Where the parts of the list at `at` begin, by the lengths at its head, and where it ends.
 fn parts_at(sample: &[u8], at: usize) -> Parts
     requires { at + 16 ≤ length sample.now }
-    ensures listing_le_script { (result.listing ≤ result.script) × (result.script ≤ result.rows) × (result.rows ≤ result.left) × (result.left ≤ result.to) }
+    ensures listing_le_script { (result.listing ≤ result.script) × (result.script ≤ result.rows)
+        × (result.rows ≤ result.left) × (result.left ≤ result.to) }
     ensures left_bound { result.left < result.rows + 0x1_0000_0000 }
 {
     let listing = at + LIST_HEAD;

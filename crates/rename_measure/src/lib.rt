@@ -208,7 +208,8 @@ pub fn measure_moves<'a>(
     requires standing { Standing own.now count 0 }
     requires count_value { entries_at own.now count 0 ≡ only (below source.now) (table_in table.now rec) }
     requires part_below { PartBelow part.now source.now records }
-    requires destination_nonzero { (0 < length destination.now) × (length destination.now ≤ 512) × (first_len ≤ 16777216) }
+    requires destination_nonzero { (0 < length destination.now) × (length destination.now ≤ 512)
+        × (first_len ≤ 16777216) }
     ensures moved { (l : Tree) (e : Entry) → ascends [] l ≡ true → tree_at part.now records 0
         ≡ only (below source.now) l → length (body_of e) ≡ first_len → Moved rec.entry_size
         (table_in table.now rec) (rekey source.now destination.now
@@ -284,7 +285,8 @@ fn moves_below<'a>(
 ) -> Moves
     requires listing_value { is_listing listing.now ≡ true }
     requires rec_value { is_table table.now rec ≡ true }
-    requires destination_nonzero { (0 < length destination.now) × (length destination.now ≤ 512) × (first_len ≤ 16777216) }
+    requires destination_nonzero { (0 < length destination.now) × (length destination.now ≤ 512)
+        × (first_len ≤ 16777216) }
     ensures moved { (e : Entry) → length (body_of e) ≡ first_len → Moved rec.entry_size
         (table_in table.now rec) (rekey source.now destination.now
         ((source.now, e) ∷ carried_below (table_in table.now rec) (tree_in listing.now)
@@ -365,7 +367,8 @@ fn all_moves<'a>(
 ) -> Moves
     requires listing_value { is_listing listing.now ≡ true }
     requires rec_value { is_table table.now rec ≡ true }
-    requires destination_nonzero { (0 < length destination.now) × (length destination.now ≤ 512) × (first_len ≤ 16777216) }
+    requires destination_nonzero { (0 < length destination.now) × (length destination.now ≤ 512)
+        × (first_len ≤ 16777216) }
     requires source { Source (table_in table.now rec) (tree_in listing.now) source.now whole }
     requires e_len { (e : Entry) → lookup (puts (table_in table.now rec) (mapped as_entry
         (only (uncovered (table_in table.now rec) source.now) (tree_in listing.now)))) source.now ≡ some e

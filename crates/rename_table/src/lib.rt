@@ -30,7 +30,8 @@ pub fn write_move(
         a_file }
     requires source_value_2 { every short (keys (rekey source.now destination.now (carried (table_in table.old rec)
         (tree_in listing.now) source.now))) ≡ true }
-    requires destination_in_bounds { length (encode (moved (table_in table.old rec) (tree_in listing.now) source.now destination.now))
+    requires destination_in_bounds { length (encode (moved (table_in table.old rec) (tree_in listing.now)
+        source.now destination.now))
         ≤ length table.old }
     requires table_in_bounds { length table.old ≤ length work.old }
     ensures table_after { table.new ≡ padded (length table.old)

@@ -20,7 +20,7 @@ use Rattle.model.proofs.Orders.{Lt, Lt_trans, Lt-≢, same_no, same_refl, bot, a
 use Rattle.model.proofs.Maps.{Above, Ascending, ascends_is, is_ascends, lookup_low}
 use Rattle.model.proofs.Rules.{below_length}
 use Rattle.base_fields.proofs.Common.{before_Lt, Lt_before, not_before}
-use Rattle.listing_records.specs.Place.{tree_at, Standing}
+use Rattle.listing_records.specs.Place.{tree_at}
 use Rattle.listing_records.specs.declared.Place as listing
 use Rattle.listing_records.proofs.Places.{stands, first_record, climbs}
 use Rattle.table_entries.specs.Place.{Sought}

@@ -10,7 +10,8 @@ use Rattle.model.specs.Rename.{uncovered}
 
 -- the path p was read last, and the flags of its fronts that are listed in l are right
 pub record Covering (t : Table) (a : Path) (l : Tree) (f : List Bool) (p : Path) : Type 0 where
-  pub flag : (k : ℕ) → k ≤ length p → is_none (lookup l (take k p)) ≡ false → get_or f k false ≡ uncovered t a (take k p)
+  pub flag : (k : ℕ) → k ≤ length p → is_none (lookup l (take k p)) ≡ false → get_or f k false
+      ≡ uncovered t a (take k p)
 
 -- the path q is read behind p: it lies below a, nothing listed is between p and q, and every path between a and q is
 -- listed

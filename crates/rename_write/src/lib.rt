@@ -606,7 +606,8 @@ pub fn write_ordered(
         (tree_in listing.now) source.now) ≡ true }
     requires destination_value { ascends [] (ordered whole (table_in table.old rec) (tree_in listing.now) source.now
         destination.now) ≡ true }
-    requires rec_in_bounds { length (encode (into (ordered whole (table_in table.old rec) (tree_in listing.now) source.now
+    requires rec_in_bounds { length (encode (into (ordered whole (table_in table.old rec) (tree_in listing.now)
+        source.now
         destination.now) (table_in table.old rec))) ≤ length table.old }
     requires table_in_bounds { length table.old ≤ length work.old }
     ensures table_after { table.new ≡ padded (length table.old)

@@ -1,4 +1,4 @@
--- The script that a list of calls, each with its limit, is written as; `stepsIn` of Script.antt reads the list again.
+-- The script that a list of calls, each with its limit, is written as; `steps_in` of Script.antt reads the list again.
 -- And which steps can be written: those whose numbers fit their fields.
 use Rattle.std.specs.Prelude.{Bool, true, false, cond, ◌&&◌, ◌||◌, List, [], ◌∷◌, ◌++◌, ℕ, ◌+◌, ltb, length}
 use Rattle.model.specs.Bytes.{Bytes, bytes}

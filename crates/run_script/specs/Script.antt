@@ -1,6 +1,7 @@
 -- A script: a list of changing calls, each with its limit, as bytes. Which bytes are one, and the calls that stand in
 -- it. A script has one of two marks: TSC1, for document 01's calls, or TSC2, for all; `two` says that it is TSC2.
-use Rattle.std.specs.Prelude.{Bool, true, false, cond, ◌&&◌, ◌||◌, List, [], ◌∷◌, ℕ, zero, suc, ◌+◌, ◌/◌, ◌%◌, ltb, leb, eqb, length, take, drop, get_or}
+use Rattle.std.specs.Prelude.{Bool, true, false, cond, ◌&&◌, ◌||◌, List, [], ◌∷◌, ℕ, zero, suc, ◌+◌, ◌/◌, ◌%◌}
+use Rattle.std.specs.Prelude.{ltb, leb, eqb, length, take, drop, get_or}
 use Rattle.model.specs.Bytes.{Bytes, number_at, same}
 use Rattle.model.specs.Calls.{Call}
 use Rattle.call_values.specs.declared.Kind.{Kind}
@@ -132,7 +133,8 @@ fits two s at = leb (at + step_head two) (length s) && leb (step_end two s at) (
 -- its numbers go together
 unfoldable pub headed : Bool → Bytes → ℕ → Bool
 headed two s at =
-    ruled two (kind_at s at) (flags_at s at) (second_length s at) (mtime_at s at) (offset_at two s at) (third_length two s at)
+    ruled two (kind_at s at) (flags_at s at) (second_length s at) (mtime_at s at) (offset_at two s at)
+    (third_length two s at)
 
 -- n steps from `at` on, up to the end
 abbrev pub filled : Bool → Bytes → ℕ → ℕ → Bool

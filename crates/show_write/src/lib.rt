@@ -41,7 +41,8 @@ fn is_one_component(path: &[u8], start: usize) -> bool
 fn name_size<'a>(own: &'a [u8], part: &'a [u8], merge: Merge, head: Head, dir: &[u8]) -> usize
     requires merging { Merging own.now part.now merge }
     requires next { Next own.now part.now merge head }
-    requires head_value { every (inside dir.now) (keys (tree_of (head_path own.now part.now merge head) (head_node own.now
+    requires head_value { every (inside dir.now) (keys (tree_of (head_path own.now part.now merge head)
+        (head_node own.now
         part.now merge head))) ≡ true }
     ensures { Sized dir.now own.now part.now merge head result }
 {
@@ -97,9 +98,11 @@ fn put_name<'a>(
 ) -> usize
     requires merging { Merging own.now part.now merge }
     requires next { Next own.now part.now merge head }
-    requires head_value { every (inside dir.now) (keys (tree_of (head_path own.now part.now merge head) (head_node own.now
+    requires head_value { every (inside dir.now) (keys (tree_of (head_path own.now part.now merge head)
+        (head_node own.now
         part.now merge head))) ≡ true }
-    requires head_in_bounds { at + length (name_bytes (head_names dir.now own.now part.now merge head)) ≤ length output.old }
+    requires head_in_bounds { at + length (name_bytes (head_names dir.now own.now part.now merge head))
+        ≤ length output.old }
     ensures output_after { output.new ≡ overwritten output.old at (name_bytes (head_names dir.now
         own.now part.now merge head)) }
     ensures value { result ≡ at + length (name_bytes (head_names dir.now own.now part.now

@@ -63,7 +63,8 @@ fn insert_all_unchecked(
     requires path_value { is_path path.now ≡ true }
     requires count_bound { (dirs.count ≤ 32) × (climbs 0 (length path.now) (ends_of dirs) ≡ true)
         × (length table.old ≤ length work.old) }
-    requires rec_in_bounds { length (encode (puts (each (directory mtime) (prefixes path.now (ends_of dirs))) (table_in table.old
+    requires rec_in_bounds { length (encode (puts (each (directory mtime) (prefixes path.now (ends_of dirs)))
+        (table_in table.old
         rec))) ≤ length table.old }
     ensures table_after { table.new ≡ padded (length table.old) (encode (puts (each (directory mtime)
         (prefixes path.now (ends_of dirs))) (table_in table.old rec))) }

@@ -97,7 +97,8 @@ pub fn insert_unchecked(
     requires rec_value { is_table table.old rec ≡ true }
     requires key_value { (before [] key.now ≡ true) × Written kind mtime size body.now
         × (length table.old ≤ length work.old) }
-    requires rec_in_bounds { length (encode (put key.now (entry_of kind mtime size body.now) (table_in table.old rec))) ≤ length
+    requires rec_in_bounds { length (encode (put key.now (entry_of kind mtime size body.now)
+        (table_in table.old rec))) ≤ length
         table.old }
     ensures table_after { table.new ≡ padded (length table.old) (encode (put key.now
         (entry_of kind mtime size body.now) (table_in table.old rec))) }

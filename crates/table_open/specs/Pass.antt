@@ -21,7 +21,8 @@ unfoldable pub fits : Bytes → ℕ → Bool
 fits s at = leb (at + 24) (length s) && leb (entry_end s at) (length s)
 
 unfoldable pub headed : Bytes → ℕ → Bool
-headed s at = type_rule (number_at s (at + 2) 2) (number_at s (at + 4) 4) (number_at s (at + 8) 8) (number_at s (at + 16) 8)
+headed s at = type_rule (number_at s (at + 2) 2) (number_at s (at + 4) 4) (number_at s (at + 8) 8)
+    (number_at s (at + 16) 8)
 
 -- the body of a reference is a path, and not empty
 unfoldable pub referring : Bytes → ℕ → Bool

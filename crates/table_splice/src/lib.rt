@@ -155,7 +155,8 @@ fn put_next_spliced(
     data: &[u8],
 ) -> table_write::Merge
     requires standing { Standing table.now merge.left merge.at }
-    requires content_in_bounds { merge.out + length (encode (up_to key.now (entries_at table.now merge.left merge.at))) +
+    requires content_in_bounds { merge.out + length (encode (up_to key.now
+        (entries_at table.now merge.left merge.at))) +
         (24 + length key.now + length (spliced offset «data».now content.now)) ≤ length work.old }
     ensures merged { (t : Table) (k : Path) → Merged table.now work.old t k merge.left
         merge.at merge.out → before k key.now ≡ true → Merged table.now work.new
@@ -204,7 +205,8 @@ fn write_spliced(
 ) -> Splice
     requires rec_value { is_table table.now rec ≡ true }
     requires key_value { (before [] key.now ≡ true) × (length key.now ≤ 512) }
-    requires data_bound { (offset + length «data».now < 0x1_0000_0000_0000_0000) × (length table.now ≤ length work.old) }
+    requires data_bound { (offset + length «data».now < 0x1_0000_0000_0000_0000)
+        × (length table.now ≤ length work.old) }
     ensures { Begun table.now rec limit key.now (own mtime (spliced offset
         «data».now content.now)) work.old work.new result }
 {
@@ -275,7 +277,8 @@ fn write_inside(
 ) -> Splice
     requires rec_value { is_table table.now rec ≡ true }
     requires key_value { (before [] key.now ≡ true) × (length key.now ≤ 512) }
-    requires data_bound { (offset + length «data».now < 0x1_0000_0000_0000_0000) × (length table.now ≤ length work.old) }
+    requires data_bound { (offset + length «data».now < 0x1_0000_0000_0000_0000)
+        × (length table.now ≤ length work.old) }
     requires standing { Standing table.now place.left place.at × (0 < place.left) }
     ensures { Begun table.now rec limit key.now (own mtime (spliced offset
         «data».now (body_of (entry_at table.now place.at)))) work.old
@@ -300,7 +303,8 @@ pub fn insert_parts(
 ) -> table_insert::Inserted
     requires rec_value { is_table table.old rec ≡ true }
     requires key_value { (before [] key.now ≡ true) × (length key.now ≤ 512) }
-    requires data_bound { (offset + length «data».now < 0x1_0000_0000_0000_0000) × (length table.old ≤ length work.old) }
+    requires data_bound { (offset + length «data».now < 0x1_0000_0000_0000_0000)
+        × (length table.old ≤ length work.old) }
     requires sought { Sought table.old key.now rec.count 0 place.left place.at }
     requires key_value_2 { is_own_file (lookup (table_in table.old rec) key.now) ≡ true }
     ensures by_index { (m : ℕ) (c : Bytes) → lookup (table_in table.old rec) key.now ≡ some

@@ -26,6 +26,11 @@ rename_elsewhere-requires c =
     let j = c.judge_paths-judged in
     let g = c.in-Pass.is in
     let i = c.is_onto_itself in
-    record { given = c.requires.given; table_in_bounds = c.requires.table_in_bounds; destination_value = paths_passed a.listing.now a.table.now a.rec a.work.now a.source.now a.destination.now a.limit c.requires.given
-              c.requires.table_in_bounds j.result j.ensures g; destination_value_2 = not_itself a.listing.now a.table.now a.rec a.work.now a.source.now a.destination.now a.limit c.requires.given
-              c.requires.table_in_bounds j.result j.ensures i.result i.ensures c.if-is_onto_itself.false }
+    record {
+      given = c.requires.given;
+      table_in_bounds = c.requires.table_in_bounds;
+      destination_value = paths_passed a.listing.now a.table.now a.rec a.work.now a.source.now a.destination.now a.limit c.requires.given
+          c.requires.table_in_bounds j.result j.ensures g;
+      destination_value_2 = not_itself a.listing.now a.table.now a.rec a.work.now a.source.now a.destination.now a.limit c.requires.given
+          c.requires.table_in_bounds j.result j.ensures i.result i.ensures c.if-is_onto_itself.false;
+    }

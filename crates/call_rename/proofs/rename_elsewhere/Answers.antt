@@ -10,8 +10,11 @@ use Rattle.call_rename.proofs.rename_elsewhere.Goals as goal
 pub judge_move-judged-requires : goal.judge_move-judged-requires
 judge_move-judged-requires c =
     let a = c.args in
-    record { given = c.requires.given; source_value = paths a.listing.now a.table.now a.rec a.work.now a.source.now a.destination.now a.limit c.requires.given c.requires.table_in_bounds
-          c.requires.destination_value c.requires.destination_value_2 }
+    record {
+      given = c.requires.given;
+      source_value = paths a.listing.now a.table.now a.rec a.work.now a.source.now a.destination.now a.limit c.requires.given c.requires.table_in_bounds
+          c.requires.destination_value c.requires.destination_value_2;
+    }
 
 pub returns-in-Refused : goal.returns-in-Refused
 returns-in-Refused c =

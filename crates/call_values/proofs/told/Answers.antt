@@ -1,6 +1,5 @@
 -- `told` meets its contract, by the case of the answer.
 use mathlib.Core.Path.{refl}
-use borrow.Author.Rules.{rules}
 use Rattle.call_values.proofs.Cases.{by_answer}
 use Rattle.call_values.proofs.told.Goals as goal
 

@@ -1,5 +1,4 @@
 -- `told_refusal` meets its contract: each refusal has the row that the definition gives it.
-use borrow.Author.Rules.{rules}
 use Rattle.call_values.proofs.Cases.{by_refusal}
 use Rattle.call_values.proofs.told_refusal.Goals as goal
 

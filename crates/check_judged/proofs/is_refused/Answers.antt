@@ -1,6 +1,5 @@
 -- `is_refused` meets its contract: every refusal that can be told is a check that refuses.
 use mathlib.Core.Path.{ap, sym, ◌∙◌}
-use borrow.Author.Rules.{rules}
 use Rattle.check_judged.specs.Judged.{check_of, refuses}
 use Rattle.check_judged.specs.declared.Judged.{Judged}
 use Rattle.check_judged.proofs.Checked.{refusal_refuses}

@@ -1,20 +1,14 @@
 -- `ensure_parent_exists` meets its contract. The loop's invariant: the parents from the cursor on give what all give.
 -- The measure is how many bytes are to come.
-use mathlib.Core.Path.{◌≡◌, sym, ◌∙◌}
+use mathlib.Core.Path.{◌≡◌}
 use Prim.Native.Nat.{◌-◌, ◌≤◌}
-use native.Mathlib.Omega.{arith}
 use lib.ListN.{length}
-use borrow.Author.Rules.{rules}
-use borrow.Author.Tests.{not-true, not-false}
 use Rattle.model.specs.Tree.{shown, kind}
 use Rattle.model.specs.Listing.{tree_in}
 use Rattle.model.specs.Table.{table_in}
 use Rattle.model.specs.Checks.{parent_checks, parents_in}
-use Rattle.model.proofs.Codec.{path_short}
 use Rattle.base_paths.specs.Ancestors.{ancestors_from}
-use Rattle.view_at.specs.Sight.{visible_kind}
-use Rattle.check_judged.specs.Judged.{check_of}
-use Rattle.check_parents.proofs.Parents.{Along, along_first, along_look, along_next, parents_first, parents_last, parents_next, parents_stop}
+use Rattle.check_parents.proofs.Parents.{Along}
 use Rattle.check_parents.proofs.ensure_parent_exists.Given as goal
 
 abbrev pub invariant-loop-at : goal.invariant-loop-at

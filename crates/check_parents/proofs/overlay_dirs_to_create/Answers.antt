@@ -1,7 +1,6 @@
 -- `overlay_dirs_to_create` meets its contract. The loop's invariant: the ancestors from the cursor on are judged as all are, and the missing ones
 -- among them follow the ends found so far. The measure is how many bytes are to come.
 use mathlib.Core.Path.{ap, sym, ◌∙◌}
-use Prim.Native.Nat.{◌-◌, ◌≤◌}
 use native.Mathlib.Omega.{arith}
 use lib.ListN.{length}
 use borrow.Author.Rules.{rules}
@@ -13,8 +12,8 @@ use Rattle.view_at.specs.Sight.{visible_kind}
 use Rattle.check_judged.specs.Judged.{check_of}
 use Rattle.base_paths.specs.Dirs.{ends_of, climbs}
 use Rattle.check_judged.proofs.Checked.{refused_not_passed}
-use Rattle.check_parents.proofs.Parents.{Along, along_first, along_look, along_next}
-use Rattle.check_parents.proofs.Missing.{Going, going_first, going_last, going_climbed, going_room, going_stop, going_next}
+use Rattle.check_parents.proofs.Parents.{along_first, along_look, along_next}
+use Rattle.check_parents.proofs.Missing.{going_first, going_last, going_climbed, going_room, going_stop, going_next}
 use Rattle.check_parents.proofs.overlay_dirs_to_create.Goals as goal
 
 pub loop-end-init : goal.loop-end-init

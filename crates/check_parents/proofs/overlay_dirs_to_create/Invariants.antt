@@ -1,20 +1,13 @@
 -- `overlay_dirs_to_create` meets its contract. The loop's invariant: the ancestors from the cursor on are judged as all are, and the missing ones
 -- among them follow the ends found so far. The measure is how many bytes are to come.
-use mathlib.Core.Path.{ap, sym, ◌∙◌}
 use Prim.Native.Nat.{◌-◌, ◌≤◌}
-use native.Mathlib.Omega.{arith}
 use lib.ListN.{length}
-use borrow.Author.Rules.{rules}
 use Rattle.model.specs.Tree.{shown, kind}
 use Rattle.model.specs.Listing.{tree_in}
 use Rattle.model.specs.Table.{table_in}
-use Rattle.model.proofs.Codec.{path_short}
-use Rattle.view_at.specs.Sight.{visible_kind}
-use Rattle.check_judged.specs.Judged.{check_of}
-use Rattle.base_paths.specs.Dirs.{ends_of, climbs}
-use Rattle.check_judged.proofs.Checked.{refused_not_passed}
-use Rattle.check_parents.proofs.Parents.{Along, along_first, along_look, along_next}
-use Rattle.check_parents.proofs.Missing.{Going, going_first, going_last, going_climbed, going_room, going_stop, going_next}
+use Rattle.base_paths.specs.Dirs.{ends_of}
+use Rattle.check_parents.proofs.Parents.{Along}
+use Rattle.check_parents.proofs.Missing.{Going}
 use Rattle.check_parents.proofs.overlay_dirs_to_create.Given as goal
 
 abbrev pub invariant-loop-end : goal.invariant-loop-end

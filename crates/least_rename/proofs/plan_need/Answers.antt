@@ -11,8 +11,11 @@ use Rattle.least_rename.proofs.plan_need.Goals as goal
 pub returns-in-Stopped : goal.returns-in-Stopped
 returns-in-Stopped c =
     let a = c.args in
-    record { needed_for = plan_stopped a.rec.entry_size (table_in a.table.now a.rec) (tree_in a.listing.now) a.source.now a.destination.now
-          c.walk_need-walk.result c.walk_need-walk.ensures.needed_for c.in-Stopped.is; at_most = tt }
+    record {
+      needed_for = plan_stopped a.rec.entry_size (table_in a.table.now a.rec) (tree_in a.listing.now) a.source.now a.destination.now
+          c.walk_need-walk.result c.walk_need-walk.ensures.needed_for c.in-Stopped.is;
+      at_most = tt;
+    }
 
 pub overflow_add-result : goal.overflow_add-result
 overflow_add-result c = omega (arith, charge_small c.args.table.now c.args.rec c.requires.given.table_is, c.planned_sum-sum.ensures.upper_bound)
@@ -33,5 +36,8 @@ returns-in-Limit c =
     let w = c.walk_need-walk in
     let g = c.in-Limit.is in
     let p = c.planned_sum-sum in
-    record { needed_for = plan_sums a.rec.entry_size (table_in a.table.now a.rec) (tree_in a.listing.now) a.source.now a.destination.now
-          w.result w.ensures.needed_for _ g a.rec.charge p.result _ (charge_is a.table.now a.rec c.requires.given.table_is) p.ensures.value refl; at_most = omega (arith, charge_small a.table.now a.rec c.requires.given.table_is, p.ensures.upper_bound, at_most 0x1_0000_0000_0000 w.result w.ensures.at_most _ g) }
+    record {
+      needed_for = plan_sums a.rec.entry_size (table_in a.table.now a.rec) (tree_in a.listing.now) a.source.now a.destination.now
+          w.result w.ensures.needed_for _ g a.rec.charge p.result _ (charge_is a.table.now a.rec c.requires.given.table_is) p.ensures.value refl;
+      at_most = omega (arith, charge_small a.table.now a.rec c.requires.given.table_is, p.ensures.upper_bound, at_most 0x1_0000_0000_0000 w.result w.ensures.at_most _ g);
+    }

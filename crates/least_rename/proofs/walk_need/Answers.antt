@@ -18,8 +18,11 @@ returns-then-total c =
     let t = table_in a.table.now a.rec in
     let l = tree_in a.listing.now in
     let k = kind (lookup l) a.source.now in
-    record { needed_for = walk_stopped t l a.source.now f k c.is_listed_directory.result c.is_listed_directory.ensures
-          c.if-is_listed_directory.true c.reached_total-total.result.stops c.reached_total-total.ensures.stops_value c.if-total.true; at_most = tt }
+    record {
+      needed_for = walk_stopped t l a.source.now f k c.is_listed_directory.result c.is_listed_directory.ensures
+          c.if-is_listed_directory.true c.reached_total-total.result.stops c.reached_total-total.ensures.stops_value c.if-total.true;
+      at_most = tt;
+    }
 
 pub returns-then-total-eq0 : goal.returns-then-total-eq0
 returns-then-total-eq0 c =
@@ -29,9 +32,12 @@ returns-then-total-eq0 c =
     let l = tree_in a.listing.now in
     let k = kind (lookup l) a.source.now in
     let r = c.reached_total-total in
-    record { needed_for = walk_sums t l a.source.now f k c.is_listed_directory.result
+    record {
+      needed_for = walk_sums t l a.source.now f k c.is_listed_directory.result
           c.is_listed_directory.ensures c.if-is_listed_directory.true r.result.stops
-          r.ensures.stops_value c.if-total.false r.result.sum r.ensures.sum_value 0 (sum_none (2 * length a.source.now + 1) r.result.sum c.if-total-eq0.true); at_most = omega arith }
+          r.ensures.stops_value c.if-total.false r.result.sum r.ensures.sum_value 0 (sum_none (2 * length a.source.now + 1) r.result.sum c.if-total-eq0.true);
+      at_most = omega arith;
+    }
 
 pub overflow_add-result-then-is_listed_directory : goal.overflow_add-result-then-is_listed_directory
 overflow_add-result-then-is_listed_directory c = omega (arith, path_short c.args.source.now c.requires.source_value, c.reached_total-total.ensures.sum_bound)
@@ -44,9 +50,12 @@ returns-then-is_listed_directory c =
     let l = tree_in a.listing.now in
     let k = kind (lookup l) a.source.now in
     let r = c.reached_total-total in
-    record { needed_for = walk_sums t l a.source.now f k c.is_listed_directory.result
+    record {
+      needed_for = walk_sums t l a.source.now f k c.is_listed_directory.result
           c.is_listed_directory.ensures c.if-is_listed_directory.true r.result.stops
-          r.ensures.stops_value c.if-total.false r.result.sum r.ensures.sum_value _ (sum_some (2 * length a.source.now + 1) r.result.sum c.if-total-eq0.false); at_most = omega (arith, path_short a.source.now c.requires.source_value, r.ensures.sum_bound) }
+          r.ensures.stops_value c.if-total.false r.result.sum r.ensures.sum_value _ (sum_some (2 * length a.source.now + 1) r.result.sum c.if-total-eq0.false);
+      at_most = omega (arith, path_short a.source.now c.requires.source_value, r.ensures.sum_bound);
+    }
 
 pub returns : goal.returns
 returns c =

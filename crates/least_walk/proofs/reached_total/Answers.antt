@@ -10,8 +10,12 @@ pub total_of-requires : goal.total_of-requires
 total_of-requires c =
     let a = c.args in
     let b = c.below-listed in
-    record { flags_len = search rules; part_below = part_below a.listing.now a.source.now c.requires.listing_value b.result.from b.result.to b.result.count
-            b.ensures; rec_value = c.requires.rec_value }
+    record {
+      flags_len = search rules;
+      part_below = part_below a.listing.now a.source.now c.requires.listing_value b.result.from b.result.to b.result.count
+          b.ensures;
+      rec_value = c.requires.rec_value;
+    }
 
 pub returns : goal.returns
 returns c =

@@ -18,5 +18,8 @@ returns c =
     let u = c.run_new-ran in
     let s = c.store_and_pack_run in
     let x : State = begin a.listing.now a.entry_size a.table.now in
-    record { report_after = new_settled a.listing.now a.entry_size a.table.now a.rec.now a.work.now a.script.now a.report.now f
-          u.result _ _ _ u.ensures.gives s.result _ s.ensures.value s.ensures.rec_after; holds = done_holds a.listing.now x (requests a.listing.now (steps_in a.script.now) x.store a.work.now) _ _ _ u.result s.result _ s.ensures.value s.ensures.rec_after u.ensures.holds }
+    record {
+      report_after = new_settled a.listing.now a.entry_size a.table.now a.rec.now a.work.now a.script.now a.report.now f
+          u.result _ _ _ u.ensures.gives s.result _ s.ensures.value s.ensures.rec_after;
+      holds = done_holds a.listing.now x (requests a.listing.now (steps_in a.script.now) x.store a.work.now) _ _ _ u.result s.result _ s.ensures.value s.ensures.rec_after u.ensures.holds;
+    }

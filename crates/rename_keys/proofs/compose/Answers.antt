@@ -1,5 +1,4 @@
 -- `compose` meets its contract: two writes, one behind the other, are one of both.
-use borrow.Author.Rules.{rules}
 use Rattle.rename_keys.proofs.Composed.{room, size, front}
 use Rattle.rename_keys.proofs.compose.Goals as goal
 

@@ -1,5 +1,4 @@
 -- `moved_key` meets its contract: the tail that is lent is all that stands behind the path's first bytes.
-use borrow.Author.Rules.{rules}
 use Rattle.rename_keys.proofs.Composed.{moved_length, moved_room, moved_front}
 use Rattle.rename_keys.proofs.moved_key.Goals as goal
 

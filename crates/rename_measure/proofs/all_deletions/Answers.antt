@@ -11,8 +11,11 @@ returns-then-whole c =
     let a = c.args in
     let p = c.requires in
     let g = c.deletions_below in
-    record { value = deletions_whole a.table.now a.listing.now a.rec p.rec_value p.listing_value a.source.now a.whole p.source c.if-whole.true
-          g.result g.ensures.value; small = g.ensures.small }
+    record {
+      value = deletions_whole a.table.now a.listing.now a.rec p.rec_value p.listing_value a.source.now a.whole p.source c.if-whole.true
+          g.result g.ensures.value;
+      small = g.ensures.small;
+    }
 
 pub projected_record-requires : goal.projected_record-requires
 projected_record-requires c =
@@ -24,5 +27,8 @@ returns c =
     let a = c.args in
     let p = c.requires in
     let g = c.projected_record in
-    record { value = deletions_alone a.table.now a.listing.now a.rec p.rec_value p.listing_value a.source.now a.whole p.source c.if-whole.false
-          g.result (g.ensures deleted refl); small = small_put a.table.now a.rec p.rec_value a.source.now deleted p.source_nonzero.1 (omega arith) g.result (g.ensures deleted refl) }
+    record {
+      value = deletions_alone a.table.now a.listing.now a.rec p.rec_value p.listing_value a.source.now a.whole p.source c.if-whole.false
+          g.result (g.ensures deleted refl);
+      small = small_put a.table.now a.rec p.rec_value a.source.now deleted p.source_nonzero.1 (omega arith) g.result (g.ensures deleted refl);
+    }

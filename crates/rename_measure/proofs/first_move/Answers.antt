@@ -20,5 +20,8 @@ returns c =
     let f = c.first_entry-begin in
     let p = c.projected-next in
     let i = c.is_short-fits in
-    record { measured = first_counted a.table.now a.destination.now a.m a.rec f.result f.ensures.value p.result.place p.result.rec
-          p.ensures; extra_value = (refl, ap not i.ensures) }
+    record {
+      measured = first_counted a.table.now a.destination.now a.m a.rec f.result f.ensures.value p.result.place p.result.rec
+          p.ensures;
+      extra_value = (refl, ap not i.ensures);
+    }

@@ -44,18 +44,25 @@ projected-next-requires c =
     let l = c.loop-place in
     let f = c.first-stream in
     let h = c.head_at-head in
-    record { counts = deleting_counts a.own.now a.part.now a.table.now a.source.now a.rec a.count a.records f.result l.flags
-          l.place l.after l.stream l.invariant c.requires.rec_value c.requires.standing c.requires.part_below; key_len_bound = (
+    record {
+      counts = deleting_counts a.own.now a.part.now a.table.now a.source.now a.rec a.count a.records f.result l.flags
+          l.place l.after l.stream l.invariant c.requires.rec_value c.requires.standing c.requires.part_below;
+      key_len_bound = (
         key_short a.own.now a.part.now a.table.now a.source.now l.flags l.stream l.invariant.streaming h.result
             h.ensures.next _ c.item_key-key.ensures,
         omega arith,
-      ) }
+      );
+    }
 
 pub advance-stream-requires : goal.advance-stream-requires
 advance-stream-requires c =
     let w = c.loop-place.invariant.streaming in
-    record { streaming = w; next = c.head_at-head.ensures.next; stream_nonzero = c.has_next.ensures.0
-            c.loop-place-test.true }
+    record {
+      streaming = w;
+      next = c.head_at-head.ensures.next;
+      stream_nonzero = c.has_next.ensures.0
+          c.loop-place-test.true;
+    }
 
 pub loop-place-smaller : goal.loop-place-smaller
 loop-place-smaller c = c.advance-stream.ensures.result_bound
@@ -80,6 +87,9 @@ returns c =
     let f = c.first-stream in
     let n = deleting_counts a.own.now a.part.now a.table.now a.source.now a.rec a.count a.records f.result l.flags
     l.place l.after l.stream l.invariant c.requires.rec_value c.requires.standing c.requires.part_below in
-    record { value = λ t u g.
+    record {
+      value = λ t u g.
           deleting_over a.own.now a.part.now a.table.now a.source.now a.rec a.count a.records f.result l.flags
-          l.place l.after l.stream l.invariant (c.has_next.ensures.1 c.loop-place-test.false) _ (f.ensures.result_value t u g); small = (n.used_small, n.count_small, n.charge_small) }
+          l.place l.after l.stream l.invariant (c.has_next.ensures.1 c.loop-place-test.false) _ (f.ensures.result_value t u g);
+      small = (n.used_small, n.count_small, n.charge_small);
+    }

@@ -51,12 +51,20 @@ with_move-tally-requires c =
     let z = c.has_next.ensures.0 c.loop-stream-test.true in
     let s = item_short a.own.now a.part.now a.table.now a.source.now l.flags l.stream w h.result h.ensures.next in
     let o = item_longer a.own.now a.part.now a.table.now a.source.now l.flags l.stream w h.result h.ensures.next z in
-    record { counts = moving_counts a.own.now a.part.now a.table.now a.source.now a.destination.now v a.rec a.count a.records
-          f.result l.flags l.tally l.stream m c.requires.rec_value c.requires.standing c.requires.part_below; extra_bound = (
-          moving_extra a.own.now a.part.now a.table.now a.source.now a.destination.now v a.rec a.count a.records
-              f.result l.flags l.tally l.stream m c.requires.standing c.requires.part_below,
-          c.requires.destination_nonzero.1,
-        ); standing = w.entries; standing_2 = w.listed.stand; next = h.ensures.next; stream_nonzero = z; source_in_bounds = (o, s.0, s.1) }
+    record {
+      counts = moving_counts a.own.now a.part.now a.table.now a.source.now a.destination.now v a.rec a.count a.records
+          f.result l.flags l.tally l.stream m c.requires.rec_value c.requires.standing c.requires.part_below;
+      extra_bound = (
+        moving_extra a.own.now a.part.now a.table.now a.source.now a.destination.now v a.rec a.count a.records
+            f.result l.flags l.tally l.stream m c.requires.standing c.requires.part_below,
+        c.requires.destination_nonzero.1,
+      );
+      standing = w.entries;
+      standing_2 = w.listed.stand;
+      next = h.ensures.next;
+      stream_nonzero = z;
+      source_in_bounds = (o, s.0, s.1);
+    }
 
 pub advance-stream-requires : goal.advance-stream-requires
 advance-stream-requires c =
@@ -94,7 +102,10 @@ returns c =
     let x = moving_extra a.own.now a.part.now a.table.now a.source.now a.destination.now v0 a.rec a.count a.records
     f.result l.flags l.tally l.stream m
     c.requires.standing c.requires.part_below in
-    record { moved = λ t v u g n.
+    record {
+      moved = λ t v u g n.
           moving_over a.own.now a.part.now a.table.now a.source.now a.destination.now v a.rec a.count a.records
           f.result l.flags l.tally l.stream (l.invariant v n) (c.has_next.ensures.1 c.loop-stream-test.false)
-          _ (f.ensures.result_value t u g); small = ((k.used_small, k.count_small, k.charge_small), x) }
+          _ (f.ensures.result_value t u g);
+      small = ((k.used_small, k.count_small, k.charge_small), x);
+    }

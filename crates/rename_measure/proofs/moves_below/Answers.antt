@@ -10,8 +10,15 @@ measure_moves-requires c =
     let a = c.args in
     let b = c.below-entries in
     let l = c.below-listed in
-    record { flags_len = search rules; rec_value = c.requires.rec_value; standing = b.ensures.stand; count_value = b.ensures.are; part_below = part_below a.listing.now a.source.now c.requires.listing_value l.result.from l.result.to l.result.count
-                  l.ensures; destination_nonzero = c.requires.destination_nonzero }
+    record {
+      flags_len = search rules;
+      rec_value = c.requires.rec_value;
+      standing = b.ensures.stand;
+      count_value = b.ensures.are;
+      part_below = part_below a.listing.now a.source.now c.requires.listing_value l.result.from l.result.to l.result.count
+          l.ensures;
+      destination_nonzero = c.requires.destination_nonzero;
+    }
 
 pub returns : goal.returns
 returns c =

@@ -17,5 +17,8 @@ returns c =
     let p = c.requires.destination_nonzero in
     let o = c.projected_record-after in
     let i = c.is_short-fits in
-    record { moved = λ q v l. one_moved a.rec.entry_size (table_in a.table.now a.rec) q a.destination.now v p.1 o.result (o.ensures v l)
-          i.result i.ensures; small = (small_body a.table.now a.rec c.requires.rec_value a.destination.now a.m p.1 p.2 o.result o.ensures, omega arith) }
+    record {
+      moved = λ q v l. one_moved a.rec.entry_size (table_in a.table.now a.rec) q a.destination.now v p.1 o.result (o.ensures v l)
+          i.result i.ensures;
+      small = (small_body a.table.now a.rec c.requires.rec_value a.destination.now a.m p.1 p.2 o.result o.ensures, omega arith);
+    }

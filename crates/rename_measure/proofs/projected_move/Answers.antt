@@ -21,8 +21,11 @@ together-requires c =
     let p = c.requires in
     let g = c.all_deletions-deletions in
     let m = c.all_moves-moves in
-    record { small = (g.ensures.small, m.ensures.small.0, m.ensures.small.1); used_bound = enough a.table.now a.listing.now a.rec p.rec_value p.listing_value a.source.now a.destination.now p.q_value
-          g.result m.result g.ensures.value m.ensures.moved }
+    record {
+      small = (g.ensures.small, m.ensures.small.0, m.ensures.small.1);
+      used_bound = enough a.table.now a.listing.now a.rec p.rec_value p.listing_value a.source.now a.destination.now p.q_value
+          g.result m.result g.ensures.value m.ensures.moved;
+    }
 
 pub returns : goal.returns
 returns c =

@@ -15,5 +15,8 @@ pub returns : goal.returns
 returns c =
     let a = c.args in
     let s = c.plan_sum in
-    record { value = planned-part a.source.now a.destination.now (table_in a.table.now a.rec) _ s.result c.below-part.ensures.are
-          (s.ensures.value a.source.now a.destination.now refl refl); upper_bound = s.ensures.upper_bound }
+    record {
+      value = planned-part a.source.now a.destination.now (table_in a.table.now a.rec) _ s.result c.below-part.ensures.are
+          (s.ensures.value a.source.now a.destination.now refl refl);
+      upper_bound = s.ensures.upper_bound;
+    }

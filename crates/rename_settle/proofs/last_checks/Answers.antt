@@ -14,6 +14,9 @@ returns c =
     let l = tree_in a.listing.now in
     let m = c.foretell-projected in
     let x = c.settled_by in
-    record { result_value = settled_check_lem a.rec.entry_size t l a.source.now a.destination.now m.result m.ensures a.limit (length s) x.result
-          x.ensures; after_value = settled_record a.rec.entry_size t l a.source.now a.destination.now m.result m.ensures a.limit (length s) x.result
-          x.ensures }
+    record {
+      result_value = settled_check_lem a.rec.entry_size t l a.source.now a.destination.now m.result m.ensures a.limit (length s) x.result
+          x.ensures;
+      after_value = settled_record a.rec.entry_size t l a.source.now a.destination.now m.result m.ensures a.limit (length s) x.result
+          x.ensures;
+    }

@@ -27,6 +27,9 @@ returns c =
     let x = c.args in
     let p = c.requires in
     let w = c.write_ordered in
-    record { table_after = ordered_written (table_in x.table.now x.rec) (tree_in x.listing.now) x.source.now x.destination.now x.whole
+    record {
+      table_after = ordered_written (table_in x.table.now x.rec) (tree_in x.listing.now) x.source.now x.destination.now x.whole
           (decoded x.table.now x.rec p.given.table_is).ascending (checked x.listing.now p.given.listing_is).up p.early_passed p.source_value
-          (length x.table.now) w.new.table w.ensures.table_after; work_after = w.ensures.work_after }
+          (length x.table.now) w.new.table w.ensures.table_after;
+      work_after = w.ensures.work_after;
+    }

@@ -2,7 +2,6 @@
 use mathlib.Core.Path.{◌∙◌}
 use native.Mathlib.Omega.{arith}
 use lib.ListN.{length-set}
-use borrow.Author.Rules.{rules}
 use Rattle.rename_uncovered.proofs.Covers.{stepped}
 use Rattle.rename_uncovered.proofs.cover.Goals as goal
 

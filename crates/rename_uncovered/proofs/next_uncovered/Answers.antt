@@ -20,6 +20,10 @@ returns c =
     let n = c.next_record-next in
     let r = c.seek_uncovered.result in
     let s = c.seek_uncovered.ensures in
-    record { ready_at_2 = s.ready_at; left_lt_left = fewer_next a.part.now a.table.now a.source.now a.flags.now k.left k.at k.place.left k.place.at
-            c.requires.ready_at c.requires.left_nonzero n.result n.ensures.value r.left s.left_le_left; ahead_at = ahead_next a.part.now a.table.now a.source.now a.flags.now k.left k.at k.place.left k.place.at
-            c.requires.ready_at c.requires.left_nonzero n.result n.ensures.value c.seek_uncovered.new.flags r.left r.at r.place.left r.place.at s.ahead_at }
+    record {
+      ready_at_2 = s.ready_at;
+      left_lt_left = fewer_next a.part.now a.table.now a.source.now a.flags.now k.left k.at k.place.left k.place.at
+          c.requires.ready_at c.requires.left_nonzero n.result n.ensures.value r.left s.left_le_left;
+      ahead_at = ahead_next a.part.now a.table.now a.source.now a.flags.now k.left k.at k.place.left k.place.at
+          c.requires.ready_at c.requires.left_nonzero n.result n.ensures.value c.seek_uncovered.new.flags r.left r.at r.place.left r.place.at s.ahead_at;
+    }

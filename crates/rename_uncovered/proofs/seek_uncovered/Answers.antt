@@ -1,7 +1,7 @@
 -- `seek_uncovered` meets its contract: each record that is covered is passed, and so are the entries before it.
 use borrow.Author.Rules.{rules}
 use Rattle.model.specs.Listing.{record_end}
-use Rattle.rename_uncovered.proofs.Passes.{Seeking, bounds, seek_start, seek_found, seek_on, seek_less, seek_end}
+use Rattle.rename_uncovered.proofs.Passes.{bounds, seek_start, seek_found, seek_on, seek_less, seek_end}
 use Rattle.rename_uncovered.proofs.seek_uncovered.Goals as goal
 
 pub loop-here-init : goal.loop-here-init

@@ -13,5 +13,8 @@ returns c =
     let x = c.is_child in
     let y = c.is_absent in
     let k = (record_at a.records.now a.here.at).path in
-    record { bare_value = bare_is a.table.now (entries_at a.table.now a.place.left a.place.at) a.dir.now p.result.now k p.ensures
-          g.result.entry g.ensures.result_value x.result x.ensures y.result y.ensures; sought = sought_at a.table.now p.result.now k a.place.left a.place.at g.result.place.left g.result.place.at p.ensures g.ensures.sought }
+    record {
+      bare_value = bare_is a.table.now (entries_at a.table.now a.place.left a.place.at) a.dir.now p.result.now k p.ensures
+          g.result.entry g.ensures.result_value x.result x.ensures y.result y.ensures;
+      sought = sought_at a.table.now p.result.now k a.place.left a.place.at g.result.place.left g.result.place.at p.ensures g.ensures.sought;
+    }

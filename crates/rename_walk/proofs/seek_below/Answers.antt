@@ -39,8 +39,11 @@ returns-else-is_before_with c =
     let l = c.loop-left in
     let p = c.record_path-path in
     let b = c.is_before_with in
-    record { standing = l.invariant.stand; at_value = pass_stop a.records.now (slashed a.dir.now) a.place.left a.place.at l.left l.at l.invariant c.loop-left-test.true
-          p.result.now p.ensures b.result b.ensures c.if-is_before_with.false }
+    record {
+      standing = l.invariant.stand;
+      at_value = pass_stop a.records.now (slashed a.dir.now) a.place.left a.place.at l.left l.at l.invariant c.loop-left-test.true
+          p.result.now p.ensures b.result b.ensures c.if-is_before_with.false;
+    }
 
 pub returns : goal.returns
 returns c =

@@ -29,18 +29,25 @@ visit_record-seen-requires c =
     let a = c.args in
     let l = c.loop-count in
     let h = c.loop-count-test.true in
-    record { standing = l.invariant.stand; left_nonzero = visit_more a.records.now a.table.now a.dir.now (some a.budget.available) (entries_at a.table.now a.place.left a.place.at)
-            (visits (some a.budget.available) (walk_of a.walked) (children (entries_at a.table.now a.place.left a.place.at) (tree_at a.records.now a.stretch.count a.stretch.at) a.dir.now))
-            l.left l.count l.at l.more l.to (walk_of l.on) l.invariant h; standing_2 = l.invariant.entries }
+    record {
+      standing = l.invariant.stand;
+      left_nonzero = visit_more a.records.now a.table.now a.dir.now (some a.budget.available) (entries_at a.table.now a.place.left a.place.at)
+          (visits (some a.budget.available) (walk_of a.walked) (children (entries_at a.table.now a.place.left a.place.at) (tree_at a.records.now a.stretch.count a.stretch.at) a.dir.now))
+          l.left l.count l.at l.more l.to (walk_of l.on) l.invariant h;
+      standing_2 = l.invariant.entries;
+    }
 
 pub next_record-next-requires : goal.next_record-next-requires
 next_record-next-requires c =
     let a = c.args in
     let l = c.loop-count in
     let h = c.loop-count-test.true in
-    record { standing = l.invariant.stand; left_nonzero = visit_more a.records.now a.table.now a.dir.now (some a.budget.available) (entries_at a.table.now a.place.left a.place.at)
+    record {
+      standing = l.invariant.stand;
+      left_nonzero = visit_more a.records.now a.table.now a.dir.now (some a.budget.available) (entries_at a.table.now a.place.left a.place.at)
           (visits (some a.budget.available) (walk_of a.walked) (children (entries_at a.table.now a.place.left a.place.at) (tree_at a.records.now a.stretch.count a.stretch.at) a.dir.now))
-          l.left l.count l.at l.more l.to (walk_of l.on) l.invariant h }
+          l.left l.count l.at l.more l.to (walk_of l.on) l.invariant h;
+    }
 
 pub loop-count-preserved : goal.loop-count-preserved
 loop-count-preserved c =

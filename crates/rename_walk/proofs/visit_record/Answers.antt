@@ -24,11 +24,14 @@ returns-then-child c =
     let b = c.bare_child-child in
     let p = c.record_path-path in
     let t = entries_at a.table.now a.place.left a.place.at in
-    record { walked_value = one_bare a.records.now a.here.at t a.dir.now (some a.budget.available) (walk_of a.walked) b.result.bare b.ensures.bare_value c.if-child.true
+    record {
+      walked_value = one_bare a.records.now a.here.at t a.dir.now (some a.budget.available) (walk_of a.walked) b.result.bare b.ensures.bare_value c.if-child.true
           (walk_of c.visited-on.result)
           (visit_here (some a.budget.available) (walk_of a.walked) (walk_of c.visited-on.result) p.result.now (record_at a.records.now a.here.at).path
           (node_of (record_at a.records.now a.here.at)) p.ensures
-          (c.visited-on.ensures p.result.now (node_of (record_at a.records.now a.here.at)) c.node_at-found.ensures (search rules))); sought = b.ensures.sought }
+          (c.visited-on.ensures p.result.now (node_of (record_at a.records.now a.here.at)) c.node_at-found.ensures (search rules)));
+      sought = b.ensures.sought;
+    }
 
 pub returns : goal.returns
 returns c =

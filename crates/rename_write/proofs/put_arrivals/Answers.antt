@@ -13,8 +13,12 @@ put_top-next-requires c =
     let a = c.args in
     let T = table_in a.table.now a.rec in
     let L = tree_in a.listing.now in
-    record { rec_value = c.requires.rec_value; listing_value = c.requires.listing_value; fits = fits_first a.table.now a.work.now a.merge ((a.destination.now, top T L a.source.now) ∷ [])
-            (turned (move a.source.now a.destination.now) (lower a.whole T L a.source.now)) c.requires.fits }
+    record {
+      rec_value = c.requires.rec_value;
+      listing_value = c.requires.listing_value;
+      fits = fits_first a.table.now a.work.now a.merge ((a.destination.now, top T L a.source.now) ∷ [])
+          (turned (move a.source.now a.destination.now) (lower a.whole T L a.source.now)) c.requires.fits;
+    }
 
 pub put_lower_moves-requires : goal.put_lower_moves-requires
 put_lower_moves-requires c =
@@ -22,13 +26,18 @@ put_lower_moves-requires c =
     let T = table_in a.table.now a.rec in
     let L = tree_in a.listing.now in
     let p = c.put_top-next in
-    record { rec_value = c.requires.rec_value; listing_value = c.requires.listing_value; source_value = c.requires.source_value; fits = fits_second a.table.now a.work.now a.merge ((
-            a.destination.now,
-            top T L
-                a.source.now,
-          ) ∷ [])
-              (turned (move a.source.now a.destination.now) (lower a.whole T L a.source.now)) p.new.work p.result p.ensures
-              c.requires.fits }
+    record {
+      rec_value = c.requires.rec_value;
+      listing_value = c.requires.listing_value;
+      source_value = c.requires.source_value;
+      fits = fits_second a.table.now a.work.now a.merge ((
+        a.destination.now,
+        top T L
+            a.source.now,
+      ) ∷ [])
+          (turned (move a.source.now a.destination.now) (lower a.whole T L a.source.now)) p.new.work p.result p.ensures
+          c.requires.fits;
+    }
 
 pub returns : goal.returns
 returns c =

@@ -35,9 +35,15 @@ put_deletion-next-requires c =
     let h = c.head_at-head in
     let v = c.advance-after in
     let s = l.invariant.streaming in
-    record { standing = s.entries; standing_2 = s.listed.stand; next = h.ensures.next; stream_nonzero = c.has_next.ensures.0 c.loop-stream-test.true; room = room_at_first deletion a.table.now a.work.now a.own.now a.part.now a.source.now f.new.flags f.result a.merge
-                l.flags l.work l.next l.stream l.invariant v.new.flags v.result h.result v.ensures.carrying
-                (table_in a.table.now a.rec) a.records _ f.ensures.carrying f.ensures.result_value c.requires.puttable }
+    record {
+      standing = s.entries;
+      standing_2 = s.listed.stand;
+      next = h.ensures.next;
+      stream_nonzero = c.has_next.ensures.0 c.loop-stream-test.true;
+      room = room_at_first deletion a.table.now a.work.now a.own.now a.part.now a.source.now f.new.flags f.result a.merge
+          l.flags l.work l.next l.stream l.invariant v.new.flags v.result h.result v.ensures.carrying
+          (table_in a.table.now a.rec) a.records _ f.ensures.carrying f.ensures.result_value c.requires.puttable;
+    }
 
 pub loop-stream-smaller : goal.loop-stream-smaller
 loop-stream-smaller c = c.advance-after.ensures.result_bound

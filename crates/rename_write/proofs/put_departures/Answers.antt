@@ -23,8 +23,12 @@ put_lower_deletions-requires c =
     let T = table_in a.table.now a.rec in
     let L = tree_in a.listing.now in
     let p = c.put_source_deletion-next in
-    record { rec_value = c.requires.rec_value; listing_value = c.requires.listing_value; fits = fits_second a.table.now a.work.now a.merge ((a.source.now, deleted) ∷ [])
-            (turned deletion (lower a.whole T L a.source.now)) p.new.work p.result p.ensures c.requires.fits }
+    record {
+      rec_value = c.requires.rec_value;
+      listing_value = c.requires.listing_value;
+      fits = fits_second a.table.now a.work.now a.merge ((a.source.now, deleted) ∷ [])
+          (turned deletion (lower a.whole T L a.source.now)) p.new.work p.result p.ensures c.requires.fits;
+    }
 
 pub returns : goal.returns
 returns c =

@@ -11,9 +11,14 @@ put_arrivals-next-requires c =
     let a = c.args in
     let T = table_in a.table.now a.rec in
     let L = tree_in a.listing.now in
-    record { rec_value = c.requires.rec_value; listing_value = c.requires.listing_value; source_value = c.requires.source_value; fits = fits_first a.table.now a.work.now a.merge (arrivals a.whole T L a.source.now
-              a.destination.now)
-              (departures a.whole T L a.source.now) c.requires.fits }
+    record {
+      rec_value = c.requires.rec_value;
+      listing_value = c.requires.listing_value;
+      source_value = c.requires.source_value;
+      fits = fits_first a.table.now a.work.now a.merge (arrivals a.whole T L a.source.now
+          a.destination.now)
+          (departures a.whole T L a.source.now) c.requires.fits;
+    }
 
 pub put_departures-requires : goal.put_departures-requires
 put_departures-requires c =
@@ -21,8 +26,12 @@ put_departures-requires c =
     let T = table_in a.table.now a.rec in
     let L = tree_in a.listing.now in
     let p = c.put_arrivals-next in
-    record { rec_value = c.requires.rec_value; listing_value = c.requires.listing_value; fits = fits_second a.table.now a.work.now a.merge (arrivals a.whole T L a.source.now a.destination.now)
-            (departures a.whole T L a.source.now) p.new.work p.result p.ensures c.requires.fits }
+    record {
+      rec_value = c.requires.rec_value;
+      listing_value = c.requires.listing_value;
+      fits = fits_second a.table.now a.work.now a.merge (arrivals a.whole T L a.source.now a.destination.now)
+          (departures a.whole T L a.source.now) p.new.work p.result p.ensures c.requires.fits;
+    }
 
 pub returns : goal.returns
 returns c =

@@ -28,8 +28,13 @@ put_arrivals-next-requires c =
     let ys = (arrivals a.whole T L a.source.now a.destination.now) in
     let zs = (turned deletion (lower a.whole T L a.source.now)) in
     let p = c.put_source_deletion-first in
-    record { rec_value = c.requires.rec_value; listing_value = c.requires.listing_value; source_value = c.requires.source_value; fits = fits_first a.table.now p.new.work p.result ys zs
-              (fits_second a.table.now a.work.now a.merge xs (ys ++ zs) p.new.work p.result p.ensures c.requires.fits) }
+    record {
+      rec_value = c.requires.rec_value;
+      listing_value = c.requires.listing_value;
+      source_value = c.requires.source_value;
+      fits = fits_first a.table.now p.new.work p.result ys zs
+          (fits_second a.table.now a.work.now a.merge xs (ys ++ zs) p.new.work p.result p.ensures c.requires.fits);
+    }
 
 pub put_lower_deletions-requires : goal.put_lower_deletions-requires
 put_lower_deletions-requires c =
@@ -41,8 +46,12 @@ put_lower_deletions-requires c =
     let zs = (turned deletion (lower a.whole T L a.source.now)) in
     let p = c.put_source_deletion-first in
     let q = c.put_arrivals-next in
-    record { rec_value = c.requires.rec_value; listing_value = c.requires.listing_value; fits = fits_second a.table.now p.new.work p.result ys zs q.new.work q.result q.ensures
-            (fits_second a.table.now a.work.now a.merge xs (ys ++ zs) p.new.work p.result p.ensures c.requires.fits) }
+    record {
+      rec_value = c.requires.rec_value;
+      listing_value = c.requires.listing_value;
+      fits = fits_second a.table.now p.new.work p.result ys zs q.new.work q.result q.ensures
+          (fits_second a.table.now a.work.now a.merge xs (ys ++ zs) p.new.work p.result p.ensures c.requires.fits);
+    }
 
 pub returns : goal.returns
 returns c =

@@ -21,10 +21,18 @@ put_moves-requires c =
     let t = c.below-entries in
     let l = c.below-records in
     let w = c.if-not-whole.false in
-    record { flags_len = search rules; rec_value = c.requires.rec_value; standing = t.ensures.stand; count_value = t.ensures.are; part_below = part_below a.listing.now a.source.now c.requires.listing_value l.result.from l.result.to l.result.count l.ensures; puttable = lower_fits (move a.source.now a.destination.now) a.table.now a.work.now a.listing.now (table_in a.table.now
-                    a.rec) a.source.now
-                    l.result.from l.result.to l.result.count a.merge a.whole c.requires.listing_value l.ensures w c.requires.fits; movables = lower_movables a.listing.now (table_in a.table.now a.rec) a.source.now a.destination.now
-                    l.result.from l.result.to l.result.count a.whole c.requires.listing_value l.ensures w c.requires.source_value }
+    record {
+      flags_len = search rules;
+      rec_value = c.requires.rec_value;
+      standing = t.ensures.stand;
+      count_value = t.ensures.are;
+      part_below = part_below a.listing.now a.source.now c.requires.listing_value l.result.from l.result.to l.result.count l.ensures;
+      puttable = lower_fits (move a.source.now a.destination.now) a.table.now a.work.now a.listing.now (table_in a.table.now
+          a.rec) a.source.now
+          l.result.from l.result.to l.result.count a.merge a.whole c.requires.listing_value l.ensures w c.requires.fits;
+      movables = lower_movables a.listing.now (table_in a.table.now a.rec) a.source.now a.destination.now
+          l.result.from l.result.to l.result.count a.whole c.requires.listing_value l.ensures w c.requires.source_value;
+    }
 
 pub returns : goal.returns
 returns c =

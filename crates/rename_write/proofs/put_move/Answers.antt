@@ -29,9 +29,13 @@ put_next-requires c =
     let b = c.item_body-body in
     let r = c.requires.room in
     let o = take k.result.len k.result.bytes in
-    record { standing = r.stand; written = written_of i.1 n.result.kind n.result.mtime n.result.size b.result.now n.ensures.kind_value n.ensures.mtime_value
-            n.ensures.size_value b.ensures; body_in_bounds = room_of a.table.now a.work.now a.merge (move a.source.now a.destination.now i) o b.result.now r
-            (key_bytes a.source.now a.destination.now q.result.now o i q.ensures k.ensures.bytes_value) b.ensures }
+    record {
+      standing = r.stand;
+      written = written_of i.1 n.result.kind n.result.mtime n.result.size b.result.now n.ensures.kind_value n.ensures.mtime_value
+          n.ensures.size_value b.ensures;
+      body_in_bounds = room_of a.table.now a.work.now a.merge (move a.source.now a.destination.now i) o b.result.now r
+          (key_bytes a.source.now a.destination.now q.result.now o i q.ensures k.ensures.bytes_value) b.ensures;
+    }
 
 pub returns : goal.returns
 returns c =

@@ -38,12 +38,19 @@ put_move-next-requires c =
     let all = c.requires.movables in
     let fit = c.requires.puttable in
     let s = l.invariant.streaming in
-    record { standing = s.entries; standing_2 = s.listed.stand; next = h.ensures.next; stream_nonzero = c.has_next.ensures.0 c.loop-stream-test.true; head_value = good_at_first (move a.source.now a.destination.now) a.table.now a.work.now a.own.now a.part.now a.source.now
-                  f.new.flags f.result a.merge l.flags l.work l.next l.stream l.invariant v.new.flags v.result h.result
-                  v.ensures.carrying (table_in a.table.now a.rec) a.records _ f.ensures.carrying f.ensures.result_value
-                  (movable a.source.now a.destination.now) all.l all.listed all.all; room = room_at_first (move a.source.now a.destination.now) a.table.now a.work.now a.own.now a.part.now a.source.now
-                  f.new.flags f.result a.merge l.flags l.work l.next l.stream l.invariant v.new.flags v.result h.result
-                  v.ensures.carrying (table_in a.table.now a.rec) a.records _ f.ensures.carrying f.ensures.result_value fit }
+    record {
+      standing = s.entries;
+      standing_2 = s.listed.stand;
+      next = h.ensures.next;
+      stream_nonzero = c.has_next.ensures.0 c.loop-stream-test.true;
+      head_value = good_at_first (move a.source.now a.destination.now) a.table.now a.work.now a.own.now a.part.now a.source.now
+          f.new.flags f.result a.merge l.flags l.work l.next l.stream l.invariant v.new.flags v.result h.result
+          v.ensures.carrying (table_in a.table.now a.rec) a.records _ f.ensures.carrying f.ensures.result_value
+          (movable a.source.now a.destination.now) all.l all.listed all.all;
+      room = room_at_first (move a.source.now a.destination.now) a.table.now a.work.now a.own.now a.part.now a.source.now
+          f.new.flags f.result a.merge l.flags l.work l.next l.stream l.invariant v.new.flags v.result h.result
+          v.ensures.carrying (table_in a.table.now a.rec) a.records _ f.ensures.carrying f.ensures.result_value fit;
+    }
 
 pub loop-stream-smaller : goal.loop-stream-smaller
 loop-stream-smaller c = c.advance-after.ensures.result_bound

@@ -26,8 +26,13 @@ put_destination_within-requires c =
     let y = pick_1 (before f g) (before g (f ++ (47 ∷ []))) (before f (g ++ (47 ∷ []))) P (D ++ M) Q (M ++ D)
     (sym c.is_before.ensures ∙ c.if-is_before.true)
     (sym c.is_before_with.ensures ∙ c.if-is_before_with.true) in
-    record { rec_value = c.requires.rec_value; listing_value = c.requires.listing_value; source_value = c.requires.source_value; fits = fits_as a.table.now a.work.now (chosen (before f g) (before g (f ++ (47 ∷ [])))
-              (before f (g ++ (47 ∷ []))) P (D ++ M) Q (M ++ D)) P a.merge y c.requires.fits }
+    record {
+      rec_value = c.requires.rec_value;
+      listing_value = c.requires.listing_value;
+      source_value = c.requires.source_value;
+      fits = fits_as a.table.now a.work.now (chosen (before f g) (before g (f ++ (47 ∷ [])))
+          (before f (g ++ (47 ∷ []))) P (D ++ M) Q (M ++ D)) P a.merge y c.requires.fits;
+    }
 
 pub returns-then-is_before_with : goal.returns-then-is_before_with
 returns-then-is_before_with c =
@@ -63,8 +68,13 @@ put_source_first-requires c =
     let y = pick_2 (before f g) (before g (f ++ (47 ∷ []))) (before f (g ++ (47 ∷ []))) P (D ++ M) Q (M ++ D)
     (sym c.is_before.ensures ∙ c.if-is_before.true)
     (sym c.is_before_with.ensures ∙ c.if-is_before_with.false) in
-    record { rec_value = c.requires.rec_value; listing_value = c.requires.listing_value; source_value = c.requires.source_value; fits = fits_as a.table.now a.work.now (chosen (before f g) (before g (f ++ (47 ∷ [])))
-              (before f (g ++ (47 ∷ []))) P (D ++ M) Q (M ++ D)) (D ++ M) a.merge y c.requires.fits }
+    record {
+      rec_value = c.requires.rec_value;
+      listing_value = c.requires.listing_value;
+      source_value = c.requires.source_value;
+      fits = fits_as a.table.now a.work.now (chosen (before f g) (before g (f ++ (47 ∷ [])))
+          (before f (g ++ (47 ∷ []))) P (D ++ M) Q (M ++ D)) (D ++ M) a.merge y c.requires.fits;
+    }
 
 pub returns-then-is_before : goal.returns-then-is_before
 returns-then-is_before c =
@@ -100,8 +110,13 @@ put_source_within-requires c =
     let y = pick_3 (before f g) (before g (f ++ (47 ∷ []))) (before f (g ++ (47 ∷ []))) P (D ++ M) Q (M ++ D)
     (sym c.is_before.ensures ∙ c.if-is_before.false)
     (sym c.is_before_with-2.ensures ∙ c.if-is_before_with-2.true) in
-    record { rec_value = c.requires.rec_value; listing_value = c.requires.listing_value; source_value = c.requires.source_value; fits = fits_as a.table.now a.work.now (chosen (before f g) (before g (f ++ (47 ∷ [])))
-              (before f (g ++ (47 ∷ []))) P (D ++ M) Q (M ++ D)) Q a.merge y c.requires.fits }
+    record {
+      rec_value = c.requires.rec_value;
+      listing_value = c.requires.listing_value;
+      source_value = c.requires.source_value;
+      fits = fits_as a.table.now a.work.now (chosen (before f g) (before g (f ++ (47 ∷ [])))
+          (before f (g ++ (47 ∷ []))) P (D ++ M) Q (M ++ D)) Q a.merge y c.requires.fits;
+    }
 
 pub returns-then-is_before_with-2 : goal.returns-then-is_before_with-2
 returns-then-is_before_with-2 c =
@@ -137,8 +152,13 @@ put_destination_first-requires c =
     let y = pick_4 (before f g) (before g (f ++ (47 ∷ []))) (before f (g ++ (47 ∷ []))) P (D ++ M) Q (M ++ D)
     (sym c.is_before.ensures ∙ c.if-is_before.false)
     (sym c.is_before_with-2.ensures ∙ c.if-is_before_with-2.false) in
-    record { rec_value = c.requires.rec_value; listing_value = c.requires.listing_value; source_value = c.requires.source_value; fits = fits_as a.table.now a.work.now (chosen (before f g) (before g (f ++ (47 ∷ [])))
-              (before f (g ++ (47 ∷ []))) P (D ++ M) Q (M ++ D)) (M ++ D) a.merge y c.requires.fits }
+    record {
+      rec_value = c.requires.rec_value;
+      listing_value = c.requires.listing_value;
+      source_value = c.requires.source_value;
+      fits = fits_as a.table.now a.work.now (chosen (before f g) (before g (f ++ (47 ∷ [])))
+          (before f (g ++ (47 ∷ []))) P (D ++ M) Q (M ++ D)) (M ++ D) a.merge y c.requires.fits;
+    }
 
 pub returns : goal.returns
 returns c =

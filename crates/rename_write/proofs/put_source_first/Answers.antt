@@ -11,8 +11,12 @@ put_departures-next-requires c =
     let a = c.args in
     let T = table_in a.table.now a.rec in
     let L = tree_in a.listing.now in
-    record { rec_value = c.requires.rec_value; listing_value = c.requires.listing_value; fits = fits_first a.table.now a.work.now a.merge (departures a.whole T L a.source.now)
-            (arrivals a.whole T L a.source.now a.destination.now) c.requires.fits }
+    record {
+      rec_value = c.requires.rec_value;
+      listing_value = c.requires.listing_value;
+      fits = fits_first a.table.now a.work.now a.merge (departures a.whole T L a.source.now)
+          (arrivals a.whole T L a.source.now a.destination.now) c.requires.fits;
+    }
 
 pub put_arrivals-requires : goal.put_arrivals-requires
 put_arrivals-requires c =
@@ -20,8 +24,13 @@ put_arrivals-requires c =
     let T = table_in a.table.now a.rec in
     let L = tree_in a.listing.now in
     let p = c.put_departures-next in
-    record { rec_value = c.requires.rec_value; listing_value = c.requires.listing_value; source_value = c.requires.source_value; fits = fits_second a.table.now a.work.now a.merge (departures a.whole T L a.source.now)
-              (arrivals a.whole T L a.source.now a.destination.now) p.new.work p.result p.ensures c.requires.fits }
+    record {
+      rec_value = c.requires.rec_value;
+      listing_value = c.requires.listing_value;
+      source_value = c.requires.source_value;
+      fits = fits_second a.table.now a.work.now a.merge (departures a.whole T L a.source.now)
+          (arrivals a.whole T L a.source.now a.destination.now) p.new.work p.result p.ensures c.requires.fits;
+    }
 
 pub returns : goal.returns
 returns c =

@@ -13,8 +13,12 @@ put_next-requires c =
     let n = c.entry_fields-item in
     let b = c.entry_body-body in
     let r = one_room a.table.now a.work.now a.merge (a.destination.now, v) c.requires.fits in
-    record { standing = r.stand; written = written_of v n.result.kind n.result.mtime n.result.size b.result.now n.ensures.kind_value n.ensures.mtime_value n.ensures.size_value
-            b.ensures; body_in_bounds = room_of a.table.now a.work.now a.merge (a.destination.now, v) a.destination.now b.result.now r refl b.ensures }
+    record {
+      standing = r.stand;
+      written = written_of v n.result.kind n.result.mtime n.result.size b.result.now n.ensures.kind_value n.ensures.mtime_value n.ensures.size_value
+          b.ensures;
+      body_in_bounds = room_of a.table.now a.work.now a.merge (a.destination.now, v) a.destination.now b.result.now r refl b.ensures;
+    }
 
 pub returns : goal.returns
 returns c =

@@ -18,8 +18,11 @@ put_listed-requires c =
     let t = lookup (entries_at a.table.now f.result.left f.result.at) a.source.now in
     let y = top_listed a.table.now a.rec f.result a.source.now z.result f.ensures.value
     (z.ensures a.table.now t g.ensures.result_value) n c.if-is_absent.true in
-    record { listing_value = c.requires.listing_value; fits = one_fits a.table.now a.work.now a.merge a.destination.now (top_of none n)
-          (top (table_in a.table.now a.rec) (tree_in a.listing.now) a.source.now) y c.requires.fits }
+    record {
+      listing_value = c.requires.listing_value;
+      fits = one_fits a.table.now a.work.now a.merge a.destination.now (top_of none n)
+          (top (table_in a.table.now a.rec) (tree_in a.listing.now) a.source.now) y c.requires.fits;
+    }
 
 pub returns-then-is_absent : goal.returns-then-is_absent
 returns-then-is_absent c =
@@ -46,9 +49,13 @@ put_stored-requires c =
     let y = top_stored a.table.now a.rec f.result a.source.now z.result f.ensures.value
     (z.ensures a.table.now t g.ensures.result_value) n c.if-is_absent.false f.ensures.standing g.result.place.left g.result.place.at
     g.ensures.sought in
-    record { standing = g.ensures.sought.stand; left_nonzero = y.0; fits = one_fits a.table.now a.work.now a.merge a.destination.now
-            (entry_at a.table.now g.result.place.at) (top (table_in a.table.now a.rec) (tree_in a.listing.now) a.source.now)
-            y.1 c.requires.fits }
+    record {
+      standing = g.ensures.sought.stand;
+      left_nonzero = y.0;
+      fits = one_fits a.table.now a.work.now a.merge a.destination.now
+          (entry_at a.table.now g.result.place.at) (top (table_in a.table.now a.rec) (tree_in a.listing.now) a.source.now)
+          y.1 c.requires.fits;
+    }
 
 pub returns : goal.returns
 returns c =

@@ -14,8 +14,13 @@ put_ordered-end-requires c =
     let a = c.args in
     let xs = ordered a.whole (table_in a.table.now a.rec) (tree_in a.listing.now) a.source.now a.destination.now in
     let p = c.requires in
-    record { rec_value = p.rec_value; listing_value = p.listing_value; source_value = p.source_value; fits = fits_begun a.table.now a.work.now a.rec xs p.rec_value p.destination_value p.rec_in_bounds
-              p.table_in_bounds }
+    record {
+      rec_value = p.rec_value;
+      listing_value = p.listing_value;
+      source_value = p.source_value;
+      fits = fits_begun a.table.now a.work.now a.rec xs p.rec_value p.destination_value p.rec_in_bounds
+          p.table_in_bounds;
+    }
 
 pub finish-requires : goal.finish-requires
 finish-requires c =

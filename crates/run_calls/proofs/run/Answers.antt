@@ -29,8 +29,11 @@ run_steps-last-requires c =
     let a = c.args in
     let k = c.check.ensures in
     let l = (ap not c.if-not-check.false) in
-    record { script_value = well a.listing.now (stored a.table.now a.rec) a.work.now a.script.now a.report.now k l; script_in_bounds = room a.listing.now (stored a.table.now a.rec) a.work.now a.script.now a.report.now k l
-          c.has_rows.ensures (ap not c.if-not-has_rows.false) }
+    record {
+      script_value = well a.listing.now (stored a.table.now a.rec) a.work.now a.script.now a.report.now k l;
+      script_in_bounds = room a.listing.now (stored a.table.now a.rec) a.work.now a.script.now a.report.now k l
+          c.has_rows.ensures (ap not c.if-not-has_rows.false);
+    }
 
 pub returns : goal.returns
 returns c =

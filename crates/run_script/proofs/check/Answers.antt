@@ -1,7 +1,7 @@
 -- `check` meets its contract: each turn of the loop is a step of the one pass, and each exit has its law.
 use borrow.Author.Rules.{rules}
 use native.Mathlib.Omega.{arith}
-use Rattle.run_script.proofs.Turns.{Kept, not_marked, long, started, no_step, step_inside, kept_on, finished}
+use Rattle.run_script.proofs.Turns.{not_marked, long, started, no_step, step_inside, kept_on, finished}
 use mathlib.Core.Path.{ap}
 use mathlib.Core.Bool.{not}
 use Rattle.run_script.proofs.check.Goals as goal

@@ -1,5 +1,4 @@
 -- `first_part` meets its contract: the first part stands behind the head.
-use borrow.Author.Rules.{rules}
 use Rattle.run_script.proofs.Parts.{first_is}
 use Rattle.run_script.proofs.first_part.Goals as goal
 

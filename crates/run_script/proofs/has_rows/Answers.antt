@@ -1,5 +1,4 @@
 -- `has_rows` meets its contract: it counts 32 bytes for each step.
-use borrow.Author.Rules.{rules}
 use mathlib.Core.Path.{ap}
 use Prim.Native.Nat.{ℕ, ◌*◌}
 use lib.Dec.{leb}

@@ -1,5 +1,4 @@
 -- `is_headed` meets its contract: it tests the numbers that stand in the step.
-use borrow.Author.Rules.{rules}
 use native.Mathlib.Omega.{arith}
 use Rattle.run_script.proofs.Steps.{head_least, by_numbers}
 use Rattle.run_script.proofs.is_headed.Goals as goal

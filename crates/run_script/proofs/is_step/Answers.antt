@@ -1,5 +1,4 @@
 -- `is_step` meets its contract: a step fits, and its numbers go together.
-use borrow.Author.Rules.{rules}
 use Rattle.run_script.proofs.Steps.{fits_is, not_fitting, fitting, by_head}
 use mathlib.Core.Path.{ap}
 use mathlib.Core.Bool.{not}

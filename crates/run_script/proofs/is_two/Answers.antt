@@ -1,5 +1,4 @@
 -- `is_two` meets its contract: the first four bytes are compared.
-use borrow.Author.Rules.{rules}
 use mathlib.Core.Path.{sym}
 use native.Mathlib.Omega.{arith}
 use lib.Seq.{length-take-le}

@@ -1,5 +1,4 @@
 -- `offset_at` meets its contract: one law for each mark.
-use borrow.Author.Rules.{rules}
 use native.Mathlib.Omega.{arith}
 use Rattle.run_script.proofs.Steps.{no_offset, long_head, offset_is}
 use mathlib.Core.Path.{ap}

@@ -1,5 +1,4 @@
 -- `order_at` meets its contract: it reads the numbers that stand in the step.
-use borrow.Author.Rules.{rules}
 use native.Mathlib.Omega.{arith}
 use Rattle.run_script.proofs.Steps.{head_least}
 use Rattle.run_script.proofs.Heads.{order_is}

@@ -1,5 +1,4 @@
 -- `second_part` meets its contract: the second part stands between the first and the third.
-use borrow.Author.Rules.{rules}
 use Rattle.run_script.proofs.Parts.{second_is}
 use Rattle.run_script.proofs.second_part.Goals as goal
 

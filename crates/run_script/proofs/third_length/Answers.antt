@@ -1,5 +1,4 @@
 -- `third_length` meets its contract: one law for each mark.
-use borrow.Author.Rules.{rules}
 use native.Mathlib.Omega.{arith}
 use Rattle.run_script.proofs.Steps.{no_third, long_head, third_is}
 use mathlib.Core.Path.{ap}

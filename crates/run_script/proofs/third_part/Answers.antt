@@ -1,5 +1,4 @@
 -- `third_part` meets its contract: the third part stands between the second and the end.
-use borrow.Author.Rules.{rules}
 use Rattle.run_script.proofs.Parts.{third_is}
 use Rattle.run_script.proofs.third_part.Goals as goal
 

@@ -2,7 +2,7 @@
 use borrow.Author.Rules.{rules}
 use native.Mathlib.Omega.{arith}
 use Rattle.run_script.proofs.Turns.{long, step_inside}
-use Rattle.run_script.proofs.Wrongs.{Told, at_head, told, at_step, told_on, behind}
+use Rattle.run_script.proofs.Wrongs.{at_head, told, at_step, told_on, behind}
 use mathlib.Core.Path.{ap}
 use mathlib.Core.Bool.{not}
 use Rattle.run_script.proofs.wrong_from.Goals as goal

@@ -1,8 +1,5 @@
 -- `wrong_from` meets its contract: its turns are those of `check`, and each exit has its law.
-use borrow.Author.Rules.{rules}
-use native.Mathlib.Omega.{arith}
-use Rattle.run_script.proofs.Turns.{long, step_inside}
-use Rattle.run_script.proofs.Wrongs.{Told, at_head, told, at_step, told_on, behind}
+use Rattle.run_script.proofs.Wrongs.{Told}
 use Rattle.run_script.proofs.wrong_from.Given as goal
 
 abbrev pub invariant-loop-left : goal.invariant-loop-left

@@ -75,5 +75,8 @@ returns c =
     let x = size_bounds a.dir.now a.own.now a.part.now a.merge a.head n.result n.ensures (omega arith) k.result.now k.ensures in
     let l = sized_length a.dir.now a.own.now a.part.now a.merge a.head n.result n.ensures in
     let w = c.put_sized in
-    record { output_after = name_put a.dir.now a.own.now a.part.now a.merge a.head n.result n.ensures (omega arith) k.result.now k.ensures
-          a.output.now w.new.output a.at _ (rest_of k.result.now _) w.ensures; value = omega arith }
+    record {
+      output_after = name_put a.dir.now a.own.now a.part.now a.merge a.head n.result n.ensures (omega arith) k.result.now k.ensures
+          a.output.now w.new.output a.at _ (rest_of k.result.now _) w.ensures;
+      value = omega arith;
+    }

@@ -36,8 +36,12 @@ put_next-merge-requires c =
     let h = c.requires.count_bound in
     let n = ends_on a.dirs.ends a.dirs.count l.i c.loop-i-test.true (omega (arith, x, h.0)) in
     let es = take a.dirs.count a.dirs.ends in
-    record { standing = l.invariant.merged.passed.stand; written = record { type = refl; time = refl; long = refl; content = refl }; body_in_bounds = merging_room a.mtime a.table.now a.work.now a.path.now es a.rec l.i l.work l.merge l.invariant
-            (get_or a.dirs.ends l.i 0) n c.requires.rec_in_bounds h.2 }
+    record {
+      standing = l.invariant.merged.passed.stand;
+      written = record { type = refl; time = refl; long = refl; content = refl };
+      body_in_bounds = merging_room a.mtime a.table.now a.work.now a.path.now es a.rec l.i l.work l.merge l.invariant
+          (get_or a.dirs.ends l.i 0) n c.requires.rec_in_bounds h.2;
+    }
 
 pub loop-i-preserved : goal.loop-i-preserved
 loop-i-preserved c =

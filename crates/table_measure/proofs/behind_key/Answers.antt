@@ -1,6 +1,5 @@
 -- `behind_key` meets its contract: the pass goes on behind an entry that has the key, and stays where none has.
 use mathlib.Core.Path.{refl, ap, ◌∙◌}
-use borrow.Author.Rules.{rules}
 use Rattle.model.specs.Table.{entries_at}
 use Rattle.table_entries.specs.declared.Place.{Place}
 use Rattle.table_entries.specs.Place.{end_of}
@@ -20,9 +19,13 @@ returns-then-has_key c =
     let b = c.has_key in
     let n = c.next_entry in
     let h = some_left a.table.now a.key.now a.place.left a.place.at b.result b.ensures c.if-has_key.true in
-    record { standing = n.ensures.standing_2; at_value = ap (λ (p : Place). entries_at a.table.now p.left p.at) n.ensures.value
-            ∙ gone_on a.table.now a.key.now a.place.left a.place.at b.result b.ensures c.if-has_key.true; at_value_2 = ap (λ (p : Place). end_of a.table.now p.left p.at) n.ensures.value
-            ∙ same_end a.table.now a.place.left a.place.at h c.requires }
+    record {
+      standing = n.ensures.standing_2;
+      at_value = ap (λ (p : Place). entries_at a.table.now p.left p.at) n.ensures.value
+          ∙ gone_on a.table.now a.key.now a.place.left a.place.at b.result b.ensures c.if-has_key.true;
+      at_value_2 = ap (λ (p : Place). end_of a.table.now p.left p.at) n.ensures.value
+          ∙ same_end a.table.now a.place.left a.place.at h c.requires;
+    }
 
 pub returns : goal.returns
 returns c =

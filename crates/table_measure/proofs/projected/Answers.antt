@@ -1,6 +1,5 @@
 -- `projected` meets its contract: one entry more where the key has none, and another body where it has one.
 use native.Mathlib.Omega.{arith}
-use borrow.Author.Rules.{rules}
 use Rattle.table_measure.proofs.Steps.{some_left, old_fits, head_fits, put_fresh, put_over}
 use Rattle.table_measure.proofs.projected.Goals as goal
 

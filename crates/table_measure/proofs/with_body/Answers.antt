@@ -3,7 +3,6 @@ use mathlib.Core.Path.{refl, ◌∙◌}
 use native.Mathlib.Omega.{arith}
 use Rattle.model.specs.Table.{body_charge}
 use Rattle.model.proofs.Codec.{exact}
-use borrow.Author.Rules.{rules}
 use Rattle.table_measure.proofs.with_body.Goals as goal
 
 pub returns : goal.returns

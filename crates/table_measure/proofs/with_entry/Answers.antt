@@ -1,6 +1,5 @@
 -- `with_entry` meets its contract: the record with one entry more, by its fields.
 use mathlib.Core.Path.{refl}
-use borrow.Author.Rules.{rules}
 use Rattle.table_measure.proofs.with_entry.Goals as goal
 
 pub returns : goal.returns

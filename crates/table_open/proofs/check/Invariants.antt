@@ -1,5 +1,5 @@
 -- `table_open::check` meets its contract: each turn of the loop is an entry of the one pass, each exit has its law, and the pass gives
--- `isTable`, since what stands in a slice of bytes is below 256.
+-- `is_table`, since what stands in a slice of bytes is below 256.
 use mathlib.Core.Path.{◌∙◌}
 use native.Mathlib.Omega.{arith}
 use borrow.Author.Rules.{rules}

@@ -21,5 +21,8 @@ returns c =
     let a = c.args in
     let l = c.spliced_len-len.ensures a.content.now a.«data».now refl refl in
     let h = c.requires in
-    record { work_after = spliced_put a.work.now _ _ a.key.now a.content.now a.«data».now a.mtime a.at a.offset c.spliced_len-len.result (omega arith) l
-          c.put_head.ensures c.put_content.ensures; value = ap (λ (x : ℕ). a.at + 24 + length a.key.now + x) l }
+    record {
+      work_after = spliced_put a.work.now _ _ a.key.now a.content.now a.«data».now a.mtime a.at a.offset c.spliced_len-len.result (omega arith) l
+          c.put_head.ensures c.put_content.ensures;
+      value = ap (λ (x : ℕ). a.at + 24 + length a.key.now + x) l;
+    }

@@ -20,6 +20,9 @@ returns c =
     let t = c.step_once-stepped in
     let g = c.get_from-got in
     let a = c.args in
-    record { visible_value = seen_kind a.listing.now a.table.now a.rec a.path.now a.sight a.end c.requires.sees c.requires.end_nonzero.0 c.requires.end_nonzero.1 g.result.place
-          g.ensures.sought (visible_kind o.result) g.result.entry t.result.target g.ensures.result_value t.ensures.found o.ensures; sees_2 = sees_next a.listing.now a.table.now a.rec a.path.now a.sight a.end c.requires.sees c.requires.end_nonzero.0 c.requires.end_nonzero.1 g.result.place
-          g.ensures.sought t.result.walk t.ensures.goes_on }
+    record {
+      visible_value = seen_kind a.listing.now a.table.now a.rec a.path.now a.sight a.end c.requires.sees c.requires.end_nonzero.0 c.requires.end_nonzero.1 g.result.place
+          g.ensures.sought (visible_kind o.result) g.result.entry t.result.target g.ensures.result_value t.ensures.found o.ensures;
+      sees_2 = sees_next a.listing.now a.table.now a.rec a.path.now a.sight a.end c.requires.sees c.requires.end_nonzero.0 c.requires.end_nonzero.1 g.result.place
+          g.ensures.sought t.result.walk t.ensures.goes_on;
+    }

@@ -1,5 +1,4 @@
 -- `head_exists` meets its contract: the entry counts where there is one, else the record.
-use borrow.Author.Rules.{rules}
 use Rattle.view_merge.proofs.Steps.{entry_there, record_there, both_there}
 use Rattle.view_merge.proofs.Told.{exists_told}
 use Rattle.view_merge.proofs.head_exists.Goals as goal

@@ -1,6 +1,5 @@
 -- `head_path` meets its contract: what is told to be next gives its path.
 use mathlib.Core.Path.{refl}
-use borrow.Author.Rules.{rules}
 use Rattle.view_merge.proofs.Steps.{entry_there, record_there, both_there}
 use Rattle.view_merge.proofs.Told.{path_told}
 use Rattle.view_merge.proofs.head_path.Goals as goal

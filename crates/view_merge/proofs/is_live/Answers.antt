@@ -1,5 +1,4 @@
 -- `is_live` meets its contract: only a deleted entry has kind 4.
-use borrow.Author.Rules.{rules}
 use Rattle.model.specs.Table.{entry_at}
 use Rattle.view_merge.proofs.Told.{live}
 use Rattle.view_merge.proofs.is_live.Goals as goal

@@ -34,5 +34,10 @@ returns c =
     let b = c.is_dir-on in
     let k = step_kind_lem a.listing.now a.path.now a.self a.end v (search rules) (search rules) c.requires.listing_value c.requires.path_value
     q.result q.ensures d.result t.result d.ensures t.ensures in
-    record { target_value = k; exhausted_value = ap not b.ensures; walk_value = λ z. absurd (bot (cc c.if-exhausted.false)); walks_2 = step_walks a.listing.now a.path.now a.self a.end v (search rules) (search rules) c.requires.listing_value c.requires.path_value
-              q.result q.ensures t.result b.result b.ensures k }
+    record {
+      target_value = k;
+      exhausted_value = ap not b.ensures;
+      walk_value = λ z. absurd (bot (cc c.if-exhausted.false));
+      walks_2 = step_walks a.listing.now a.path.now a.self a.end v (search rules) (search rules) c.requires.listing_value c.requires.path_value
+          q.result q.ensures t.result b.result b.ensures k;
+    }
