@@ -11,7 +11,7 @@ use Rattle.model.specs.Bytes.{every}
 use Rattle.model.specs.Path.{Path, ancestors, below, rest}
 use Rattle.model.specs.Map.{Map, is_none, lookup, puts, only, each, keys, rekey, mapped}
 use Rattle.model.specs.Tree.{Node, Entry, deleted, Table, Tree, shown, a_directory, a_file, kind, is_directory}
-use Rattle.model.specs.Rename.{new_key, as_entry, uncovered, along, carried, moved}
+use Rattle.model.specs.Rename.{new_key, as_entry, uncovered, along, carried}
 use Rattle.model.proofs.Orders.{Lt, Lt_same, Lt_after, Split, split, yea, nay, test, is_none_lem, is_some, opt}
 use Rattle.model.proofs.Orders.{bot, and_true, same_refl, mem, mem_ancestors, below_irrefl, below_trans, below_rest, rest_is, rest_self}
 use Rattle.model.proofs.Maps.{Above, Ascending, above_trans, or_else, map_o, map_ext, ascending_mapped}

@@ -102,6 +102,6 @@ ordered s at p h =
     let f = fits_is s at a.0 in
     record { head = f.0; end = f.1; numbers = b.0; key = c.0; body = d.0; behind = d.1 }
 
-pub in_order : (s : Bytes) (at : ℕ) (p : Path) → Ordered s at p → in_order s at p ≡ true
+pub in_order_lem : (s : Bytes) (at : ℕ) (p : Path) → Ordered s at p → in_order s at p ≡ true
 unfolding in_order
-in_order s at p o = rw (is_fits s at o.head o.end, o.numbers, o.key, o.body, o.behind)
+in_order_lem s at p o = rw (is_fits s at o.head o.end, o.numbers, o.key, o.body, o.behind)

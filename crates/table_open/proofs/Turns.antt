@@ -72,15 +72,15 @@ module _ {s : Bytes} {r : Record} {left at from to c : ℕ} (k : Kept s r left a
     no_entry_lem z = rw (sym e ∙ not-true b z) at (sym (turned s r left at (part s from to) c h) ∙ k.rest)
 
     module _ (z : not b ≡ false) where
-      in_order : in_order s at (part s from to) ≡ true
-      in_order = sym e ∙ not-false b z
+      in_order_lem : in_order s at (part s from to) ≡ true
+      in_order_lem = sym e ∙ not-false b z
 
       pub head : at + 24 ≤ length s
-      head = (ordered s at (part s from to) in_order).head
+      head = (ordered s at (part s from to) in_order_lem).head
 
       module _ {n m : ℕ} (en : n ≡ number_at s at 2) (em : m ≡ number_at s (at + 4) 4) where
         pub end : at + 24 + n + m ≤ length s
-        end = rw (en, em) (ordered s at (part s from to) in_order).end
+        end = rw (en, em) (ordered s at (part s from to) in_order_lem).end
 
         pub kept_on : {v : ℕ} → v ≡ charge_by r.entry_size n m → Kept s r (left - 1) (at + 24 + n + m) (at + 24) (at + 24 + n) (c + v)
         kept_on ev =
@@ -88,7 +88,7 @@ module _ {s : Bytes} {r : Record} {left at from to c : ℕ} (k : Kept s r left a
             let bound = k.bound in
             let last = end in
             let go : run s r (left - 1) (entry_end s at) (key_at s at) (c + charge_by r.entry_size (number_at s at 2) (number_at s (at + 4) 4)) ≡ passes s r
-            = rw in_order at (sym (turned s r left at (part s from to) c h) ∙ k.rest) in
+            = rw in_order_lem at (sym (turned s r left at (part s from to) c h) ∙ k.rest) in
             record {
               small = k.small;
               size = k.size;

@@ -25,7 +25,7 @@ use Rattle.table_charge.specs.Charge.{charge_by}
 use Rattle.table_entries.specs.Place.{Standing}
 use Rattle.table_entries.proofs.Entries.{Stands, stands, table_stands, count_is}
 use Rattle.table_open.specs.Pass.{headed, referring, run, passes}
-use Rattle.table_open.proofs.Steps.{Ordered, in_order}
+use Rattle.table_open.proofs.Steps.{Ordered, in_order_lem}
 use Rattle.table_open.proofs.Rules.{form_ruled, form_body}
 use Rattle.table_open.proofs.Back.{passed}
 
@@ -87,7 +87,7 @@ module _ (s : Bytes) (r : Record) (z : zeros (drop r.used s) ≡ true) where
       let en = w.end in
       let la = length-append (entry_bytes (key_at s at) (entry_at s at)) (encode (entries_at s n (entry_end s at))) in
       let d : ℕ = c + charge_by r.entry_size (number_at s at 2) (number_at s (at + 4) 4) in
-      rw (in_order s at p (entry_ordered s n at p w a.0))
+      rw (in_order_lem s at p (entry_ordered s n at p w a.0))
       (runs n (entry_end s at) (key_at s at) d w.next a.1 (omega arith) (omega arith))
 
 table_passes : (s : Bytes) (r : Record) → is_table s r ≡ true → passes s r ≡ true

@@ -1,7 +1,6 @@
 -- `node_total` meets its contract: each case of an answer tells what its node adds, and whether it stops the walk.
 use mathlib.Core.Path.{sym, ◌∙◌}
 use native.Mathlib.Omega.{arith}
-use borrow.Author.Rules.{rules}
 use Rattle.least_walk.proofs.Adding.{at_dir, at_file, at_link_lem, never_absent}
 use Rattle.least_walk.proofs.node_total.Goals as goal
 

@@ -8,7 +8,7 @@ use Rattle.model.specs.Table.{table_in}
 use Rattle.listing_records.specs.Place.{tree_at}
 use Rattle.rename_uncovered.specs.Ahead.{to_come}
 use Rattle.rename_uncovered.proofs.Passes.{bounds, node_there}
-use Rattle.least_walk.proofs.Adding.{Adding, adding_begun, adding_small, adding_over, adding_on}
+use Rattle.least_walk.proofs.Adding.{adding_begun, adding_small, adding_over, adding_on}
 use Rattle.least_walk.proofs.total_of.Goals as goal
 
 pub loop-here-init : goal.loop-here-init

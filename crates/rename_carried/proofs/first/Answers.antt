@@ -17,12 +17,12 @@ returns c =
     let e = p.count_value in
     let f = c.first_uncovered-listed in
     let g = f.ensures in
-    let d = g.1.0 in
+    let d = g.left_le_count in
     let t = table_in a.table.now a.rec in
     record {
       result_bound = omega arith;
-      streaming = record { entries = p.standing; listed = g.0; under = first_under a.own.now a.part.now t a.source.now a.count e };
-      carrying = record { listed = g.1.1.0; entries = first_entries a.own.now a.part.now t a.source.now a.count e };
+      streaming = record { entries = p.standing; listed = g.ready_at; under = first_under a.own.now a.part.now t a.source.now a.count e };
+      carrying = record { listed = g.ahead_at; entries = first_entries a.own.now a.part.now t a.source.now a.count e };
       result_value = first_carried a.own.now a.part.now t a.source.now a.count e a.records
-          (record { entries = record { at = 0; left = a.count }; listed = f.result }) refl g.1.1.1;
+          (record { entries = record { at = 0; left = a.count }; listed = f.result }) refl g.at_value;
     }

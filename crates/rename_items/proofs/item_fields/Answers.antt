@@ -34,5 +34,4 @@ returns-in-Listed c =
 pub returns-in-End : goal.returns-in-End
 returns-in-End c =
     let a = c.args in
-    let it = absurd (not_ended a.own.now a.part.now a.stream a.head c.requires.next c.in-End.is c.requires.stream_nonzero) in
-    record { kind_value = it.0; mtime_value = it.1.0; size_value = it.1.1 }
+    absurd (not_ended a.own.now a.part.now a.stream a.head c.requires.next c.in-End.is c.requires.stream_nonzero)

@@ -1,6 +1,5 @@
 -- `table_open::is_behind` meets its contract: the parts that it compares are the key before and the key.
 use mathlib.Core.Path.{ap, ◌∙◌}
-use borrow.Author.Rules.{rules}
 use Rattle.model.specs.Bytes.{before}
 use Rattle.base_fields.specs.Read.{part}
 use Rattle.table_open.proofs.Steps.{key_is}

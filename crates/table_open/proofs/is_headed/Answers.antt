@@ -1,5 +1,4 @@
 -- `table_open::is_headed` meets its contract: it tests the numbers that stand in the entry.
-use borrow.Author.Rules.{rules}
 use Rattle.table_open.proofs.Steps.{by_numbers}
 use Rattle.table_open.proofs.is_headed.Goals as goal
 

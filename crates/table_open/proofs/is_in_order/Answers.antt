@@ -1,5 +1,4 @@
 -- `table_open::is_in_order` meets its contract: one law for each exit.
-use borrow.Author.Rules.{rules}
 use Rattle.base_fields.specs.Read.{part}
 use Rattle.table_open.proofs.Steps.{fits_is, fitting, not_fitting, not_headed, not_keyed, not_referring, by_order}
 use mathlib.Core.Path.{ap}

@@ -1,6 +1,5 @@
 -- `table_open::is_keyed` meets its contract: the part that it tests is the key.
 use mathlib.Core.Path.{ap, ◌∙◌}
-use borrow.Author.Rules.{rules}
 use Rattle.model.specs.Path.{is_path}
 use Rattle.table_open.proofs.Steps.{key_is}
 use Rattle.table_open.proofs.is_keyed.Goals as goal

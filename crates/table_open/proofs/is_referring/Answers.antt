@@ -1,5 +1,4 @@
 -- `table_open::is_referring` meets its contract: one law for each exit.
-use borrow.Author.Rules.{rules}
 use Rattle.table_open.proofs.Steps.{is_reference, no_reference}
 use Rattle.table_open.proofs.is_referring.Goals as goal
 

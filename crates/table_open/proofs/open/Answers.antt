@@ -1,5 +1,4 @@
 -- `table_open::open` meets its contract: one law for each exit.
-use borrow.Author.Rules.{rules}
 use Rattle.table_open.proofs.Opens.{not_opened, now_open}
 use mathlib.Core.Path.{ap}
 use mathlib.Core.Bool.{not}

@@ -27,7 +27,7 @@ finish-requires c =
     let g1 = g.1 in
     let g2 = g.2 in
     let g3 = g.3 in
-    let l = w.auto.0 in
+    let l = w.auto.t in
     let h = c.requires.table_in_bounds in
     record { at_le_used = (omega arith, omega arith); at_in_bounds = (omega arith, omega arith) }
 
@@ -44,4 +44,4 @@ returns c =
     x.ensures.value f.ensures n.ensures.standing n.ensures.at_value n.ensures.at_value_2 a.work.now w.new.t c.requires.table_in_bounds w.ensures in
     let u = used_is a.table.now a.rec a.key.now x.result f.result n.result c.requires.rec_value
     x.ensures.value f.ensures n.ensures.standing n.ensures.at_value n.ensures.at_value_2 in
-    record { value = o.ensures; table_after = e.ensures.table_after (del a.key.now (table_in a.table.now a.rec)) a.key.now m u; work_after = zeros_as_long a.work.now w.new.t _ e.ensures.work_after w.auto.0 }
+    record { value = o.ensures; table_after = e.ensures.table_after (del a.key.now (table_in a.table.now a.rec)) a.key.now m u; work_after = zeros_as_long a.work.now w.new.t _ e.ensures.work_after w.auto.t }

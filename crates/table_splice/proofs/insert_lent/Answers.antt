@@ -21,7 +21,7 @@ settle-requires c =
     let w = c.write_spliced-splice in
     let a = c.args in
     let v = own a.mtime (spliced (length a.lent.now) a.«data».now a.lent.now) in
-    let l = w.auto.0 in
+    let l = w.auto.work in
     let h = c.requires.table_in_bounds in
     record { fitting = fitting a.table.now a.rec a.limit a.key.now v w.result a.work.now _ c.requires.rec_value w.ensures; table_in_bounds = omega arith }
 

@@ -21,7 +21,7 @@ settle-requires c =
     let a = c.args in
     let s = a.table.now in
     let v = own a.mtime (spliced a.offset a.«data».now (body_of (entry_at s a.place.at))) in
-    let l = w.auto.0 in
+    let l = w.auto.work in
     let h = c.requires.data_bound.1 in
     record { fitting = fitting s a.rec a.limit a.key.now v w.result a.work.now _ c.requires.rec_value w.ensures; table_in_bounds = omega arith }
 

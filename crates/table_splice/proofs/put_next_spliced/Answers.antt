@@ -12,4 +12,4 @@ returns c =
     let r = spliced_next a.table.now a.work.now _ _ a.key.now a.content.now a.«data».now a.mtime a.offset m.left m.at m.out
     n.left n.at n.out c.put_spliced-out.result c.requires.content_in_bounds c.copy_up_to-behind.ensures c.put_spliced-out.ensures.work_after
     c.put_spliced-out.ensures.value in
-    record { merged = r; work_len_unchanged = c.put_spliced-out.auto.0 ∙ c.copy_up_to-behind.auto.0; at_value = c.copy_up_to-behind.ensures.end }
+    record { merged = r; work_len_unchanged = c.put_spliced-out.auto.work ∙ c.copy_up_to-behind.auto.work; at_value = c.copy_up_to-behind.ensures.end }

@@ -1,6 +1,5 @@
 -- `table_write::copy_up_to` meets its contract: what stands up to the key is copied in one piece.
 use Rattle.table_write.proofs.Merges.{copied_up}
-use borrow.Author.Rules.{rules}
 use Rattle.table_write.proofs.copy_up_to.Goals as goal
 
 pub returns : goal.returns

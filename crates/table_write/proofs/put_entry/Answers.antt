@@ -2,7 +2,6 @@
 use mathlib.Core.Path.{refl}
 use native.Mathlib.Omega.{arith}
 use Rattle.table_write.proofs.Merges.{entry_put}
-use borrow.Author.Rules.{rules}
 use Rattle.table_write.proofs.put_entry.Goals as goal
 
 pub returns : goal.returns

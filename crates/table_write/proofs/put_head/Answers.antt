@@ -1,6 +1,5 @@
 -- `table_write::put_head` meets its contract: a head's parts are written in a row.
 use Rattle.table_write.proofs.Merges.{head_put}
-use borrow.Author.Rules.{rules}
 use Rattle.table_write.proofs.put_head.Goals as goal
 
 pub returns : goal.returns

@@ -14,4 +14,4 @@ returns c =
     let v = entry_of a.kind a.mtime a.size a.body.now in
     let r = next_put a.table.now a.work.now _ _ a.key.now v m.left m.at m.out n.left n.at n.out (length a.body.now)
     (ap length c.requires.written.content) c.requires.body_in_bounds c.copy_up_to-behind.ensures c.put_entry.ensures in
-    record { merged = r; work_len_unchanged = c.put_entry.auto.0 ∙ c.copy_up_to-behind.auto.0; at_value = c.copy_up_to-behind.ensures.end }
+    record { merged = r; work_len_unchanged = c.put_entry.auto.work ∙ c.copy_up_to-behind.auto.work; at_value = c.copy_up_to-behind.ensures.end }

@@ -1,5 +1,4 @@
 -- `begin` meets its contract: with both cursors at the start all is ahead.
-use borrow.Author.Rules.{rules}
 use Rattle.view_at.proofs.Sights.{sees_all}
 use Rattle.view_at.proofs.begin.Goals as goal
 

@@ -1,6 +1,5 @@
 -- `over` meets its contract: each case of an entry says what is visible, and without an entry it is the listing's.
 use mathlib.Core.Path.{ap, sym, ◌∙◌}
-use borrow.Author.Rules.{rules}
 use Rattle.table_entries.specs.Said.{said_of}
 use Rattle.view_at.proofs.Sights.{over_file, over_reference, over_directory, over_deleted, over_absent}
 use Rattle.view_at.proofs.over.Goals as goal

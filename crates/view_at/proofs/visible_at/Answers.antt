@@ -1,5 +1,4 @@
 -- `visible_at` meets its contract: the entry at the path, or what is listed there; the root apart.
-use borrow.Author.Rules.{rules}
 use Rattle.model.specs.Table.{table_in}
 use Rattle.model.specs.Listing.{tree_in}
 use Rattle.model.specs.Tree.{shown}

@@ -1,6 +1,5 @@
 -- `overlay_directory_has_children` meets its contract: the entries below the directory have all its children.
 use mathlib.Core.Path.{ap, ◌∙◌}
-use borrow.Author.Rules.{rules}
 use Rattle.model.specs.Table.{table_in}
 use Rattle.table_below.specs.Parts.{visible_in}
 use Rattle.view_children.proofs.Sublists.{visible_below}

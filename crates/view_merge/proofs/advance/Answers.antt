@@ -50,5 +50,4 @@ returns-in-Both c =
 pub returns-in-End : goal.returns-in-End
 returns-in-End c =
     let a = c.args in
-    let it = absurd (not_ended a.own.now a.part.now a.merge c.requires.merging a.head c.requires.next c.in-End.is c.requires.merge_nonzero) in
-    record { result_bound = it.0; merging_2 = it.1.0; head_bound = it.1.1.0; merge_value = it.1.1.1 }
+    absurd (not_ended a.own.now a.part.now a.merge c.requires.merging a.head c.requires.next c.in-End.is c.requires.merge_nonzero)
