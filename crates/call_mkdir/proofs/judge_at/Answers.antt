@@ -15,7 +15,7 @@ make_at-requires c =
     let f = shown_in a.listing.now a.table.now a.rec in
     let v = c.visible_at-visible in
     let x = c.at_path-step in
-    let n = make_nothing (length a.path.now) a.exist-ok (visible_kind v.result) (kind f a.path.now) x.result v.ensures x.ensures c.in-Make.is in
+    let n = make_nothing (length a.path.now) a.exist_ok (visible_kind v.result) (kind f a.path.now) x.result v.ensures x.ensures c.in-Make.is in
     record { given = c.requires.given; path_value = c.requires.path_value; path_value_2 = n }
 
 pub returns-in-Make : goal.returns-in-Make
@@ -27,7 +27,7 @@ returns-in-Make c =
     let x = c.at_path-step in
     let y = c.make_at in
     let d = mkdir_parents f p a.parents in
-    record { later_value = at_make (length p) a.exist-ok (visible_kind v.result) (kind f p) x.result v.ensures x.ensures d y.result.step c.in-Make.is y.ensures.later_value; makes = y.ensures.makes; path_value_2 = λ e. absurd (never_there d y.result.step y.ensures.later_value e) }
+    record { later_value = at_make (length p) a.exist_ok (visible_kind v.result) (kind f p) x.result v.ensures x.ensures d y.result.step c.in-Make.is y.ensures.later_value; makes = y.ensures.makes; path_value_2 = λ e. absurd (never_there d y.result.step y.ensures.later_value e) }
 
 pub returns-in-There : goal.returns-in-There
 returns-in-There c =
@@ -37,7 +37,7 @@ returns-in-There c =
     let v = c.visible_at-visible in
     let x = c.at_path-step in
     let g = c.in-There.is in
-    record { later_value = at_there (length p) a.exist-ok (visible_kind v.result) (kind f p) x.result v.ensures x.ensures (mkdir_parents f p a.parents) g; makes = λ e. absurd (there_not_make e); path_value_2 = λ e. there_makes (length p) a.exist-ok (visible_kind v.result) (kind f p) x.result v.ensures x.ensures g f p refl }
+    record { later_value = at_there (length p) a.exist_ok (visible_kind v.result) (kind f p) x.result v.ensures x.ensures (mkdir_parents f p a.parents) g; makes = λ e. absurd (there_not_make e); path_value_2 = λ e. there_makes (length p) a.exist_ok (visible_kind v.result) (kind f p) x.result v.ensures x.ensures g f p refl }
 
 pub returns-in-Refused : goal.returns-in-Refused
 returns-in-Refused c =
@@ -46,4 +46,4 @@ returns-in-Refused c =
     let p = a.path.now in
     let v = c.visible_at-visible in
     let x = c.at_path-step in
-    record { later_value = at_refused (length p) a.exist-ok (visible_kind v.result) (kind f p) x.result v.ensures x.ensures (mkdir_parents f p a.parents) _ c.in-Refused.is; makes = λ e. absurd (refused_not_make _ e); path_value_2 = λ e. absurd (refused_not_there _ e) }
+    record { later_value = at_refused (length p) a.exist_ok (visible_kind v.result) (kind f p) x.result v.ensures x.ensures (mkdir_parents f p a.parents) _ c.in-Refused.is; makes = λ e. absurd (refused_not_make _ e); path_value_2 = λ e. absurd (refused_not_there _ e) }

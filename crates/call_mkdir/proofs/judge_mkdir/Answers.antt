@@ -13,7 +13,7 @@ returns-in-Refused c =
     let f = shown_in a.listing.now a.table.now a.rec in
     let p = a.path.now in
     let j = c.check_path-form in
-    record { later_value = λ later. on_refused (form 0 p) j.result j.ensures _ c.in-Refused.is (mkdir_checks f p a.parents a.exist-ok later); path_value = λ e. absurd (refused_not_make _ e); path_value_2 = λ e. absurd (refused_not_there _ e) }
+    record { later_value = λ later. on_refused (form 0 p) j.result j.ensures _ c.in-Refused.is (mkdir_checks f p a.parents a.exist_ok later); path_value = λ e. absurd (refused_not_make _ e); path_value_2 = λ e. absurd (refused_not_there _ e) }
 
 pub judge_at-requires : goal.judge_at-requires
 judge_at-requires c =
@@ -28,4 +28,4 @@ returns-in-Pass c =
     let j = c.check_path-form in
     let g = c.in-Pass.is in
     let x = c.judge_at in
-    record { later_value = λ later. on_passed (form 0 p) j.result j.ensures g (mkdir_checks f p a.parents a.exist-ok later) ∙ x.ensures.later_value later; path_value = λ e. (path_known p j.result j.ensures g, x.ensures.makes e); path_value_2 = x.ensures.path_value_2 }
+    record { later_value = λ later. on_passed (form 0 p) j.result j.ensures g (mkdir_checks f p a.parents a.exist_ok later) ∙ x.ensures.later_value later; path_value = λ e. (path_known p j.result j.ensures g, x.ensures.makes e); path_value_2 = x.ensures.path_value_2 }

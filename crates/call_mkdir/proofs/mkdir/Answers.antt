@@ -9,11 +9,11 @@ pub returns-in-Refused : goal.returns-in-Refused
 returns-in-Refused c =
     let a = c.args in
     let j = c.admitted-admitted in
-    not_admitted a.listing.now (requested (mkdir a.path.now a.parents a.exist-ok a.mtime) a.limit a.work.now) (stored a.table.now a.rec) j.result j.ensures _ c.in-Refused.is
+    not_admitted a.listing.now (requested (mkdir a.path.now a.parents a.exist_ok a.mtime) a.limit a.work.now) (stored a.table.now a.rec) j.result j.ensures _ c.in-Refused.is
 
 pub mkdir_admitted-requires : goal.mkdir_admitted-requires
 mkdir_admitted-requires c =
     let a = c.args in
     let j = c.admitted-admitted in
-    let it = admitted_given a.listing.now (requested (mkdir a.path.now a.parents a.exist-ok a.mtime) a.limit a.work.now) (stored a.table.now a.rec) j.result j.ensures c.in-Pass.is in
+    let it = admitted_given a.listing.now (requested (mkdir a.path.now a.parents a.exist_ok a.mtime) a.limit a.work.now) (stored a.table.now a.rec) j.result j.ensures c.in-Pass.is in
     record { given = it.0; table_in_bounds = it.1 }

@@ -13,7 +13,7 @@ returns-then-rec-ne-NUMBERS c = let a = c.args in rw (not_four a.rec.now c.if-re
 pub store_and_pack-requires : goal.store_and_pack-requires
 store_and_pack-requires c =
     let a = c.args in
-    let q = requested (mkdir a.path.now a.parents a.exist-ok a.mtime) a.limit a.work.now in
+    let q = requested (mkdir a.path.now a.parents a.exist_ok a.mtime) a.limit a.work.now in
     let r = c.record_in-before in
     let u = c.mkdir-answered in
     record { rec_len = c.if-rec-ne-NUMBERS.false; fits = call_fits a.listing.now q a.table.now a.rec.now c.if-rec-ne-NUMBERS.false r.result r.ensures u.result u.new.table u.new.work u.ensures }
@@ -21,7 +21,7 @@ store_and_pack-requires c =
 pub returns : goal.returns
 returns c =
     let a = c.args in
-    let q = requested (mkdir a.path.now a.parents a.exist-ok a.mtime) a.limit a.work.now in
+    let q = requested (mkdir a.path.now a.parents a.exist_ok a.mtime) a.limit a.work.now in
     let r = c.record_in-before in
     let u = c.mkdir-answered in
     let s = c.store_and_pack in

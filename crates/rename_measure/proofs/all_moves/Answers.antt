@@ -10,7 +10,7 @@ returns-then-whole c =
     let g = c.moves_below in
     record {
       moved = moves_whole a.table.now a.listing.now a.rec p.rec_value p.listing_value a.source.now a.whole p.source c.if-whole.true
-          a.destination.now a.first-len p.e_len g.result g.ensures.moved;
+          a.destination.now a.first_len p.e_len g.result g.ensures.moved;
       small = g.ensures.small;
     }
 
@@ -21,6 +21,6 @@ returns c =
     let g = c.one_move in
     record {
       moved = moves_alone a.table.now a.listing.now a.rec p.rec_value p.listing_value a.source.now a.whole p.source c.if-whole.false
-          a.destination.now a.first-len p.e_len g.result (g.ensures.moved a.source.now);
+          a.destination.now a.first_len p.e_len g.result (g.ensures.moved a.source.now);
       small = g.ensures.small;
     }

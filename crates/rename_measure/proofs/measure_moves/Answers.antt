@@ -29,19 +29,19 @@ loop-stream-init c =
     λ v l.
     moving_begun a.own.now a.part.now a.table.now a.source.now a.destination.now v a.rec a.count a.records
     f.result f.new.flags
-    c.requires.rec_value (p.0, p.1) f.ensures.streaming f.ensures.result_bound f.ensures.carrying a.first-len p.2 l t.result t.ensures.measured
+    c.requires.rec_value (p.0, p.1) f.ensures.streaming f.ensures.result_bound f.ensures.carrying a.first_len p.2 l t.result t.ensures.measured
     t.ensures.extra_value
 
 pub head_at-head-requires : goal.head_at-head-requires
 head_at-head-requires c =
-    let n = c.args.first-len in
+    let n = c.args.first_len in
     let w = (c.loop-stream.invariant (some_entry n) (as_long n)).streaming in
     record { standing = w.entries; standing_2 = w.listed.stand }
 
 pub with_move-tally-requires : goal.with_move-tally-requires
 with_move-tally-requires c =
     let a = c.args in
-    let n = a.first-len in
+    let n = a.first_len in
     let v = some_entry n in
     let l = c.loop-stream in
     let f = c.first-stream in
@@ -68,7 +68,7 @@ with_move-tally-requires c =
 
 pub advance-stream-requires : goal.advance-stream-requires
 advance-stream-requires c =
-    let n = c.args.first-len in
+    let n = c.args.first_len in
     let w = (c.loop-stream.invariant (some_entry n) (as_long n)).streaming in
     record { streaming = w; next = c.head_at-head.ensures.next; stream_nonzero = c.has_next.ensures.0 c.loop-stream-test.true }
 
@@ -94,8 +94,8 @@ returns c =
     let a = c.args in
     let l = c.loop-stream in
     let f = c.first-stream in
-    let v0 = some_entry a.first-len in
-    let m = l.invariant v0 (as_long a.first-len) in
+    let v0 = some_entry a.first_len in
+    let m = l.invariant v0 (as_long a.first_len) in
     let k = moving_counts a.own.now a.part.now a.table.now a.source.now a.destination.now v0 a.rec a.count a.records
     f.result l.flags l.tally l.stream m
     c.requires.rec_value c.requires.standing c.requires.part_below in

@@ -12,7 +12,7 @@ all_moves-moves-requires c =
     let d = p.destination_nonzero in
     let x = p.source in
     let f = p.e_len in
-    let n = length_small a.table.now a.listing.now a.rec p.rec_value p.listing_value a.source.now a.whole x a.first-len f in
+    let n = length_small a.table.now a.listing.now a.rec p.rec_value p.listing_value a.source.now a.whole x a.first_len f in
     record { listing_value = p.listing_value; rec_value = p.rec_value; destination_nonzero = (d.0, d.1, n); source = x; e_len = f }
 
 pub together-requires : goal.together-requires

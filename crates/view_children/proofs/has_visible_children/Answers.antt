@@ -4,10 +4,6 @@ use Rattle.model.specs.Listing.{tree_in}
 use Rattle.view_children.proofs.Visibles.{in_table, in_listing}
 use Rattle.view_children.proofs.has_visible_children.Goals as goal
 
-real-directory-has-visible-children-requires :
-    tie.Need-real-directory-has-visible-children-requires
-real-directory-has-visible-children-requires c κs = search rules
-
 pub returns-then-overlay_directory_has_children : goal.returns-then-overlay_directory_has_children
 returns-then-overlay_directory_has_children c =
     let a = c.args in

@@ -25,7 +25,7 @@ returns-then-is_child-is_absent c =
     let x = c.is_child in
     let y = c.is_absent in
     search_found a.part.now a.table.now a.dir.now a.count (entries_at a.table.now a.place.left a.place.at)
-    l.left l.at l.entries-left l.entry_at l.invariant c.loop-left-test.true
+    l.left l.at l.entries_left l.entry_at l.invariant c.loop-left-test.true
     p.result.now p.ensures g.result.entry g.ensures.result_value x.result x.ensures y.result y.ensures c.if-is_child-is_absent.true
 
 pub next_record-next-requires : goal.next_record-next-requires
@@ -48,7 +48,7 @@ loop-left-preserved c =
     let y = c.is_absent in
     let n = c.next_record-next in
     search_on a.part.now a.table.now a.dir.now a.count (entries_at a.table.now a.place.left a.place.at)
-    l.left l.at l.entries-left l.entry_at l.invariant c.loop-left-test.true
+    l.left l.at l.entries_left l.entry_at l.invariant c.loop-left-test.true
     p.result.now p.ensures g.result.entry g.ensures.result_value x.result x.ensures y.result y.ensures c.if-is_child-is_absent.false
     n.result n.ensures.value n.ensures.standing_2 g.result.place.left g.result.place.at g.ensures.sought
 
@@ -57,4 +57,4 @@ returns c =
     let a = c.args in
     let l = c.loop-left in
     search_end a.part.now a.table.now a.dir.now a.count (entries_at a.table.now a.place.left a.place.at)
-    l.left l.at l.entries-left l.entry_at l.invariant (search rules)
+    l.left l.at l.entries_left l.entry_at l.invariant (search rules)
