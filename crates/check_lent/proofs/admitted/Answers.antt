@@ -2,8 +2,7 @@
 use mathlib.Core.Path.{sym, ◌∙◌}
 use lib.Dec.{leb}
 use lib.ListN.{length}
-use borrow.Author.Rules.{rules}
-use borrow.Author.Tests.{not-true, not-false, lt-leb, le-leb}
+use borrow.Author.Tests.{lt-leb, le-leb}
 use Rattle.model.specs.Listing.{is_listing}
 use Rattle.model.specs.Table.{is_table}
 use Rattle.check_lent.proofs.Lents.{no_table, no_work, no_listing, all_there}

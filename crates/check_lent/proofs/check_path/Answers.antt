@@ -1,5 +1,4 @@
 -- `check_path` meets its contract: the test decides.
-use borrow.Author.Rules.{rules}
 use Rattle.model.specs.Path.{is_path}
 use Rattle.model.specs.Checks.{pass, refuse}
 use Rattle.check_judged.proofs.Thens.{when, otherwise}

@@ -1,5 +1,4 @@
 -- `check_paths` meets its contract: 3 for the source, then for the destination.
-use borrow.Author.Rules.{rules}
 use Rattle.model.specs.Checks.{form}
 use Rattle.check_judged.specs.Judged.{check_of}
 use Rattle.check_judged.proofs.Thens.{ends, goes_on}

@@ -1,7 +1,6 @@
 -- `ready` meets its contract: 1 and 2, then 3.
 use mathlib.Core.Path.{◌∙◌}
 use mathlib.Core.Bool.{◌&&◌}
-use borrow.Author.Rules.{rules}
 use lib.Dec.{leb}
 use lib.ListN.{length}
 use Rattle.model.specs.Listing.{is_listing}

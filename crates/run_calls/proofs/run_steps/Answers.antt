@@ -36,7 +36,7 @@ overflow_add-row c = omega (arith, c.loop-more.invariant.small)
 pub loop-more-preserved : goal.loop-more-preserved
 loop-more-preserved c =
     let p = c.put_row in
-    on c.loop-more.invariant (omega (arith, c.loop-more-test.true)) c.run_step-answered.ensures p.ensures c.run_step-answered.auto.table c.run_step-answered.auto.work p.auto.0
+    on c.loop-more.invariant (omega (arith, c.loop-more-test.true)) c.run_step-answered.ensures p.ensures c.run_step-answered.auto.table c.run_step-answered.auto.work p.auto.report
     c.end_of-place.result c.end_of-place.ensures
 
 pub shape_of-table : goal.shape_of-table

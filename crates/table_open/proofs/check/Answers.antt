@@ -3,7 +3,7 @@
 use mathlib.Core.Path.{◌∙◌}
 use native.Mathlib.Omega.{arith}
 use borrow.Author.Rules.{rules}
-use Rattle.table_open.proofs.Turns.{Kept, not_sized, started, no_entry_lem, head, end, kept_on, finished}
+use Rattle.table_open.proofs.Turns.{not_sized, started, no_entry_lem, head, end, kept_on, finished}
 use Rattle.table_open.proofs.Whole.{pass_is_table}
 use mathlib.Core.Path.{ap}
 use mathlib.Core.Bool.{not}

@@ -1,10 +1,6 @@
 -- `table_open::check` meets its contract: each turn of the loop is an entry of the one pass, each exit has its law, and the pass gives
 -- `is_table`, since what stands in a slice of bytes is below 256.
-use mathlib.Core.Path.{◌∙◌}
-use native.Mathlib.Omega.{arith}
-use borrow.Author.Rules.{rules}
-use Rattle.table_open.proofs.Turns.{Kept, not_sized, started, no_entry_lem, head, end, kept_on, finished}
-use Rattle.table_open.proofs.Whole.{pass_is_table}
+use Rattle.table_open.proofs.Turns.{Kept}
 use Rattle.table_open.proofs.check.Given as goal
 
 abbrev pub invariant-loop-left : goal.invariant-loop-left
