@@ -1,5 +1,4 @@
 -- `advance` meets its contract: the stream that was told goes on, and the other one stays.
-use borrow.Author.Rules.{rules}
 use Rattle.rename_carried.proofs.Steps.{went_past_entry, went_past_listed}
 use Rattle.rename_carried.proofs.Items.{entry_there, listed_there, not_ended}
 use Rattle.rename_carried.proofs.advance.Goals as goal
