@@ -4,7 +4,6 @@ use Prim.Native.Nat.{ℕ}
 use lib.ListN.{replicate}
 use Rattle.base_fields.proofs.Zeros.{zeroed_all}
 use Rattle.table_write.proofs.Merges.{finished}
-use borrow.Author.Rules.{rules}
 use Rattle.table_write.proofs.finish.Goals as goal
 
 pub returns : goal.returns

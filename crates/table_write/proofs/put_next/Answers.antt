@@ -3,7 +3,6 @@ use mathlib.Core.Path.{ap, ◌∙◌}
 use lib.ListN.{length}
 use Rattle.model.specs.Table.{entry_of}
 use Rattle.table_write.proofs.Merges.{next_put}
-use borrow.Author.Rules.{rules}
 use Rattle.table_write.proofs.put_next.Goals as goal
 
 pub returns : goal.returns
