@@ -5,7 +5,7 @@ use mathlib.Core.Bool.{Bool, true, false, ◌&&◌, ◌||◌}
 use mathlib.Core.Option.{Option}
 use Prim.Native.Nat.{ℕ, zero, suc, ◌-◌, ◌<◌, ◌≤◌}
 use native.Mathlib.Omega.{arith}
-use Rattle.model.specs.Bytes.{Bytes, before}
+use Rattle.model.specs.Bytes.{Bytes}
 use Rattle.model.specs.Path.{Path, child}
 use Rattle.model.specs.Map.{lookup, is_none}
 use Rattle.model.specs.Tree.{Entry, Table, Tree}

@@ -1,5 +1,4 @@
 -- `has_visible_children` meets its contract: a visible child is in the table, or listed without an entry.
-use borrow.Author.Rules.{rules}
 use Rattle.model.specs.Listing.{tree_in}
 use Rattle.view_children.proofs.Visibles.{in_table, in_listing}
 use Rattle.view_children.proofs.has_visible_children.Goals as goal

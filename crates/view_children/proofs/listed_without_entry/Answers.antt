@@ -2,7 +2,7 @@
 use borrow.Author.Rules.{rules}
 use Rattle.model.specs.Listing.{record_end}
 use Rattle.model.specs.Table.{entries_at}
-use Rattle.view_children.proofs.Searches.{Searching, search_start, search_found, search_on, search_less, search_end}
+use Rattle.view_children.proofs.Searches.{search_start, search_found, search_on, search_less, search_end}
 use Rattle.view_children.proofs.listed_without_entry.Goals as goal
 
 pub loop-left-init : goal.loop-left-init

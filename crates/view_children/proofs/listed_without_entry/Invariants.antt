@@ -1,8 +1,6 @@
 -- `listed_without_entry` meets its contract: each record that is no such child is passed, and so are the entries before it.
-use borrow.Author.Rules.{rules}
-use Rattle.model.specs.Listing.{record_end}
 use Rattle.model.specs.Table.{entries_at}
-use Rattle.view_children.proofs.Searches.{Searching, search_start, search_found, search_on, search_less, search_end}
+use Rattle.view_children.proofs.Searches.{Searching}
 use Rattle.view_children.proofs.listed_without_entry.Given as goal
 
 abbrev pub invariant-loop-left : goal.invariant-loop-left

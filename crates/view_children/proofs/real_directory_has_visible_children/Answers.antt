@@ -1,5 +1,4 @@
 -- `real_directory_has_visible_children` meets its contract: the records below the directory have all its children.
-use borrow.Author.Rules.{rules}
 use Rattle.view_children.proofs.Sublists.{part_stands, listed_part}
 use Rattle.view_children.proofs.real_directory_has_visible_children.Goals as goal
 
