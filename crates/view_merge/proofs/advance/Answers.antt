@@ -1,5 +1,4 @@
 -- `advance` meets its contract: what was told is passed, and what else there is stays.
-use borrow.Author.Rules.{rules}
 use Rattle.view_merge.proofs.Steps.{past_entry, past_record, past_both, entry_there, record_there, both_there, not_ended}
 use Rattle.view_merge.proofs.advance.Goals as goal
 
