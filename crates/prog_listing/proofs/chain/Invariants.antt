@@ -1,0 +1,8 @@
+use Rattle.std.proofs.Common.{◌≡◌, ◌-◌, length}
+use Rattle.prog_listing.proofs.chain.Given as goal
+
+abbrev pub invariant-loop-d : goal.invariant-loop-d
+invariant-loop-d l = length l.s ≡ length l.initial.s
+
+abbrev pub decreases-loop-d : goal.decreases-loop-d
+decreases-loop-d l = 32 - l.d

@@ -1,0 +1,9 @@
+-- `prog_random::listed` is safe and ends: the length stays, and the measure is how many paths are to come.
+use Rattle.std.proofs.Common.{◌≡◌, ◌-◌, length, refl, ◌∙◌, rules}
+use Rattle.prog_random.proofs.listed.Goals as goal
+
+pub loop-i-init : goal.loop-i-init
+loop-i-init c = refl
+
+pub shape_of-s : goal.shape_of-s
+shape_of-s c = c.head.auto.0 ∙ c.loop-i.invariant

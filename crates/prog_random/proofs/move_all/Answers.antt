@@ -1,0 +1,9 @@
+-- `prog_random::move_all` is safe and ends: the length stays, and the measure is how many paths are to come.
+use Rattle.std.proofs.Common.{◌≡◌, ◌-◌, length, refl, rules}
+use Rattle.prog_random.proofs.move_all.Goals as goal
+
+pub loop-k-init : goal.loop-k-init
+loop-k-init c = refl
+
+pub shape_of-tree : goal.shape_of-tree
+shape_of-tree c = c.loop-k.invariant

@@ -1,0 +1,9 @@
+-- `prog_random::plant` is safe and ends: the length stays, and the measure is how many paths are to come.
+use Rattle.std.proofs.Common.{◌≡◌, ◌-◌, length, refl, rules}
+use Rattle.prog_random.proofs.plant.Goals as goal
+
+pub loop-i-init : goal.loop-i-init
+loop-i-init c = refl
+
+pub shape_of-tree : goal.shape_of-tree
+shape_of-tree c = c.loop-i.invariant

@@ -1,0 +1,24 @@
+-- `prog_random::steps` is safe and ends: each lent buffer keeps its length, and the measure is how many calls are to come.
+use Rattle.std.proofs.Common.{◌≡◌, ◌-◌, length, refl, ◌∙◌, rules}
+use Rattle.prog_random.proofs.steps.Goals as goal
+
+pub loop-i-init : goal.loop-i-init
+loop-i-init c = (refl, refl, refl, refl)
+
+pub loop-i-preserved : goal.loop-i-preserved
+loop-i-preserved c =
+    let k = c.step-now.auto.1.1 in
+    let i = c.loop-i.invariant in
+    (k.0 ∙ i.0, k.1.0 ∙ i.1, k.1.1.0 ∙ i.2, k.1.1.1.0 ∙ i.3)
+
+pub shape_of-table : goal.shape_of-table
+shape_of-table c = c.loop-i.invariant.0
+
+pub shape_of-old : goal.shape_of-old
+shape_of-old c = c.loop-i.invariant.1
+
+pub shape_of-work : goal.shape_of-work
+shape_of-work c = c.loop-i.invariant.2
+
+pub shape_of-tree : goal.shape_of-tree
+shape_of-tree c = c.loop-i.invariant.3

@@ -1,0 +1,12 @@
+-- `list_files` meets its contract: each record is put within the listing, and the numbers rise by at most 2.
+use Rattle.std.proofs.Common.{◌≡◌, ◌-◌, ◌*◌, ◌≤◌, length, refl, ◌∙◌, rules}
+use Rattle.prog_rename.proofs.list_files.Goals as goal
+
+pub loop-i-init : goal.loop-i-init
+loop-i-init c = (refl, search rules, search rules)
+
+pub loop-i-preserved : goal.loop-i-preserved
+loop-i-preserved c = (c.list_file.auto.0 ∙ c.loop-i.invariant.0, search rules, search rules)
+
+pub shape_of-s : goal.shape_of-s
+shape_of-s c = c.loop-i.invariant.0

@@ -1,0 +1,16 @@
+-- `keep::write_kept` is safe: the part that it hands on has the length that the writer answered.
+use mathlib.Core.Path.{sym}
+use lib.Seq.{length-take-le}
+use Rattle.prog_variant.proofs.MadeFile.{made_within}
+use borrow.Author.Rules.{rules}
+use Rattle.prog_variant.proofs.keep.write_kept.Goals as goal
+
+pub slice_bounds-write_file-end : goal.slice_bounds-write_file-end
+slice_bounds-write_file-end c =
+    let a = c.args in
+    let e = c.write-writing.ensures in
+    made_within a.listing.now a.table.now a.rec a.output.now _ c.write-writing.result _ e.result_value e.output_after
+    c.in-Done.is
+
+pub slice_bounds-write_file-end-in-Done : goal.slice_bounds-write_file-end-in-Done
+slice_bounds-write_file-end-in-Done c = sym (length-take-le _ _ (slice-reshare-prefix-write-file c))
