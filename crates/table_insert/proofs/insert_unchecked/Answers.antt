@@ -7,7 +7,6 @@ use Rattle.table_entries.proofs.Entries.{table_stands}
 use Rattle.table_write.proofs.Merges.{merge_begun}
 use Rattle.table_insert.proofs.Inserts.{room_for, rest_fits, same_used, zeros_as_long}
 use native.Mathlib.Omega.{arith}
-use borrow.Author.Rules.{rules}
 use Rattle.table_insert.proofs.insert_unchecked.Goals as goal
 
 pub put_next-merge-requires : goal.put_next-merge-requires

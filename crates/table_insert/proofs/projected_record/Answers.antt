@@ -2,7 +2,6 @@
 use Rattle.table_insert.proofs.Inserts.{counts_first, measure_first}
 use mathlib.Core.List.{[]}
 use Rattle.model.specs.Table.{table_in}
-use borrow.Author.Rules.{rules}
 use Rattle.table_insert.proofs.projected_record.Goals as goal
 
 pub projected-after-requires : goal.projected-after-requires
