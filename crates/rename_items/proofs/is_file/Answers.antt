@@ -1,5 +1,4 @@
 -- `is_file` meets its contract: each case says whether it is a file.
-use borrow.Author.Rules.{rules}
 use Rattle.rename_items.proofs.Listed.{file_case}
 use Rattle.rename_items.proofs.is_file.Goals as goal
 

@@ -1,5 +1,4 @@
 -- `item_body` meets its contract: what is told to be next gives the body, and something is next.
-use borrow.Author.Rules.{rules}
 use Rattle.model.specs.Listing.{record_at}
 use Rattle.rename_carried.proofs.Items.{entry_there, listed_there, not_ended}
 use Rattle.rename_items.proofs.Listed.{file_body, no_body}

@@ -1,5 +1,4 @@
 -- `item_fields` meets its contract: what is told to be next gives the fields, and something is next.
-use borrow.Author.Rules.{rules}
 use Rattle.model.specs.Listing.{record_at}
 use Rattle.rename_carried.proofs.Items.{entry_there, not_ended}
 use Rattle.rename_items.proofs.Told.{node_there, entry_fields, listed_fields}

@@ -1,5 +1,4 @@
 -- `item_key` meets its contract: what is told to be next gives the key, and something is next.
-use borrow.Author.Rules.{rules}
 use Rattle.rename_carried.proofs.Items.{entry_there, listed_there, not_ended}
 use Rattle.rename_items.proofs.Told.{entry_key, listed_key}
 use Rattle.rename_items.proofs.item_key.Goals as goal

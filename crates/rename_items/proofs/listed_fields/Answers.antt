@@ -1,5 +1,4 @@
 -- `listed_fields` meets its contract: each case stores what the definition makes of such a node.
-use borrow.Author.Rules.{rules}
 use Rattle.rename_items.proofs.Listed.{in_case}
 use Rattle.rename_items.proofs.listed_fields.Goals as goal
 
