@@ -1,5 +1,4 @@
 -- `bare_child` meets its contract: the entry at the record's path is looked up from the table's place on.
-use borrow.Author.Rules.{rules}
 use Rattle.model.specs.Listing.{record_at}
 use Rattle.model.specs.Table.{entries_at}
 use Rattle.rename_walk.proofs.Visitings.{bare_is, sought_at}

@@ -3,7 +3,7 @@ use native.Mathlib.Omega.{arith}
 use borrow.Author.Rules.{rules}
 use Rattle.model.specs.Listing.{record_end}
 use Rattle.view_children.proofs.Searches.{search_less}
-use Rattle.rename_walk.proofs.Stretches.{Counting, count_start, count_on, count_stop, count_end}
+use Rattle.rename_walk.proofs.Stretches.{count_start, count_on, count_stop, count_end}
 use Rattle.rename_walk.proofs.count_below.Goals as goal
 
 pub loop-left-init : goal.loop-left-init

@@ -1,9 +1,5 @@
 -- `count_below` meets its contract: each record below the directory counts, up to the first that is not.
-use native.Mathlib.Omega.{arith}
-use borrow.Author.Rules.{rules}
-use Rattle.model.specs.Listing.{record_end}
-use Rattle.view_children.proofs.Searches.{search_less}
-use Rattle.rename_walk.proofs.Stretches.{Counting, count_start, count_on, count_stop, count_end}
+use Rattle.rename_walk.proofs.Stretches.{Counting}
 use Rattle.rename_walk.proofs.count_below.Given as goal
 
 abbrev pub invariant-loop-left : goal.invariant-loop-left

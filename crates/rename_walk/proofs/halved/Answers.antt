@@ -1,5 +1,4 @@
 -- `halved` meets its contract: the first half stands where the stretch does, and the second where the first ends.
-use borrow.Author.Rules.{rules}
 use Rattle.rename_walk.proofs.Stretches.{half}
 use Rattle.rename_walk.proofs.halved.Goals as goal
 

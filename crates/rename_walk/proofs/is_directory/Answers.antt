@@ -1,6 +1,5 @@
 -- `is_directory` meets its contract: each case of an answer tells the node's kind.
 use mathlib.Core.Path.{sym, ◌∙◌}
-use borrow.Author.Rules.{rules}
 use Rattle.rename_walk.proofs.Budgets.{never_absent, dir_is, file_is, link_is}
 use Rattle.rename_walk.proofs.is_directory.Goals as goal
 

@@ -4,7 +4,7 @@ use borrow.Author.Rules.{rules}
 use Rattle.model.specs.Listing.{record_end}
 use Rattle.view_children.proofs.Searches.{search_less}
 use Rattle.rename_walk.specs.Stretch.{slashed}
-use Rattle.rename_walk.proofs.Stretches.{Passing, pass_on, pass_stop, pass_end}
+use Rattle.rename_walk.proofs.Stretches.{pass_on, pass_stop, pass_end}
 use Rattle.rename_walk.proofs.seek_below.Goals as goal
 
 pub loop-left-init : goal.loop-left-init

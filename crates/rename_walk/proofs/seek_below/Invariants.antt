@@ -1,10 +1,6 @@
 -- `seek_below` meets its contract: a record before the directory with a slash is passed, and the first other one is where it ends.
-use mathlib.Core.Path.{refl}
-use borrow.Author.Rules.{rules}
-use Rattle.model.specs.Listing.{record_end}
-use Rattle.view_children.proofs.Searches.{search_less}
 use Rattle.rename_walk.specs.Stretch.{slashed}
-use Rattle.rename_walk.proofs.Stretches.{Passing, pass_on, pass_stop, pass_end}
+use Rattle.rename_walk.proofs.Stretches.{Passing}
 use Rattle.rename_walk.proofs.seek_below.Given as goal
 
 abbrev pub invariant-loop-left : goal.invariant-loop-left

@@ -1,7 +1,7 @@
 -- `skip` meets its contract: a record is passed for each that is still to be passed.
 use mathlib.Core.Path.{refl}
 use borrow.Author.Rules.{rules}
-use Rattle.rename_walk.proofs.Stretches.{Skipping, skip_more, skip_on, skip_end}
+use Rattle.rename_walk.proofs.Stretches.{skip_more, skip_on, skip_end}
 use Rattle.rename_walk.proofs.skip.Goals as goal
 
 pub loop-more-init : goal.loop-more-init

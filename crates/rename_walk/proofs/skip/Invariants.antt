@@ -1,7 +1,5 @@
 -- `skip` meets its contract: a record is passed for each that is still to be passed.
-use mathlib.Core.Path.{refl}
-use borrow.Author.Rules.{rules}
-use Rattle.rename_walk.proofs.Stretches.{Skipping, skip_more, skip_on, skip_end}
+use Rattle.rename_walk.proofs.Stretches.{Skipping}
 use Rattle.rename_walk.proofs.skip.Given as goal
 
 abbrev pub invariant-loop-more : goal.invariant-loop-more

@@ -1,5 +1,4 @@
 -- `stretch_below` meets its contract: from the directory with a slash on, the first records are those below it.
-use borrow.Author.Rules.{rules}
 use Rattle.rename_walk.proofs.Stretches.{under}
 use Rattle.rename_walk.proofs.stretch_below.Goals as goal
 

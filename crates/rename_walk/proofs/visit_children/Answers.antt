@@ -6,7 +6,7 @@ use Rattle.model.specs.Table.{entries_at}
 use Rattle.model.specs.Rename.{visits, children}
 use Rattle.listing_records.specs.Place.{tree_at}
 use Rattle.rename_walk.specs.Walked.{walk_of}
-use Rattle.rename_walk.proofs.Visitings.{Visiting, visit_start, visit_more, visit_on, visit_end, visit_ended}
+use Rattle.rename_walk.proofs.Visitings.{visit_start, visit_more, visit_on, visit_end, visit_ended}
 use Rattle.rename_walk.proofs.visit_children.Goals as goal
 
 pub loop-count-init : goal.loop-count-init

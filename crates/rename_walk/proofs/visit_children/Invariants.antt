@@ -1,12 +1,10 @@
 -- `visit_children` meets its contract: each record is visited if it is a child without an entry, and the entries before it are passed.
-use mathlib.Core.Path.{sym, ◌∙◌}
 use mathlib.Core.Option.{some}
-use borrow.Author.Rules.{rules}
 use Rattle.model.specs.Table.{entries_at}
 use Rattle.model.specs.Rename.{visits, children}
 use Rattle.listing_records.specs.Place.{tree_at}
 use Rattle.rename_walk.specs.Walked.{walk_of}
-use Rattle.rename_walk.proofs.Visitings.{Visiting, visit_start, visit_more, visit_on, visit_end, visit_ended}
+use Rattle.rename_walk.proofs.Visitings.{Visiting}
 use Rattle.rename_walk.proofs.visit_children.Given as goal
 
 abbrev pub invariant-loop-count : goal.invariant-loop-count

@@ -1,6 +1,5 @@
 -- `visit_from` meets its contract: each case of an answer tells what the visit of its node adds.
 use mathlib.Core.Path.{sym, ◌∙◌}
-use borrow.Author.Rules.{rules}
 use Rattle.rename_walk.proofs.Budgets.{at_dir, at_file, at_link_lem, never_absent}
 use Rattle.rename_walk.proofs.visit_from.Goals as goal
 

@@ -1,7 +1,6 @@
 -- `visited` meets its contract: a walk that has come to a sum goes on, and one that has ended stays so.
 use mathlib.Core.Path.{refl, ap, sym, ◌∙◌}
 use mathlib.Core.Option.{some}
-use borrow.Author.Rules.{rules}
 use Rattle.model.specs.Rename.{visit}
 use Rattle.rename_walk.specs.declared.Walked.{Walked}
 use Rattle.rename_walk.specs.Walked.{walk_of}
