@@ -1,5 +1,4 @@
 -- `change_checks` meets its contract: each call makes its own checks.
-use borrow.Author.Rules.{rules}
 use Rattle.model.specs.Listing.{tree_in}
 use Rattle.model.specs.Table.{table_in}
 use Rattle.check_judged.specs.Judged.{check_of}

@@ -1,6 +1,5 @@
 -- `check_directory` meets its contract: each case gives what the definition gives for it.
 use mathlib.Core.Path.{ap, sym}
-use borrow.Author.Rules.{rules}
 use Rattle.model.specs.Checks.{directory_at}
 use Rattle.view_at.specs.Sight.{visible_kind}
 use Rattle.view_at.specs.declared.Visible.{Visible}

@@ -1,7 +1,6 @@
 -- `check_empty` meets its contract: the test decides.
 use mathlib.Core.Bool.{◌||◌}
 use lib.ListN.{length}
-use borrow.Author.Rules.{rules}
 use Rattle.model.specs.Map.{keys}
 use Rattle.model.specs.Tree.{shown}
 use Rattle.model.specs.Listing.{tree_in}

@@ -1,6 +1,5 @@
 -- `check_target` meets its contract: each call asks its own check.
 use mathlib.Core.Path.{ap, sym, ◌∙◌}
-use borrow.Author.Rules.{rules}
 use Rattle.view_at.specs.Sight.{visible_kind}
 use Rattle.check_one_path.specs.Change.{target_at}
 use Rattle.check_one_path.specs.declared.Change.{Change}

@@ -1,5 +1,4 @@
 -- `entry_checks` meets its contract: what its path's entry says decides, and without one the parents and what is visible.
-use borrow.Author.Rules.{rules}
 use Rattle.check_judged.specs.Judged.{check_of}
 use Rattle.check_one_path.proofs.Asked.{by_entry}
 use Rattle.check_one_path.proofs.entry_checks.Goals as goal

@@ -1,6 +1,5 @@
 -- `rmdir_checks` meets its contract: the root, then what the path's entry or the listing gives, then whether it is empty.
 use lib.ListN.{length}
-use borrow.Author.Rules.{rules}
 use Rattle.model.specs.Map.{lookup}
 use Rattle.model.specs.Tree.{shown}
 use Rattle.model.specs.Listing.{tree_in}

@@ -1,5 +1,4 @@
 -- `visible_checks` meets its contract: the parents, then what is visible at the path.
-use borrow.Author.Rules.{rules}
 use lib.ListN.{length}
 use Rattle.model.specs.Tree.{kind}
 use Rattle.model.specs.Checks.{parent_checks}
