@@ -35,4 +35,4 @@ returns c =
     let g = c.all_deletions-deletions in
     let m = c.all_moves-moves in
     together_foretold a.table.now a.listing.now a.rec p.rec_value p.listing_value a.source.now a.destination.now p.q_value
-    g.result m.result g.ensures.value m.ensures.moved t.result t.ensures (omega (arith, t.type-inv))
+    g.result m.result g.ensures.value m.ensures.moved t.result t.ensures (omega (arith, t.type_inv))

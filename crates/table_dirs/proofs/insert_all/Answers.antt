@@ -15,8 +15,7 @@ insert_all_unchecked-requires c =
     let new = puts (each (directory a.mtime) (prefixes a.path.now (ends_of a.dirs))) (table_in s a.rec) in
     let x = c.check_replacements-after in
     let j = c.judge-answer in
-    let d = c.enum_told-1.given in
-    let f = fits_done a.rec.entry_size a.limit (length s) new x.result _ j.result (x.ensures a.mtime) j.ensures d.1 in
+    let f = fits_done a.rec.entry_size a.limit (length s) new x.result _ j.result (x.ensures a.mtime) j.ensures c.in-Done.is in
     record { rec_value = c.requires.rec_value; path_value = c.requires.path_value; count_bound = c.requires.count_bound; rec_in_bounds = f }
 
 pub returns-in-Done : goal.returns-in-Done
@@ -26,10 +25,9 @@ returns-in-Done c =
     let new = puts (each (directory a.mtime) (prefixes a.path.now (ends_of a.dirs))) (table_in s a.rec) in
     let x = c.check_replacements-after in
     let j = c.judge-answer in
-    let d = c.enum_told-1.given in
     let u = c.insert_all_unchecked in
-    let t = if_done_lem j.result _ u.new.table (padded (length s) (encode new)) s d.1 u.ensures.table_after in
-    let w = if_done_lem j.result _ u.new.work (replicate (length a.work.now) 0) a.work.now d.1 u.ensures.work_after in
+    let t = if_done_lem j.result _ u.new.table (padded (length s) (encode new)) s c.in-Done.is u.ensures.table_after in
+    let w = if_done_lem j.result _ u.new.work (replicate (length a.work.now) 0) a.work.now c.in-Done.is u.ensures.work_after in
     record { value = answered a.rec.entry_size a.limit (length s) new x.result j.result (x.ensures a.mtime) j.ensures; table_after = t; work_after = w }
 
 pub returns-in-MemoryUsageLimitExceeded : goal.returns-in-MemoryUsageLimitExceeded

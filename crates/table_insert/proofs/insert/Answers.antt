@@ -16,8 +16,7 @@ insert_unchecked-requires c =
     let x = c.projected_record-after in
     let j = c.judge-answer in
     let e = x.ensures v (ap length c.requires.written.0.content) in
-    let d = c.enum_told-1.given in
-    let f = fits_done a.rec.entry_size a.limit (length s) new x.result _ j.result e j.ensures d.1 in
+    let f = fits_done a.rec.entry_size a.limit (length s) new x.result _ j.result e j.ensures c.in-Done.is in
     record { rec_value = c.requires.rec_value; key_value = (c.requires.key_value.0, c.requires.written.0, c.requires.written.1); rec_in_bounds = f }
 
 pub returns-in-Done : goal.returns-in-Done
@@ -29,10 +28,9 @@ returns-in-Done c =
     let x = c.projected_record-after in
     let j = c.judge-answer in
     let e = x.ensures v (ap length c.requires.written.0.content) in
-    let d = c.enum_told-1.given in
     let u = c.insert_unchecked in
-    let t = if_done_lem j.result _ u.new.table (padded (length s) (encode new)) s d.1 u.ensures.table_after in
-    let w = if_done_lem j.result _ u.new.work (replicate (length a.work.now) 0) a.work.now d.1 u.ensures.work_after in
+    let t = if_done_lem j.result _ u.new.table (padded (length s) (encode new)) s c.in-Done.is u.ensures.table_after in
+    let w = if_done_lem j.result _ u.new.work (replicate (length a.work.now) 0) a.work.now c.in-Done.is u.ensures.work_after in
     record { value = answered a.rec.entry_size a.limit (length s) new x.result j.result e j.ensures; table_after = t; work_after = w }
 
 pub returns-in-MemoryUsageLimitExceeded : goal.returns-in-MemoryUsageLimitExceeded

@@ -6,4 +6,4 @@ use borrow.Author.Rules.{rules}
 use Rattle.table_insert.proofs.projected_usage.Goals as goal
 
 pub returns : goal.returns
-returns c = λ v l. let e = ap (λ (r : Record). r.charge) (c.projected_record-after.ensures v l) in omega (arith, e, c.projected_record-after.type-inv)
+returns c = λ v l. let e = ap (λ (r : Record). r.charge) (c.projected_record-after.ensures v l) in omega (arith, e, c.projected_record-after.type_inv)
