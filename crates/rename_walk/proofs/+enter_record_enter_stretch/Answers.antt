@@ -45,7 +45,7 @@ enter_record-enter_stretch-requires t c =
     let a = c.args in
     let o = c.stretch_below-own in
     let u = o.ensures in (
-      falls_below t a.depth o.result.count o.result.left c.requires.measure (not_none a.depth c.if-depth-eq0.false) u.few
+      falls_below t a.depth o.result.count o.result.left (omega arith) (not_none a.depth c.if-depth-eq0.false) u.few
           (few a.records.now o.result.left o.result.at u.stand),
       (u.stand, (u.few, c.bare_child-child.ensures.sought.stand)),
     )
@@ -97,7 +97,7 @@ enter_stretch-seek-entries-requires t c = c.requires.standing_2
 pub enter_stretch-enter_record-requires : goal.enter_stretch-enter_record-requires
 enter_stretch-enter_record-requires t c =
     let a = c.args in (
-      falls_one t a.depth a.stretch.count c.requires.measure c.if-count-eq1.true,
+      falls_one t a.depth a.stretch.count (omega arith) c.if-count-eq1.true,
       (c.requires.standing, (some_left a.stretch.count a.stretch.left c.if-count-eq0.false c.requires.count_le_left, c.seek-entries.ensures.stand)),
     )
 
@@ -126,7 +126,7 @@ enter_stretch-enter_stretch-on-requires t c =
     let u = h.ensures in
     let v = both_halves a.records.now a.stretch.left a.stretch.count a.stretch.at h.result.low.left h.result.low.count h.result.low.at
     h.result.high.left h.result.high.count h.result.high.at u c.requires.standing c.requires.count_le_left in
-    (omega (arith, c.requires.measure, u.counts, u.low_some, u.high_some), (search (v.0, v.1), (search (v.2, v.3), c.seek-entries.ensures.stand)))
+    (omega (arith, u.counts, u.low_some, u.high_some), (search (v.0, v.1), (search (v.2, v.3), c.seek-entries.ensures.stand)))
 
 pub enter_stretch-enter_stretch-requires : goal.enter_stretch-enter_stretch-requires
 enter_stretch-enter_stretch-requires t c =
@@ -135,7 +135,7 @@ enter_stretch-enter_stretch-requires t c =
     let u = h.ensures in
     let v = both_halves a.records.now a.stretch.left a.stretch.count a.stretch.at h.result.low.left h.result.low.count h.result.low.at
     h.result.high.left h.result.high.count h.result.high.at u c.requires.standing c.requires.count_le_left in
-    (omega (arith, c.requires.measure, u.counts, u.low_some, u.high_some), (search (v.0, v.1), (search (v.2, v.3), c.seek-entries.ensures.stand)))
+    (omega (arith, u.counts, u.low_some, u.high_some), (search (v.0, v.1), (search (v.2, v.3), c.seek-entries.ensures.stand)))
 
 pub enter_stretch-returns : goal.enter_stretch-returns
 enter_stretch-returns t c =
