@@ -4,7 +4,6 @@ use lib.ListN.{length, replicate}
 use Rattle.model.specs.Map.{put}
 use Rattle.model.specs.Table.{encode, padded, entry_of, table_in}
 use Rattle.table_insert.proofs.Inserts.{answered, fits_done, if_done_lem, if_over, if_full}
-use borrow.Author.Rules.{rules}
 use Rattle.table_insert.proofs.insert.Goals as goal
 
 pub insert_unchecked-requires : goal.insert_unchecked-requires

@@ -2,7 +2,6 @@
 use mathlib.Core.Path.{ap}
 use native.Mathlib.Omega.{arith}
 use Rattle.model.specs.declared.Record.{Record}
-use borrow.Author.Rules.{rules}
 use Rattle.table_insert.proofs.projected_usage.Goals as goal
 
 pub returns : goal.returns
