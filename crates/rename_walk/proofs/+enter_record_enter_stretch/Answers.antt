@@ -1,9 +1,7 @@
 -- `enter_record` and `enter_stretch` meet their contracts: with each call the levels left fall, or the records of the stretch do.
 use mathlib.Core.Path.{sym, ◌∙◌}
 use mathlib.Core.Option.{some}
-use Prim.Native.Nat.{ℕ, ◌+◌, ◌*◌, ◌<◌}
 use native.Mathlib.Omega.{arith}
-use borrow.Author.Rules.{rules}
 use Rattle.model.specs.Listing.{record_at, node_of}
 use Rattle.model.specs.Table.{entries_at}
 use Rattle.listing_records.specs.Place.{tree_at}

@@ -1,6 +1,5 @@
 -- `collect_real_descendants` meets its contract: 32 levels are as deep as any listing goes.
 use mathlib.Core.Path.{refl}
-use borrow.Author.Rules.{rules}
 use Rattle.rename_walk.specs.Walked.{walk_of}
 use Rattle.rename_walk.proofs.Descents.{from_source}
 use Rattle.rename_walk.proofs.collect_real_descendants.Goals as goal
