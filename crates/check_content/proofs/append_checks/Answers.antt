@@ -1,7 +1,6 @@
 -- `append_checks` meets its contract: a write's checks, then the count of lent bytes.
 use lib.Dec.{eqb}
 use lib.ListN.{length}
-use borrow.Author.Rules.{rules}
 use Rattle.model.specs.Checks.{pass, refuse, unless, write_checks}
 use Rattle.model.specs.Content.{needed}
 use Rattle.model.specs.Outcome.{shown_in}

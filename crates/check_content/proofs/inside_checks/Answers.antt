@@ -1,7 +1,5 @@
 -- `inside_checks` meets its contract: the entry decides over any listing, then the sum.
 use native.Mathlib.Omega.{arith}
-use borrow.Author.Tests.{not-true, not-false}
-use borrow.Author.Rules.{rules}
 use Rattle.model.specs.Map.{lookup}
 use Rattle.model.specs.Listing.{tree_in}
 use Rattle.model.specs.Table.{table_in}

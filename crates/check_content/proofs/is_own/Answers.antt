@@ -1,6 +1,5 @@
 -- `is_own` meets its contract: each case of an entry says whether it is an own file.
 use mathlib.Core.Path.{refl}
-use borrow.Author.Rules.{rules}
 use Rattle.check_content.proofs.Owned.{own_by}
 use Rattle.check_content.proofs.is_own.Goals as goal
 

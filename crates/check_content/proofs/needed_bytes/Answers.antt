@@ -1,6 +1,5 @@
 -- `needed_bytes` meets its contract: what its path's entry says decides, and without one what is listed.
 use mathlib.Core.Path.{refl}
-use borrow.Author.Rules.{rules}
 use Rattle.check_content.proofs.Owned.{by_entry}
 use Rattle.check_content.proofs.needed_bytes.Goals as goal
 

@@ -1,6 +1,5 @@
 -- `needed_listed` meets its contract: each case of what is found says how many bytes are needed.
 use mathlib.Core.Path.{refl}
-use borrow.Author.Rules.{rules}
 use Rattle.check_content.proofs.Owned.{by_found}
 use Rattle.check_content.proofs.needed_listed.Goals as goal
 
