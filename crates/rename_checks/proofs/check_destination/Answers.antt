@@ -1,5 +1,4 @@
 -- `check_destination` meets its contract: the parents, then a link.
-use borrow.Author.Rules.{rules}
 use lib.ListN.{length}
 use Rattle.model.specs.Listing.{tree_in}
 use Rattle.model.specs.Table.{table_in}

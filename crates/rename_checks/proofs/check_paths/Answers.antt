@@ -1,6 +1,5 @@
 -- `check_paths` meets its contract: the roots, the destination, the source.
 use mathlib.Core.Path.{◌∙◌}
-use borrow.Author.Rules.{rules}
 use lib.ListN.{length}
 use Rattle.model.specs.Map.{lookup}
 use Rattle.model.specs.Listing.{tree_in}

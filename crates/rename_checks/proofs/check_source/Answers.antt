@@ -1,5 +1,4 @@
 -- `check_source` meets its contract: the parents, then a deleted entry, then a link.
-use borrow.Author.Rules.{rules}
 use lib.ListN.{length}
 use Rattle.model.specs.Map.{lookup}
 use Rattle.model.specs.Listing.{tree_in}

@@ -1,5 +1,4 @@
 -- `check_types` meets its contract: the clash, a directory onto one that is not empty, a destination below the source, an absent source.
-use borrow.Author.Rules.{rules}
 use mathlib.Core.Bool.{cond}
 use lib.ListN.{length}
 use Rattle.model.specs.Path.{below}

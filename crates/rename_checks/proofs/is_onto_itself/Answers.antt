@@ -1,7 +1,6 @@
 -- `is_onto_itself` meets its contract: where the paths are equal, what is visible at them decides.
 use mathlib.Core.Path.{ap, ◌∙◌}
 use mathlib.Core.Bool.{not}
-use borrow.Author.Rules.{rules}
 use Rattle.model.specs.Bytes.{same}
 use Rattle.model.specs.Tree.{kind, is_nothing}
 use Rattle.model.specs.Outcome.{shown_in}

@@ -1,5 +1,4 @@
 -- `reject_below` meets its contract: the test decides.
-use borrow.Author.Rules.{rules}
 use lib.ListN.{length}
 use Rattle.model.specs.Path.{below}
 use Rattle.model.specs.Checks.{pass, refuse}

@@ -1,5 +1,4 @@
 -- `reject_deleted` meets its contract: each case of an entry gives what the definition gives for it.
-use borrow.Author.Rules.{rules}
 use mathlib.Core.Path.{refl}
 use Rattle.model.specs.Checks.{pass, refuse}
 use Rattle.rename_checks.proofs.Alone.{deleted-by}

@@ -1,5 +1,4 @@
 -- `reject_link` meets its contract: each case gives what the definition gives for it.
-use borrow.Author.Rules.{rules}
 use mathlib.Core.Path.{ap, sym}
 use Rattle.model.specs.Rename.{not_link}
 use Rattle.view_at.specs.Sight.{visible_kind}

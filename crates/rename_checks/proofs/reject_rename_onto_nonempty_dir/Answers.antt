@@ -1,6 +1,4 @@
 -- `reject_rename_onto_nonempty_dir` meets its contract: only where both are directories, the destination has to be empty.
-use borrow.Author.Rules.{rules}
-use borrow.Author.Tests.{not-true, not-false}
 use Rattle.model.specs.Listing.{tree_in}
 use Rattle.model.specs.Table.{table_in}
 use Rattle.model.specs.Checks.{pass, no_visible_child}

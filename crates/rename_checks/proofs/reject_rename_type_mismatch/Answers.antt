@@ -1,5 +1,4 @@
 -- `reject_rename_type_mismatch` meets its contract: onto a directory anything but a directory clashes, onto a file a directory does.
-use borrow.Author.Rules.{rules}
 use mathlib.Core.Path.{ap}
 use Rattle.view_at.specs.Sight.{visible_kind}
 use Rattle.rename_checks.proofs.Alone.{clash_directory, clash_file}

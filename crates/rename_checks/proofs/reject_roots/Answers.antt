@@ -1,5 +1,4 @@
 -- `reject_roots` meets its contract: the source, then the destination.
-use borrow.Author.Rules.{rules}
 use Rattle.model.specs.Checks.{not_root}
 use Rattle.check_judged.specs.Judged.{check_of}
 use Rattle.check_judged.proofs.Thens.{ends, goes_on}
