@@ -10,7 +10,6 @@ use Rattle.model.specs.Path.{Path}
 use Rattle.model.specs.Map.{lookup}
 use Rattle.model.specs.Tree.{Entry, own, Table}
 use Rattle.model.specs.Table.{body_of, key_at, entry_at, entries_at, table_in, is_table}
-use Rattle.model.specs.Content.{spliced}
 use Rattle.model.specs.declared.Record.{Record}
 use Rattle.model.proofs.Orders.{bot}
 use Rattle.model.proofs.Maps.{ascends_is}

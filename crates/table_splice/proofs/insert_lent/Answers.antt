@@ -8,7 +8,6 @@ use Rattle.model.specs.Content.{spliced}
 use Rattle.model.proofs.Splices.{spliced_end}
 use Rattle.table_splice.specs.Splice.{Begun}
 use Rattle.table_splice.proofs.Begins.{fitting}
-use borrow.Author.Rules.{rules}
 use Rattle.table_splice.proofs.insert_lent.Goals as goal
 
 pub write_spliced-splice-requires : goal.write_spliced-splice-requires

@@ -5,7 +5,6 @@ use Rattle.model.specs.Table.{body_of, entry_at}
 use Rattle.model.specs.Content.{spliced}
 use Rattle.table_splice.proofs.Begins.{fitting, other_content}
 use Rattle.table_splice.proofs.Places.{some_there, body_there}
-use borrow.Author.Rules.{rules}
 use Rattle.table_splice.proofs.insert_parts.Goals as goal
 
 pub write_inside-splice-requires : goal.write_inside-splice-requires

@@ -8,7 +8,6 @@ use Rattle.model.specs.Table.{capped, table_in}
 use Rattle.model.proofs.Codec.{decoded}
 use Rattle.table_entries.proofs.Entries.{table_stands}
 use Rattle.table_splice.proofs.Lengths.{within, over, full, within_both}
-use borrow.Author.Rules.{rules}
 use mathlib.Core.Bool.{not}
 use Rattle.table_splice.proofs.judge_length.Goals as goal
 

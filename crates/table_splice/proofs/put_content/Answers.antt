@@ -2,7 +2,6 @@
 use native.Mathlib.Omega.{arith}
 use Rattle.model.proofs.Splices.{spliced_length}
 use Rattle.table_splice.proofs.Splices.{content_put}
-use borrow.Author.Rules.{rules}
 use Rattle.table_splice.proofs.put_content.Goals as goal
 
 pub put_front-requires : goal.put_front-requires

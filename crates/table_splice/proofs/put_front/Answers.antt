@@ -1,7 +1,6 @@
 -- `put_front` meets its contract: a part of the content, or the whole with zeros behind it.
 use native.Mathlib.Omega.{arith}
 use Rattle.table_splice.proofs.Splices.{front_part, front_zeros}
-use borrow.Author.Rules.{rules}
 use Rattle.table_splice.proofs.put_front.Goals as goal
 
 pub returns-then-offset-n : goal.returns-then-offset-n

@@ -1,7 +1,6 @@
 -- `put_next_spliced` meets its contract: what stays and the entry are written in a row.
 use mathlib.Core.Path.{◌∙◌}
 use Rattle.table_splice.proofs.Splices.{spliced_next}
-use borrow.Author.Rules.{rules}
 use Rattle.table_splice.proofs.put_next_spliced.Goals as goal
 
 pub returns : goal.returns

@@ -5,7 +5,6 @@ use Prim.Native.Nat.{ℕ, ◌+◌}
 use lib.ListN.{length}
 use Rattle.model.proofs.Splices.{spliced_length}
 use Rattle.table_splice.proofs.Splices.{spliced_put}
-use borrow.Author.Rules.{rules}
 use Rattle.table_splice.proofs.put_spliced.Goals as goal
 
 pub spliced_len-len-requires : goal.spliced_len-len-requires

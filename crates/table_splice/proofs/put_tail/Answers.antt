@@ -1,6 +1,5 @@
 -- `put_tail` meets its contract: nothing is left, or one piece up to the end.
 use Rattle.table_splice.proofs.Splices.{tail_none, tail_part}
-use borrow.Author.Rules.{rules}
 use Rattle.table_splice.proofs.put_tail.Goals as goal
 
 pub returns-then-n-from : goal.returns-then-n-from

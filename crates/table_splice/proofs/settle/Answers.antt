@@ -1,6 +1,5 @@
 -- `settle` meets its contract: nothing is touched, or the table is finished.
 use Rattle.table_splice.proofs.Begins.{is_refused, is_done_lem, settled_not, settled_done}
-use borrow.Author.Rules.{rules}
 use mathlib.Core.Path.{ap}
 use mathlib.Core.Bool.{not}
 use Rattle.table_splice.proofs.settle.Goals as goal

@@ -1,6 +1,5 @@
 -- `spliced_len` meets its contract: the content ends with itself or with the data.
 use Rattle.table_splice.proofs.Splices.{ends_inside, ends_behind}
-use borrow.Author.Rules.{rules}
 use Rattle.table_splice.proofs.spliced_len.Goals as goal
 
 pub returns-then-end-len : goal.returns-then-end-len

@@ -1,6 +1,5 @@
 -- `write_inside` meets its contract: the content is the part of the table that is the entry's body.
 use Rattle.table_splice.proofs.Begins.{other_content}
-use borrow.Author.Rules.{rules}
 use Rattle.table_splice.proofs.write_inside.Goals as goal
 
 pub returns : goal.returns

@@ -6,7 +6,6 @@ use Rattle.model.specs.Content.{spliced}
 use Rattle.table_entries.proofs.Entries.{table_stands}
 use Rattle.table_splice.specs.declared.Splice.{Splice}
 use Rattle.table_splice.proofs.Begins.{is_refused, is_done_lem, refused, room_in, begun}
-use borrow.Author.Rules.{rules}
 use mathlib.Core.Path.{ap}
 use mathlib.Core.Bool.{not}
 use Rattle.table_splice.proofs.write_spliced.Goals as goal
