@@ -1,7 +1,6 @@
 -- `all_deletions` meets its contract.
 use mathlib.Core.Path.{refl}
 use native.Mathlib.Omega.{arith}
-use borrow.Author.Rules.{rules}
 use Rattle.model.specs.Tree.{deleted}
 use Rattle.rename_measure.proofs.Foretelling.{not_first, small_put, deletions_whole, deletions_alone}
 use Rattle.rename_measure.proofs.all_deletions.Goals as goal

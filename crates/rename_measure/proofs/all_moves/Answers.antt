@@ -1,5 +1,4 @@
 -- `all_moves` meets its contract.
-use borrow.Author.Rules.{rules}
 use Rattle.rename_measure.proofs.Foretelling.{moves_whole, moves_alone}
 use Rattle.rename_measure.proofs.all_moves.Goals as goal
 

@@ -2,7 +2,6 @@
 use mathlib.Core.Path.{refl, ap}
 use mathlib.Core.Bool.{not}
 use native.Mathlib.Omega.{arith}
-use borrow.Author.Rules.{rules}
 use Rattle.table_insert.proofs.Inserts.{counts_first}
 use Rattle.rename_measure.proofs.Counting.{first_counted}
 use Rattle.rename_measure.proofs.first_move.Goals as goal

@@ -1,10 +1,6 @@
 -- `measure_deletions` meets its contract: each turn of the loop measures one deletion more.
-use native.Mathlib.Omega.{arith}
-use borrow.Author.Rules.{rules}
 use Rattle.rename_carried.specs.Streams.{remaining}
-use Rattle.table_insert.proofs.Inserts.{counts_first}
-use Rattle.rename_measure.proofs.Streamed.{key_short}
-use Rattle.rename_measure.proofs.Deleting.{Deleting, deleting_begun, deleting_counts, deleting_over, deleting_on}
+use Rattle.rename_measure.proofs.Deleting.{Deleting}
 use Rattle.rename_measure.proofs.measure_deletions.Given as goal
 
 abbrev pub invariant-loop-place : goal.invariant-loop-place

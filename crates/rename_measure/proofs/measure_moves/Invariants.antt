@@ -1,13 +1,10 @@
 -- `measure_moves` meets its contract: each turn of the loop counts one moved entry more.
 use mathlib.Core.Path.{◌≡◌}
 use lib.ListN.{length}
-use borrow.Author.Rules.{rules}
 use Rattle.model.specs.Tree.{Entry}
 use Rattle.model.specs.Table.{body_of}
 use Rattle.rename_carried.specs.Streams.{remaining}
-use Rattle.rename_measure.proofs.Putting.{size_small, some_entry, as_long}
-use Rattle.rename_measure.proofs.Streamed.{item_short, item_longer}
-use Rattle.rename_measure.proofs.Moving.{Moving, moving_begun, moving_counts, moving_extra, moving_over, moving_on}
+use Rattle.rename_measure.proofs.Moving.{Moving}
 use Rattle.rename_measure.proofs.measure_moves.Given as goal
 
 abbrev pub invariant-loop-stream : goal.invariant-loop-stream

@@ -1,6 +1,5 @@
 -- `one_move` meets its contract.
 use native.Mathlib.Omega.{arith}
-use borrow.Author.Rules.{rules}
 use Rattle.model.specs.Table.{table_in}
 use Rattle.rename_measure.proofs.Foretelling.{not_first, small_body, one_moved}
 use Rattle.rename_measure.proofs.one_move.Goals as goal

@@ -1,7 +1,6 @@
 -- `with_move` meets its contract.
 use mathlib.Core.Path.{ap}
 use native.Mathlib.Omega.{arith}
-use borrow.Author.Rules.{rules}
 use lib.ListN.{length}
 use Rattle.rename_measure.proofs.Counting.{as_item}
 use Rattle.rename_measure.proofs.with_move.Goals as goal
