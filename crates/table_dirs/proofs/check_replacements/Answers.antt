@@ -26,7 +26,7 @@ pub slice_bounds-key-end : goal.slice_bounds-key-end
 slice_bounds-key-end c =
     let a = c.args in
     let l = c.loop-i in
-    let x = (search rules) in
+    let x : length a.dirs.ends ≡ 32 = search rules in
     let h = c.requires.count_bound in
     key_length a.path.now a.dirs.ends a.dirs.count l.i h.1 c.loop-i-test.true (omega (arith, x, h.0))
 
@@ -47,7 +47,7 @@ loop-i-preserved c =
     let l = c.loop-i in
     let p = c.projected-next in
     let es = take a.dirs.count a.dirs.ends in
-    let x = (search rules) in
+    let x : length a.dirs.ends ≡ 32 = search rules in
     let n = ends_on a.dirs.ends a.dirs.count l.i c.loop-i-test.true (omega (arith, x, c.requires.count_bound.0)) in
     λ m. measuring_on (directory m) a.table.now a.path.now es a.rec l.i l.place l.after (l.invariant m)
     (get_or a.dirs.ends l.i 0) p.result.place p.result.rec c.requires.path_value refl n p.ensures
@@ -57,6 +57,6 @@ returns c =
     let a = c.args in
     let l = c.loop-i in
     let es = take a.dirs.count a.dirs.ends in
-    let x = (search rules) in
+    let x : length a.dirs.ends ≡ 32 = search rules in
     let n = ends_over a.dirs.ends a.dirs.count l.i (search rules) (omega (arith, x, c.requires.count_bound.0)) in
     λ m. measuring_over (directory m) a.table.now a.path.now es a.rec l.i l.place l.after (l.invariant m) n

@@ -24,7 +24,7 @@ pub slice_bounds-put_next-end : goal.slice_bounds-put_next-end
 slice_bounds-put_next-end c =
     let a = c.args in
     let l = c.loop-i in
-    let x = (search rules) in
+    let x : length a.dirs.ends ≡ 32 = search rules in
     let h = c.requires.count_bound in
     key_length a.path.now a.dirs.ends a.dirs.count l.i h.1 c.loop-i-test.true (omega (arith, x, h.0))
 
@@ -32,7 +32,7 @@ pub put_next-merge-requires : goal.put_next-merge-requires
 put_next-merge-requires c =
     let a = c.args in
     let l = c.loop-i in
-    let x = (search rules) in
+    let x : length a.dirs.ends ≡ 32 = search rules in
     let h = c.requires.count_bound in
     let n = ends_on a.dirs.ends a.dirs.count l.i c.loop-i-test.true (omega (arith, x, h.0)) in
     let es = take a.dirs.count a.dirs.ends in
@@ -48,7 +48,7 @@ loop-i-preserved c =
     let a = c.args in
     let l = c.loop-i in
     let p = c.put_next-merge in
-    let x = (search rules) in
+    let x : length a.dirs.ends ≡ 32 = search rules in
     let h = c.requires.count_bound in
     let n = ends_on a.dirs.ends a.dirs.count l.i c.loop-i-test.true (omega (arith, x, h.0)) in
     let es = take a.dirs.count a.dirs.ends in
@@ -59,7 +59,7 @@ pub finish-requires : goal.finish-requires
 finish-requires c =
     let a = c.args in
     let l = c.loop-i in
-    let x = (search rules) in
+    let x : length a.dirs.ends ≡ 32 = search rules in
     let h = c.requires.count_bound in
     let n = ends_over a.dirs.ends a.dirs.count l.i (search rules) (omega (arith, x, h.0)) in
     let es = take a.dirs.count a.dirs.ends in
@@ -76,7 +76,7 @@ returns c =
     let a = c.args in
     let l = c.loop-i in
     let f = c.finish in
-    let x = (search rules) in
+    let x : length a.dirs.ends ≡ 32 = search rules in
     let h = c.requires.count_bound in
     let n = ends_over a.dirs.ends a.dirs.count l.i (search rules) (omega (arith, x, h.0)) in
     let es = take a.dirs.count a.dirs.ends in
