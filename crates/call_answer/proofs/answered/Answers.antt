@@ -1,6 +1,5 @@
 -- `answered` meets its contract: each case is answered as the definition does.
 use mathlib.Core.Path.{ap, sym}
-use borrow.Author.Rules.{rules}
 use Rattle.table_insert.specs.declared.Inserted.{Inserted}
 use Rattle.call_answer.specs.Meets.{answered_of}
 use Rattle.call_answer.proofs.answered.Goals as goal
