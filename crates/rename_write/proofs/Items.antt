@@ -11,7 +11,7 @@ use borrow.Author.Tests.{leb-true}
 use Rattle.model.specs.Bytes.{Bytes, before}
 use Rattle.model.specs.Path.{Path}
 use Rattle.model.specs.Map.{put}
-use Rattle.model.specs.Tree.{Entry, deleted, Table}
+use Rattle.model.specs.Tree.{Entry, Table}
 use Rattle.model.specs.Table.{type_of, mtime_of, size_of, body_of, encode, entry_of, entries_at}
 use Rattle.model.specs.Rename.{new_key}
 use Rattle.model.proofs.Orders.{and_true}

@@ -1,6 +1,5 @@
 -- `put_arrivals` meets its contract: the destination comes first, and what is below it behind.
 use mathlib.Core.List.{[], ◌∷◌}
-use borrow.Author.Rules.{rules}
 use Rattle.model.specs.Listing.{tree_in}
 use Rattle.model.specs.Table.{table_in}
 use Rattle.rename_write.specs.Stretch.{move, turned}

@@ -1,7 +1,6 @@
 -- `put_deletion` meets its contract: the key is the item's, and kind 4 without a body is a deleted entry.
 use mathlib.Core.Path.{refl}
 use mathlib.Core.List.{[]}
-use borrow.Author.Rules.{rules}
 use Rattle.rename_carried.specs.Streams.{item_at}
 use Rattle.rename_write.specs.Stretch.{deletion}
 use Rattle.model.specs.Tree.{deleted}

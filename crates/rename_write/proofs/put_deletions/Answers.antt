@@ -1,9 +1,7 @@
 -- `put_deletions` meets its contract: each turn of the loop puts one deleted entry, at the key of the item that is next.
-use borrow.Author.Rules.{rules}
 use Rattle.model.specs.Table.{table_in}
-use Rattle.rename_carried.specs.Streams.{remaining}
 use Rattle.rename_write.specs.Stretch.{deletion}
-use Rattle.rename_write.proofs.Loops.{Going, begin, on, over, room_at_first}
+use Rattle.rename_write.proofs.Loops.{begin, on, over, room_at_first}
 use Rattle.rename_write.proofs.put_deletions.Goals as goal
 
 pub first-stream-requires : goal.first-stream-requires

@@ -1,6 +1,5 @@
 -- `put_departures` meets its contract: the source comes first, and what is below it behind.
 use mathlib.Core.List.{[], ◌∷◌}
-use borrow.Author.Rules.{rules}
 use Rattle.model.specs.Listing.{tree_in}
 use Rattle.model.specs.Tree.{deleted}
 use Rattle.model.specs.Table.{table_in}

@@ -1,7 +1,6 @@
 -- `put_listed` meets its contract: a directory has no body, and a file's is its path.
 use mathlib.Core.Path.{refl}
 use mathlib.Core.List.{[]}
-use borrow.Author.Rules.{rules}
 use Rattle.rename_write.proofs.Items.{room_of}
 use Rattle.rename_write.proofs.Sequences.{one_room, one_put, one_fits, one_done, told_entry, directory_written, reference_written}
 use Rattle.rename_write.proofs.put_listed.Goals as goal

@@ -1,6 +1,5 @@
 -- `put_lower_moves` meets its contract: the parts of table and listing below the source are what the stretch is made of; of a file there is nothing.
 use borrow.Author.Rules.{rules}
-use borrow.Author.Tests.{not-true, not-false}
 use Rattle.model.specs.Listing.{tree_in}
 use Rattle.model.specs.Table.{table_in}
 use Rattle.rename_uncovered.proofs.Belows.{part_below}

@@ -1,5 +1,4 @@
 -- `put_move` meets its contract: the key is composed of the destination and what follows the source, fields and body are the item's own.
-use borrow.Author.Rules.{rules}
 use lib.ListN.{take}
 use Rattle.model.specs.Table.{entry_of}
 use Rattle.rename_carried.specs.Streams.{item_at}

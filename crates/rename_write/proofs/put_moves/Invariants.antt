@@ -1,9 +1,7 @@
 -- `put_moves` meets its contract: each turn of the loop puts the item that is next, at its new key.
-use borrow.Author.Rules.{rules}
-use Rattle.model.specs.Table.{table_in}
 use Rattle.rename_carried.specs.Streams.{remaining}
-use Rattle.rename_write.specs.Stretch.{move, movable}
-use Rattle.rename_write.proofs.Loops.{Going, begin, on, over, room_at_first, good_at_first}
+use Rattle.rename_write.specs.Stretch.{move}
+use Rattle.rename_write.proofs.Loops.{Going}
 use Rattle.rename_write.proofs.put_moves.Given as goal
 
 abbrev pub invariant-loop-stream : goal.invariant-loop-stream

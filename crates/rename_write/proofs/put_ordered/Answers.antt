@@ -1,7 +1,6 @@
 -- `put_ordered` meets its contract: each of the four orders is the one that the definition takes.
 use mathlib.Core.Path.{sym, ◌∙◌}
 use mathlib.Core.List.{[], ◌∷◌, ◌++◌}
-use borrow.Author.Rules.{rules}
 use Rattle.model.specs.Listing.{tree_in}
 use Rattle.model.specs.Tree.{deleted, Table}
 use Rattle.model.specs.Table.{table_in}

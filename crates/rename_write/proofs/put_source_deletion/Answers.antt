@@ -1,7 +1,6 @@
 -- `put_source_deletion` meets its contract: kind 4 without a body is a deleted entry.
 use mathlib.Core.Path.{refl}
 use mathlib.Core.List.{[]}
-use borrow.Author.Rules.{rules}
 use Rattle.model.specs.Tree.{deleted}
 use Rattle.rename_write.proofs.Items.{room_of, deleted_written}
 use Rattle.rename_write.proofs.Sequences.{one_room, one_put}

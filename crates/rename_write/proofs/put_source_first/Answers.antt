@@ -1,5 +1,4 @@
 -- `put_source_first` meets its contract: one stretch comes behind the other.
-use borrow.Author.Rules.{rules}
 use Rattle.model.specs.Listing.{tree_in}
 use Rattle.model.specs.Table.{table_in}
 use Rattle.rename_write.specs.Sequence.{departures, arrivals}

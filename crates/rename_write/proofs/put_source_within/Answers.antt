@@ -1,6 +1,5 @@
 -- `put_source_within` meets its contract: three stretches come one behind the other.
 use mathlib.Core.List.{[], ◌∷◌, ◌++◌}
-use borrow.Author.Rules.{rules}
 use Rattle.model.specs.Listing.{tree_in}
 use Rattle.model.specs.Tree.{Table}
 use Rattle.model.specs.Table.{table_in}

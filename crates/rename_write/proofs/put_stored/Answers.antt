@@ -1,6 +1,5 @@
 -- `put_stored` meets its contract: fields and body are those of the entry at the place.
 use mathlib.Core.Path.{refl}
-use borrow.Author.Rules.{rules}
 use Rattle.model.specs.Table.{entry_of, entry_at}
 use Rattle.rename_write.proofs.Items.{room_of, put_of, entry_of_lem, written_of}
 use Rattle.rename_write.proofs.Sequences.{one_room, one_put}

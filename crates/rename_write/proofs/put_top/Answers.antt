@@ -1,6 +1,5 @@
 -- `put_top` meets its contract: the table's entry is carried where it has one, and what is listed else.
 use mathlib.Core.Option.{none}
-use borrow.Author.Rules.{rules}
 use Rattle.model.specs.Map.{lookup}
 use Rattle.model.specs.Listing.{tree_in}
 use Rattle.model.specs.Table.{entry_at, entries_at, table_in}

@@ -1,7 +1,6 @@
 -- `write_ordered` meets its contract: all is put from the table's first entry on, and the rest is copied behind it.
 use mathlib.Core.Path.{ap, ◌∙◌}
 use lib.ListN.{length, length-replicate}
-use borrow.Author.Rules.{rules}
 use Rattle.model.specs.Listing.{tree_in}
 use Rattle.model.specs.Table.{table_in}
 use Rattle.table_insert.proofs.Inserts.{zeros_as_long}
