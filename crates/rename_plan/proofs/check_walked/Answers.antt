@@ -1,6 +1,5 @@
 -- `check_walked` meets its contract: each case gives what the definition gives for it.
 use mathlib.Core.Path.{ap, sym}
-use borrow.Author.Rules.{rules}
 use Rattle.model.specs.Rename.{walked}
 use Rattle.rename_walk.specs.Walked.{walk_of}
 use Rattle.rename_walk.specs.declared.Walked.{Walked}

@@ -1,6 +1,5 @@
 -- `is_listed_directory` meets its contract: the kind at the path is asked whether it is a directory.
 use mathlib.Core.Path.{ap, ◌∙◌}
-use borrow.Author.Rules.{rules}
 use Rattle.model.specs.Tree.{is_directory}
 use Rattle.rename_plan.proofs.is_listed_directory.Goals as goal
 

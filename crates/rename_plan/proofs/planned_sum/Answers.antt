@@ -1,6 +1,5 @@
 -- `planned_sum` meets its contract: the part below the source has all the keys that the plan asks for.
 use mathlib.Core.Path.{refl}
-use borrow.Author.Rules.{rules}
 use Rattle.model.specs.Table.{table_in}
 use Rattle.model.proofs.Codec.{path_short}
 use Rattle.rename_plan.proofs.Plans.{planned-part}

@@ -1,7 +1,6 @@
 -- `walk_checks` meets its contract: a directory that is listed is walked.
 use mathlib.Core.Path.{ap, ◌∙◌}
 use mathlib.Core.Option.{some}
-use borrow.Author.Rules.{rules}
 use lib.ListN.{length}
 use Rattle.model.specs.Map.{lookup}
 use Rattle.model.specs.Tree.{kind, is_directory}
