@@ -1,13 +1,8 @@
 -- `check_replacements` meets its contract: each turn of the loop measures one directory more, whatever its mtime.
 use Prim.Native.Nat.{ℕ, ◌-◌}
-use mathlib.Core.Path.{◌≡◌, refl}
-use native.Mathlib.Omega.{arith}
-use lib.ListN.{length, take, get_or, length-take}
-use borrow.Author.Rules.{rules}
+use lib.ListN.{take}
 use Rattle.model.specs.Tree.{directory}
-use Rattle.model.proofs.Codec.{path_short}
-use Rattle.table_dirs.proofs.Climbs.{key_length, ends_on, ends_over}
-use Rattle.table_dirs.proofs.Passing.{Measuring, measuring_begun, measuring_counts, measuring_on, measuring_over}
+use Rattle.table_dirs.proofs.Passing.{Measuring}
 use Rattle.table_dirs.proofs.check_replacements.Given as goal
 
 abbrev pub invariant-loop-i : goal.invariant-loop-i

@@ -5,7 +5,6 @@ use Rattle.model.specs.Tree.{directory}
 use Rattle.model.specs.Table.{encode, padded, table_in}
 use Rattle.base_paths.specs.Dirs.{ends_of, prefixes}
 use Rattle.table_insert.proofs.Inserts.{answered, fits_done, if_done_lem, if_over, if_full}
-use borrow.Author.Rules.{rules}
 use Rattle.table_dirs.proofs.insert_all.Goals as goal
 
 pub insert_all_unchecked-requires : goal.insert_all_unchecked-requires

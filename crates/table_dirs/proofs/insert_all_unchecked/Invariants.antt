@@ -1,12 +1,8 @@
 -- `insert_all_unchecked` meets its contract: each turn of the loop writes up to one directory more, and the rest is copied behind the last.
-use mathlib.Core.Path.{◌≡◌, refl, ap, ◌∙◌}
 use Prim.Native.Nat.{◌-◌}
-use native.Mathlib.Omega.{arith}
-use lib.ListN.{length, take, get_or, length-replicate}
-use borrow.Author.Rules.{rules}
+use lib.ListN.{take}
 use Rattle.model.specs.Tree.{directory}
-use Rattle.table_dirs.proofs.Climbs.{key_length, ends_on, ends_over}
-use Rattle.table_dirs.proofs.Merging.{Merging, merging_begun, merging_room, merging_on, merging_fits, merging_over, merging_zeros}
+use Rattle.table_dirs.proofs.Merging.{Merging}
 use Rattle.table_dirs.proofs.insert_all_unchecked.Given as goal
 
 abbrev pub invariant-loop-i : goal.invariant-loop-i
