@@ -27,6 +27,9 @@ use Rattle.rename_measure.proofs.Streamed.{node_body}
 some_is : (x y : Entry) → some x ≡ some y → x ≡ y
 some_is x y h = cc
 
+none_is : (o : Option Entry) (e : Entry) → o ≡ none → o ≡ some e → ⊥
+none_is o e n h = bot (cc)
+
 -- a body is a part of its table's bytes
 entry_within : (t : Table) (k : Path) (e : Entry) → lookup t k ≡ some e → length (body_of e) ≤ length (encode t)
 entry_within [] k e h = absurd (bot (cc))
@@ -70,7 +73,8 @@ top_small s g r h i a e f =
           let w = entry_within (table_in s r) a e (cc) in
           omega arith
       | is_none_lem n ↦ elim (opt (lookup (tree_in g) a)) [
-        | is_none_lem m ↦ absurd (bot (cc))
+        | is_none_lem m ↦
+            absurd (none_is _ e (o ∙ ap₂ (λ (u : Option Entry) (v : Option Node). or_else u (map_o as_entry v)) n m) f)
         | is_some x m ↦
             let there : lookup (puts (table_in s r) (mapped as_entry (only (uncovered (table_in s r) a) (tree_in g)))) a ≡ some (as_entry x) =
             o ∙ ap₂ (λ (u : Option Entry) (v : Option Node). or_else u (map_o as_entry v)) n m in
