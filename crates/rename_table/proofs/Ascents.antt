@@ -31,6 +31,8 @@ between (x ∷ a) (y ∷ b) s r (inl h) (inl g) = absurd (omega arith)
 between (x ∷ a) (y ∷ b) s r (inl h) (inr g) = absurd (let e = g.0 in omega arith)
 between (x ∷ a) (y ∷ b) s r (inr h) (inl g) = absurd (let e = h.0 in omega arith)
 between (x ∷ a) (y ∷ b) s r (inr h) (inr g) = inr (g.0, between a b s r h.1 g.1)
+between [] [] s r h _ = elim h [ ]
+between (x ∷ a) [] s r h _ = elim h [ ]
 
 -- a path behind another with a slash, and not below it: all that is below that is before it
 beyond : (a b r : Path) → Lt (a ++ (47 ∷ [])) b → ((v : Path) → b ≡ a ++ (47 ∷ v) → ⊥) → Lt (a ++ (47 ∷ r)) b
@@ -38,6 +40,8 @@ beyond [] (y ∷ b) r (inl h) n = inl h
 beyond [] (y ∷ b) r (inr h) n = absurd (n b (λ i. sym h.0 i ∷ b))
 beyond (x ∷ a) (y ∷ b) r (inl h) n = inl h
 beyond (x ∷ a) (y ∷ b) r (inr h) n = inr (h.0, beyond a b r h.1 (λ v e. n v (λ i. sym h.0 i ∷ e i)))
+beyond [] [] r x4 n = elim x4 [ ]
+beyond (x ∷ a) [] r x6 n = elim x6 [ ]
 
 -- at a or below it: a, and what follows it
 goes_on : (a k : Path) → not (is_none (rest a k)) ≡ true → (r : Path) × (rest a k ≡ some r)
