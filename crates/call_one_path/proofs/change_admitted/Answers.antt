@@ -1,6 +1,5 @@
 -- `change_admitted` meets its contract: refused by its checks, or as the insertion of its entry answers.
 use mathlib.Core.Path.{ap}
-use borrow.Author.Rules.{rules}
 use Rattle.check_judged.specs.Judged.{check_of}
 use Rattle.call_one_path.proofs.Changes.{call_refused, call_fields, call_inserted}
 use Rattle.call_one_path.proofs.change_admitted.Goals as goal

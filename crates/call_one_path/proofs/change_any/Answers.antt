@@ -1,5 +1,4 @@
 -- `change_any` meets its contract: refused by 1 or 2, or as `change_admitted` answers.
-use borrow.Author.Rules.{rules}
 use Rattle.call_answer.specs.Meets.{requested, stored}
 use Rattle.call_answer.proofs.Admits.{not_admitted, admitted_given}
 use Rattle.call_one_path.specs.Called.{call_of}

@@ -1,5 +1,4 @@
 -- `judge` meets its contract: 3, then the checks of the call.
-use borrow.Author.Rules.{rules}
 use Rattle.model.specs.Listing.{tree_in}
 use Rattle.model.specs.Table.{table_in}
 use Rattle.check_judged.specs.Judged.{check_of}
