@@ -1,7 +1,6 @@
 -- `append_judge` meets its contract: 3, the checks, then the budget.
 use mathlib.Core.Path.{refl}
 use lib.ListN.{length}
-use borrow.Author.Rules.{rules}
 use Rattle.model.specs.Table.{table_in}
 use Rattle.model.specs.Checks.{limited}
 use Rattle.model.specs.Content.{appended, append_checks, append_memory}

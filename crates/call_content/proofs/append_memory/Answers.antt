@@ -1,5 +1,4 @@
 -- `append_memory` meets its contract: an own file passes, and for another path the budget decides.
-use borrow.Author.Rules.{rules}
 use Rattle.model.specs.Map.{lookup}
 use Rattle.model.specs.Listing.{tree_in}
 use Rattle.model.specs.Table.{table_in}

@@ -1,6 +1,5 @@
 -- `check_budget` meets its contract: nothing is left of the limit, or what is left decides.
 use mathlib.Core.Path.{sym, ◌∙◌}
-use borrow.Author.Rules.{rules}
 use Rattle.call_content.proofs.Judges.{none_left, some_left}
 use Rattle.call_content.proofs.check_budget.Goals as goal
 

@@ -2,7 +2,6 @@
 use mathlib.Core.Path.{refl}
 use mathlib.Core.List.{[]}
 use lib.ListN.{replicate, length-replicate}
-use borrow.Author.Rules.{rules}
 use Rattle.model.specs.Content.{inside_checks}
 use Rattle.model.specs.Outcome.{shown_in}
 use Rattle.check_judged.specs.Judged.{check_of}

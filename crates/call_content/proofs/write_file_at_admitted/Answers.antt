@@ -1,7 +1,6 @@
 -- `write_file_at_admitted` meets its contract: refused by its checks, or as the insertion answers.
 use mathlib.Core.Path.{refl, sym, ap}
 use mathlib.Core.List.{[]}
-use borrow.Author.Rules.{rules}
 use Rattle.model.specs.Table.{table_in}
 use Rattle.model.specs.Content.{content_of, spliced}
 use Rattle.model.specs.Outcome.{shown_in}
