@@ -1,6 +1,5 @@
 -- `projected_move` meets its contract: deletions and moves together. Their charge has 64 bits and is not cut.
 use native.Mathlib.Omega.{arith}
-use borrow.Author.Rules.{rules}
 use Rattle.rename_measure.proofs.Sources.{length_small}
 use Rattle.rename_measure.proofs.Foretelling.{enough, together_foretold}
 use Rattle.rename_measure.proofs.projected_move.Goals as goal
