@@ -1,5 +1,4 @@
 -- `at_path` meets its contract: each case gives what the definition gives for it.
-use borrow.Author.Rules.{rules}
 use Rattle.call_mkdir.proofs.Steps.{at_case, at_taken}
 use Rattle.call_mkdir.proofs.at_path.Goals as goal
 

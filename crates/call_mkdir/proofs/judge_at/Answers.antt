@@ -1,6 +1,5 @@
 -- `judge_at` meets its contract: by what the path shows it is refused, accepted as it stands, or its parents decide.
 use mathlib.Core.Path.{refl}
-use borrow.Author.Rules.{rules}
 use lib.ListN.{length}
 use Rattle.model.specs.Tree.{kind}
 use Rattle.model.specs.Checks.{mkdir_parents}

@@ -1,6 +1,5 @@
 -- `judge_mkdir` meets its contract: 3, then 4 to 8.
 use mathlib.Core.Path.{◌∙◌}
-use borrow.Author.Rules.{rules}
 use Rattle.model.specs.Checks.{form}
 use Rattle.model.specs.Outcome.{shown_in}
 use Rattle.call_mkdir.specs.Step.{mkdir_checks}

@@ -1,6 +1,5 @@
 -- `make_at` meets its contract: the parents' check refuses, or gives the directories to make.
 use mathlib.Core.Path.{ap}
-use borrow.Author.Rules.{rules}
 use Rattle.model.specs.Checks.{mkdir_parents}
 use Rattle.model.specs.Outcome.{shown_in}
 use Rattle.check_judged.specs.Judged.{check_of}

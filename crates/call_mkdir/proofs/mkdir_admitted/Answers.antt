@@ -1,5 +1,4 @@
 -- `mkdir_admitted` meets its contract: refused by its checks, accepted where the directory is there, or as the insertion of its directories answers.
-use borrow.Author.Rules.{rules}
 use Rattle.base_paths.specs.Dirs.{ends_of, prefixes}
 use Rattle.call_mkdir.proofs.Outcomes.{step_refused, step_there, step_made}
 use Rattle.call_mkdir.proofs.mkdir_admitted.Goals as goal

@@ -1,7 +1,6 @@
 -- `to_create` meets its contract: with the flag by the missing ancestors and the path, without it by the parents' check and the path alone.
 use mathlib.Core.Path.{refl}
 use native.Mathlib.Omega.{arith}
-use borrow.Author.Rules.{rules}
 use lib.ListN.{length}
 use Rattle.model.specs.Outcome.{shown_in}
 use Rattle.check_judged.specs.Judged.{check_of}
