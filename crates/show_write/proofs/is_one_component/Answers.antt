@@ -1,5 +1,4 @@
 -- `is_one_component` meets its contract: no slash follows exactly if the next one is at the path's end.
-use borrow.Author.Rules.{rules}
 use Rattle.show_write.proofs.Parts.{no_slash_lem}
 use Rattle.show_write.proofs.is_one_component.Goals as goal
 

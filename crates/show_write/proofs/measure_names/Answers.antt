@@ -1,8 +1,6 @@
 -- `measure_names` meets its contract: each turn of the loop counts the name of what is next, if it has one.
 use native.Mathlib.Omega.{arith}
-use borrow.Author.Rules.{rules}
-use Rattle.view_merge.specs.Merges.{remaining}
-use Rattle.show_write.proofs.Measures.{Summing, sum_begun, head_inside, sum_on, sum_ended}
+use Rattle.show_write.proofs.Measures.{sum_begun, head_inside, sum_on, sum_ended}
 use Rattle.show_write.proofs.measure_names.Goals as goal
 
 pub loop-merge-init : goal.loop-merge-init

@@ -1,5 +1,4 @@
 -- `name_size` meets its contract: a name is counted where something other than a link is visible and no slash follows.
-use borrow.Author.Rules.{rules}
 use Rattle.show_write.proofs.Measures.{size_hidden, start_within, size_deeper, size_named}
 use mathlib.Core.Path.{ap}
 use mathlib.Core.Bool.{not}

@@ -1,5 +1,4 @@
 -- `name_start` meets its contract: the root has no bytes, and every other path some.
-use borrow.Author.Rules.{rules}
 use Rattle.show_write.proofs.Parts.{start_root, start_below}
 use Rattle.show_write.proofs.name_start.Goals as goal
 

@@ -2,7 +2,6 @@
 use Prim.Native.Nat.{◌+◌, ◌-◌}
 use native.Mathlib.Omega.{arith}
 use lib.ListN.{length}
-use borrow.Author.Rules.{rules}
 use Rattle.show_write.proofs.Parts.{rest_of}
 use Rattle.show_write.proofs.Measures.{sized_length, size_bounds, unwritten, name_part, name_put}
 use Rattle.show_write.proofs.put_name.Goals as goal

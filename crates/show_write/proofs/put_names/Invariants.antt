@@ -1,7 +1,6 @@
 -- `put_names` meets its contract: each turn of the loop writes the name of what is next, if it has one; zeros follow.
-use borrow.Author.Rules.{rules}
 use Rattle.view_merge.specs.Merges.{remaining}
-use Rattle.show_write.proofs.Measures.{Putting, put_begun, head_inside, next_fits, put_on, same_size, end_within, put_ended}
+use Rattle.show_write.proofs.Measures.{Putting}
 use Rattle.show_write.proofs.put_names.Given as goal
 
 abbrev pub invariant-loop-merge : goal.invariant-loop-merge

@@ -1,5 +1,4 @@
 -- `put_sized` meets its contract: length and name are written one behind the other.
-use borrow.Author.Rules.{rules}
 use Rattle.show_write.proofs.Measures.{sized_put}
 use Rattle.show_write.proofs.put_sized.Goals as goal
 
