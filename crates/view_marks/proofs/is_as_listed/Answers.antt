@@ -2,7 +2,6 @@
 use Rattle.model.specs.Listing.{record_at}
 use Rattle.model.specs.Table.{entry_at}
 use Rattle.view_marks.proofs.Marked.{node_there, as_directory, as_file, as_link, as_absent}
-use borrow.Author.Rules.{rules}
 use Rattle.view_marks.proofs.is_as_listed.Goals as goal
 
 pub node_at-found-requires : goal.node_at-found-requires

@@ -1,7 +1,6 @@
 -- `is_directory` meets its contract, by the fields that the entry is stored with.
 use Rattle.model.specs.Table.{entry_at}
 use Rattle.view_marks.proofs.Marked.{tells_directory}
-use borrow.Author.Rules.{rules}
 use Rattle.view_marks.proofs.is_directory.Goals as goal
 
 pub returns : goal.returns

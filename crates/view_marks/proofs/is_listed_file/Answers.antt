@@ -1,7 +1,6 @@
 -- `is_listed_file` meets its contract, by the fields and the body that the entry is stored with.
 use Rattle.model.specs.Table.{entry_at}
 use Rattle.view_marks.proofs.Marked.{tells_listed_file}
-use borrow.Author.Rules.{rules}
 use Rattle.view_marks.proofs.is_listed_file.Goals as goal
 
 pub returns : goal.returns

@@ -3,7 +3,6 @@ use mathlib.Core.Path.{refl}
 use Rattle.view_merge.specs.declared.Head.TheVariants as head
 use Rattle.view_marks.specs.declared.Mark.TheVariants as mark
 use Rattle.view_marks.proofs.Marked.{next_told, marks_told}
-use borrow.Author.Rules.{rules}
 use Rattle.view_marks.proofs.mark_at.Goals as goal
 
 pub of_entry-requires : goal.of_entry-requires

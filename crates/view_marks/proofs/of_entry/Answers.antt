@@ -2,7 +2,6 @@
 use mathlib.Core.Path.{refl}
 use Rattle.model.specs.Table.{entry_at}
 use Rattle.view_marks.proofs.Marked.{shows_nothing, shows_something}
-use borrow.Author.Rules.{rules}
 use Rattle.view_marks.proofs.of_entry.Goals as goal
 
 pub returns-then-fields-eq-DELETED : goal.returns-then-fields-eq-DELETED
