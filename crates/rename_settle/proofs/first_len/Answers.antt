@@ -1,6 +1,5 @@
 -- `first_len` meets its contract: the table's entry is carried where it has one, and what is listed else.
 use mathlib.Core.Path.{ap, ◌∙◌}
-use borrow.Author.Rules.{rules}
 use lib.ListN.{length}
 use Rattle.model.specs.Bytes.{Bytes}
 use Rattle.model.specs.Map.{lookup}

@@ -1,5 +1,4 @@
 -- `foretell` meets its contract: the checks before it give what the measuring asks for.
-use borrow.Author.Rules.{rules}
 use Rattle.model.specs.Listing.{tree_in}
 use Rattle.model.specs.Table.{table_in}
 use Rattle.model.proofs.Codec.{path_short}

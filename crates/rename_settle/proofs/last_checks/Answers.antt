@@ -1,5 +1,4 @@
 -- `last_checks` meets its contract: what is foretold settles 11, 12 and 13.
-use borrow.Author.Rules.{rules}
 use lib.ListN.{length}
 use Rattle.model.specs.Listing.{tree_in}
 use Rattle.model.specs.Table.{table_in}

@@ -1,6 +1,5 @@
 -- `listed_len` meets its contract: a directory has no body, and a file's is its path.
 use mathlib.Core.Path.{ap}
-use borrow.Author.Rules.{rules}
 use lib.ListN.{length}
 use Rattle.model.specs.Tree.{Entry}
 use Rattle.model.specs.Table.{body_of}
