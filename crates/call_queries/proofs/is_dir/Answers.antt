@@ -1,6 +1,5 @@
 -- `is_dir` meets its contract: as the checks refuse, or by what is visible.
 use mathlib.Core.Path.{refl}
-use borrow.Author.Rules.{rules}
 use lib.ListN.{length}
 use Rattle.model.specs.Answer.{told_finding}
 use Rattle.model.specs.Calls as calls

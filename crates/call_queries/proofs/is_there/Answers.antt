@@ -1,5 +1,4 @@
 -- `is_there` meets its contract: each case says what the definition says of it.
-use borrow.Author.Rules.{rules}
 use Rattle.model.specs.Calls as calls
 use Rattle.call_queries.proofs.Asks.{case_said}
 use Rattle.call_queries.proofs.is_there.Goals as goal

@@ -1,5 +1,4 @@
 -- `unanswered` meets its contract: a refusal is told as it is, and where the checks passed nothing is asked of it.
-use borrow.Author.Rules.{rules}
 use Rattle.call_queries.proofs.Asks.{not_refused, refused_told}
 use Rattle.call_queries.proofs.unanswered.Goals as goal
 
