@@ -1,5 +1,4 @@
 -- `check_shown` meets its contract: the path's entry and the links on its way, then what is visible at the path.
-use borrow.Author.Rules.{rules}
 use Rattle.model.specs.Map.{lookup}
 use Rattle.model.specs.Listing.{tree_in}
 use Rattle.model.specs.Table.{table_in}

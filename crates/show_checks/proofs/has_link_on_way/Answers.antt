@@ -1,16 +1,11 @@
 -- `has_link_on_way` meets its contract. The loop's invariant: whether a link is among the ancestors from the cursor on
 -- is whether one is among all. The measure is how many bytes are to come.
-use mathlib.Core.Path.{◌≡◌, sym, ◌∙◌}
-use Prim.Native.Nat.{◌-◌, ◌≤◌}
+use mathlib.Core.Path.{sym, ◌∙◌}
 use native.Mathlib.Omega.{arith}
-use lib.ListN.{length}
 use borrow.Author.Rules.{rules}
-use borrow.Author.Tests.{not-true, not-false}
-use Rattle.model.specs.Listing.{tree_in}
 use Rattle.model.proofs.Codec.{path_short}
 use Rattle.listing_records.specs.Found.{target_kind}
-use Rattle.show_names.specs.Names.{link_on_way}
-use Rattle.show_checks.proofs.Ways.{Down, down_first, down_step, down_next, link_from, link_first_lem, link_last_lem, link_next, link_stop}
+use Rattle.show_checks.proofs.Ways.{down_first, down_step, down_next, link_first_lem, link_last_lem, link_next, link_stop}
 use Rattle.show_checks.proofs.has_link_on_way.Goals as goal
 
 pub loop-at-init : goal.loop-at-init
