@@ -1,9 +1,8 @@
 -- `test_kept::fill` meets its contract. The invariant is `Filled`; the measure is what is left of the buffer.
-use Prim.Native.Nat.{◌-◌}
 use native.Mathlib.Omega.{arith}
-use lib.ListN.{length, length-set}
+use lib.ListN.{length-set}
 use borrow.Author.Rules.{rules}
-use Rattle.test_kept.proofs.Filling.{Filled, begun, one_more, all_written}
+use Rattle.test_kept.proofs.Filling.{begun, one_more, all_written}
 use Rattle.test_kept.proofs.fill.Goals as goal
 
 pub loop-i-init : goal.loop-i-init

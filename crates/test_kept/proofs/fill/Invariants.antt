@@ -1,9 +1,7 @@
 -- `test_kept::fill` meets its contract. The invariant is `Filled`; the measure is what is left of the buffer.
 use Prim.Native.Nat.{◌-◌}
-use native.Mathlib.Omega.{arith}
-use lib.ListN.{length, length-set}
-use borrow.Author.Rules.{rules}
-use Rattle.test_kept.proofs.Filling.{Filled, begun, one_more, all_written}
+use lib.ListN.{length}
+use Rattle.test_kept.proofs.Filling.{Filled}
 use Rattle.test_kept.proofs.fill.Given as goal
 
 abbrev pub invariant-loop-i : goal.invariant-loop-i

@@ -1,10 +1,6 @@
 -- `test_kept::is_filled` meets its contract. The invariant: the answer from i on is the answer.
 -- The measure is what is left of the slice.
-use mathlib.Core.Path.{◌≡◌, refl, ◌∙◌}
-use Prim.Native.Nat.{◌-◌}
-use lib.ListN.{length, drop}
-use borrow.Author.Rules.{rules}
-use Rattle.test_kept.specs.Left.{filled}
+use mathlib.Core.Path.{refl, ◌∙◌}
 use Rattle.test_kept.proofs.Filling.{not_filled, one_filled, no_more}
 use Rattle.test_kept.proofs.is_filled.Goals as goal
 

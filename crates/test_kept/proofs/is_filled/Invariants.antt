@@ -1,11 +1,9 @@
 -- `test_kept::is_filled` meets its contract. The invariant: the answer from i on is the answer.
 -- The measure is what is left of the slice.
-use mathlib.Core.Path.{◌≡◌, refl, ◌∙◌}
+use mathlib.Core.Path.{◌≡◌}
 use Prim.Native.Nat.{◌-◌}
 use lib.ListN.{length, drop}
-use borrow.Author.Rules.{rules}
 use Rattle.test_kept.specs.Left.{filled}
-use Rattle.test_kept.proofs.Filling.{not_filled, one_filled, no_more}
 use Rattle.test_kept.proofs.is_filled.Given as goal
 
 abbrev pub invariant-loop-i : goal.invariant-loop-i

@@ -1,6 +1,5 @@
 -- `test_kept::is_same_table` meets its contract: a copy that is too short has no more than its bytes to compare.
 use mathlib.Core.Path.{◌∙◌}
-use borrow.Author.Rules.{rules}
 use Rattle.test_kept.proofs.Sides.{start, whole}
 use Rattle.test_kept.proofs.is_same_table.Goals as goal
 

@@ -1,6 +1,5 @@
 -- `test_kept::prepare` meets its contract: the copy is written where it has room.
 use mathlib.Core.Path.{◌∙◌}
-use borrow.Author.Rules.{rules}
 use Rattle.test_kept.proofs.Sides.{copied_in, left_out}
 use Rattle.test_kept.proofs.prepare.Goals as goal
 
