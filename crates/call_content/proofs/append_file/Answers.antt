@@ -19,9 +19,14 @@ entry_body-content-requires c =
 
 pub insert_parts-requires : goal.insert_parts-requires
 insert_parts-requires c =
-    let a = c.args in
-    let q = (c.requires.path_value, (c.requires.sought, c.requires.path_value_2)) in
-    record { rec_value = c.requires.rec_value; key_value = (q.0.0, q.0.1); data_bound = (omega arith, q.0.2); sought = q.1.0; key_value_2 = q.1.1 }
+    let r = c.requires in
+    record {
+      rec_value = r.rec_value;
+      key_value = (r.path_value.0, r.path_value.1);
+      data_bound = (omega arith, r.path_value.2);
+      sought = r.sought;
+      key_value_2 = r.path_value_2;
+    }
 
 pub returns : goal.returns
 returns c =

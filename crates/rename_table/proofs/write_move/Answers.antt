@@ -1,6 +1,5 @@
 -- `write_move` meets its contract: what is put in order makes the table that the definition names.
 use lib.ListN.{length}
-use borrow.Author.Rules.{rules}
 use Rattle.model.specs.Listing.{tree_in}
 use Rattle.model.specs.Table.{table_in}
 use Rattle.model.proofs.Codec.{decoded}
