@@ -1,5 +1,4 @@
 -- `append_bytes` meets its contract: refused by 1 or 2, or as `append_bytes_admitted` answers.
-use borrow.Author.Rules.{rules}
 use Rattle.model.specs.Calls.{append}
 use Rattle.call_answer.specs.Meets.{requested, stored}
 use Rattle.call_answer.proofs.Admits.{not_admitted, admitted_given}

@@ -1,6 +1,5 @@
 -- `append_bytes_admitted` meets its contract: refused by its checks, or as the insertion answers.
 use mathlib.Core.Path.{ap}
-use borrow.Author.Rules.{rules}
 use Rattle.check_judged.specs.Judged.{check_of}
 use Rattle.call_content.proofs.Calls.{append_refused, append_count, append_inserted}
 use Rattle.call_content.proofs.append_bytes_admitted.Goals as goal

@@ -3,7 +3,6 @@ use mathlib.Core.Path.{ap, ◌∙◌}
 use mathlib.Core.List.{◌++◌}
 use native.Mathlib.Omega.{arith}
 use lib.ListN.{length}
-use borrow.Author.Rules.{rules}
 use Rattle.model.specs.Table.{table_in}
 use Rattle.model.specs.Content.{spliced}
 use Rattle.table_splice.proofs.Places.{some_there, body_there}

@@ -1,7 +1,6 @@
 -- `insert_appended` meets its contract: what is put holds what the file held, and the data.
 use mathlib.Core.Path.{ap, sym, ◌∙◌}
 use mathlib.Core.List.{[], ◌++◌}
-use borrow.Author.Rules.{rules}
 use Rattle.model.specs.Bytes.{Bytes}
 use Rattle.model.specs.Table.{table_in}
 use Rattle.model.specs.Content.{appended}
