@@ -1,5 +1,4 @@
 -- `judge_move` meets its contract: both paths together, then the plan and the walk.
-use borrow.Author.Rules.{rules}
 use Rattle.model.specs.Listing.{tree_in}
 use Rattle.model.specs.Table.{table_in}
 use Rattle.model.specs.Checks.{limited}

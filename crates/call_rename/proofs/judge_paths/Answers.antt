@@ -1,5 +1,4 @@
 -- `judge_paths` meets its contract: 3, then each path by itself.
-use borrow.Author.Rules.{rules}
 use Rattle.model.specs.Listing.{tree_in}
 use Rattle.model.specs.Table.{table_in}
 use Rattle.model.specs.Rename.{rename_paths}

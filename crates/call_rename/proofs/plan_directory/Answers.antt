@@ -1,5 +1,4 @@
 -- `plan_directory` meets its contract: the plan is made where the source is a directory, and only there.
-use borrow.Author.Rules.{rules}
 use Rattle.model.specs.Tree.{shown, kind}
 use Rattle.model.specs.Listing.{tree_in}
 use Rattle.model.specs.Table.{table_in}

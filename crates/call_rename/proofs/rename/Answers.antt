@@ -1,5 +1,4 @@
 -- `rename` meets its contract: refused by 1 or 2, or as `rename_admitted` answers.
-use borrow.Author.Rules.{rules}
 use Rattle.model.specs.Calls.{rename}
 use Rattle.call_answer.specs.Meets.{requested, stored}
 use Rattle.call_answer.proofs.Admits.{not_admitted, admitted_given}

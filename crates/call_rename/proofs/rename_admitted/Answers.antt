@@ -1,5 +1,4 @@
 -- `rename_admitted` meets its contract: refused by 3 or by a path by itself, accepted as it stands where it is a move onto itself, or as the move answers.
-use borrow.Author.Rules.{rules}
 use Rattle.call_rename.proofs.Verdicts.{paths_refused, paths_passed, itself_meets, not_itself}
 use Rattle.call_rename.proofs.rename_admitted.Goals as goal
 

@@ -1,5 +1,4 @@
 -- `rename_elsewhere` meets its contract: refused by the checks of both paths, the plan or the walk, by 11, 12 or 13, or written anew.
-use borrow.Author.Rules.{rules}
 use Rattle.model.specs.Listing.{tree_in}
 use Rattle.model.specs.Table.{table_in}
 use Rattle.view_at.specs.Sight.{visible_kind}
