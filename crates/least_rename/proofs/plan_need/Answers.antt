@@ -1,7 +1,6 @@
 -- `plan_need` meets its contract: the charge, the plan's sum and what the walk needs, none of which is large.
 use mathlib.Core.Path.{refl}
 use native.Mathlib.Omega.{arith}
-use borrow.Author.Rules.{rules}
 use Rattle.model.specs.Listing.{tree_in}
 use Rattle.model.specs.Table.{table_in}
 use Rattle.model.proofs.Codec.{charge_is}

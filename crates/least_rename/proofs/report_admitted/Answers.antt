@@ -1,5 +1,4 @@
 -- `report_admitted` meets its contract: what the checks before the plan refuse, nothing lets through.
-use borrow.Author.Rules.{rules}
 use Rattle.model.specs.Listing.{tree_in}
 use Rattle.model.specs.Table.{table_in}
 use Rattle.check_judged.specs.Judged.{check_of}

@@ -1,5 +1,4 @@
 -- `report_move` meets its contract: what plan and walk need, and what the call leaves, give the two numbers.
-use borrow.Author.Rules.{rules}
 use Rattle.model.specs.Listing.{tree_in}
 use Rattle.model.specs.Table.{table_in}
 use Rattle.model.proofs.Codec.{decoded}

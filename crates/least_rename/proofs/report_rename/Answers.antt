@@ -1,7 +1,6 @@
 -- `report_rename` meets its contract: 1, 2 and 3 refuse, and behind them what is known is what is to be reported.
 use mathlib.Core.Path.{sym, ap, ◌∙◌}
 use native.Mathlib.Omega.{arith}
-use borrow.Author.Rules.{rules}
 use Rattle.base_fields.proofs.Pieces.{bytes_of}
 use Rattle.check_judged.specs.Judged.{check_of}
 use Rattle.check_lent.proofs.Firsts.{both_paths}

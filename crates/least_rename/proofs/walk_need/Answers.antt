@@ -1,7 +1,6 @@
 -- `walk_need` meets its contract: what the walk comes to is one sum, whatever its order.
 use Prim.Native.Nat.{◌+◌, ◌*◌}
 use native.Mathlib.Omega.{arith}
-use borrow.Author.Rules.{rules}
 use lib.ListN.{length}
 use Rattle.model.specs.Map.{lookup}
 use Rattle.model.specs.Tree.{kind}
