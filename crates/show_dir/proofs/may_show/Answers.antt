@@ -1,6 +1,5 @@
 -- `may_show` meets its contract: 1, 2 and 3 refuse, or the path's checks decide.
 use mathlib.Core.Path.{refl}
-use borrow.Author.Rules.{rules}
 use lib.ListN.{length}
 use Rattle.check_judged.specs.Judged.{check_of}
 use Rattle.show_dir.proofs.Verdicts.{lent_refused, lent_given, path_checked}

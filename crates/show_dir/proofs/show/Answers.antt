@@ -1,5 +1,4 @@
 -- `show` meets its contract: refused by the checks from 1 to 7, or as `show_admitted` answers.
-use borrow.Author.Rules.{rules}
 use Rattle.model.specs.Answer.{told}
 use Rattle.show_dir.proofs.Verdicts.{show_refused, show_given, show_fitted}
 use Rattle.show_dir.proofs.show.Goals as goal
