@@ -1,11 +1,8 @@
 -- `counts::count` meets its contract and ends: no more paths are counted than bytes were passed. The measure is how many
 -- entries and records are to come.
 use Prim.Native.Nat.{◌≤◌}
-use native.Mathlib.Omega.{arith}
 use Rattle.view_merge.specs.Merges.{Merging, remaining, passed}
 use Rattle.test_lines.specs.Totals.{total}
-use Rattle.view_merge.proofs.Steps.{merge_within}
-use borrow.Author.Rules.{rules}
 use Rattle.test_lines.proofs.counts.count.Given as goal
 
 abbrev pub invariant-loop-merge : goal.invariant-loop-merge

@@ -1,11 +1,9 @@
 -- `shown::character_end` meets its contract. The loop's invariant: what the tail needs is what makes the bytes that
 -- were read UTF-8. The measure is how many bytes are to come.
-use Prim.Native.Nat.{◌<◌, ◌≤◌, ◌-◌}
 use native.Mathlib.Omega.{arith}
-use lib.ListN.{length}
 use borrow.Author.Rules.{rules}
 use Rattle.base_paths.specs.Scan.{pending}
-use Rattle.test_lines.proofs.Characters.{Needed, needed_on, needed_first, whole}
+use Rattle.test_lines.proofs.Characters.{needed_on, needed_first, whole}
 use Rattle.test_lines.proofs.shown.character_end.Goals as goal
 
 pub loop-tail-init : goal.loop-tail-init
