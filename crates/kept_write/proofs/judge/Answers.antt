@@ -1,8 +1,6 @@
 -- `judge` meets its contract: one law for each exit.
 use mathlib.Core.Path.{sym, ◌∙◌}
 use native.Mathlib.Omega.{arith}
-use borrow.Author.Rules.{rules}
-use borrow.Author.Tests.{not-true, not-false}
 use Rattle.kept_write.proofs.Verdicts.{small, no_table, no_listing, other_size, no_room, has_room}
 use Rattle.kept_write.proofs.judge.Goals as goal
 
