@@ -1,6 +1,5 @@
 -- `record_without` meets its contract: the entry at the place has the key, and the record is less by it, or the key has no entry.
 use native.Mathlib.Omega.{arith}
-use borrow.Author.Rules.{rules}
 use Rattle.table_remove.proofs.Removes.{not_there, head_fits, in_record, taken_out}
 use Rattle.table_remove.proofs.record_without.Goals as goal
 

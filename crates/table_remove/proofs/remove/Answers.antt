@@ -4,7 +4,6 @@ use Rattle.model.specs.Map.{del}
 use Rattle.model.specs.Table.{table_in}
 use Rattle.table_insert.proofs.Inserts.{zeros_as_long}
 use Rattle.table_remove.proofs.Removes.{sought_all, used_is, merged, fits_back}
-use borrow.Author.Rules.{rules}
 use Rattle.table_remove.proofs.remove.Goals as goal
 
 pub record_without-after-requires : goal.record_without-after-requires

@@ -1,6 +1,5 @@
 -- `without` meets its contract: the record with an entry less, by its fields.
 use mathlib.Core.Path.{refl}
-use borrow.Author.Rules.{rules}
 use Rattle.table_remove.proofs.without.Goals as goal
 
 pub returns : goal.returns
