@@ -1,5 +1,4 @@
 -- `make` meets its contract: each kind is made by its own call.
-use borrow.Author.Rules.{rules}
 use Rattle.call_answer.specs.Meets.{stored}
 use Rattle.call_order.proofs.Cases.{by_kind}
 use Rattle.call_order.proofs.make.Goals as goal
