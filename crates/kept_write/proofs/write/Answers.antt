@@ -10,7 +10,7 @@ pub returns-in_default : goal.returns-in_default
 returns-in_default c =
     let j = c.judge-judged in
     let a = c.args in
-    record { result_value = j.ensures; output_after = not_done a.listing.now a.table.now a.rec a.output.now j.result j.ensures c.in-Done.in-Done-own.keys2 }
+    record { result_value = j.ensures; output_after = not_done a.listing.now a.table.now a.rec a.output.now j.result j.ensures c.in_default.in_default-own.keys2 }
 
 pub slice_bounds-put_file-end : goal.slice_bounds-put_file-end
 slice_bounds-put_file-end c =
