@@ -1,5 +1,4 @@
 -- `as_new` meets its contract: each case is told as the definition does.
-use borrow.Author.Rules.{rules}
 use mathlib.Core.Path.{ap, sym}
 use Rattle.run_calls.specs.Runs.{as_new}
 use Rattle.run_calls.proofs.as_new.Goals as goal

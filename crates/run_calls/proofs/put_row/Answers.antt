@@ -1,5 +1,4 @@
 -- `put_row` meets its contract: the four numbers are written two by two.
-use borrow.Author.Rules.{rules}
 use Rattle.run_calls.proofs.Rows.{row_put}
 use Rattle.run_calls.proofs.put_row.Goals as goal
 

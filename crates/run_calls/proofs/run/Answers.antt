@@ -1,5 +1,4 @@
 -- `run` meets its contract: one law for each exit.
-use borrow.Author.Rules.{rules}
 use Rattle.call_answer.specs.Meets.{stored}
 use Rattle.run_calls.proofs.Results.{malformed, well, head_long, short, room, finished}
 use mathlib.Core.Path.{ap}

@@ -1,5 +1,4 @@
 -- `run_new` meets its contract: a refused opening ends it; else the run does, on what the opening gave. Listing and script are bytes, and so demand 3 holds.
-use borrow.Author.Rules.{rules}
 use native.Mathlib.Omega.{arith}
 use Rattle.base_fields.proofs.Pieces.{bytes_of}
 use Rattle.run_calls.proofs.Demands.{not_opened, not_done, now_run, now_done}

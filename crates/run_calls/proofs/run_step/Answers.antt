@@ -1,5 +1,4 @@
 -- `run_step` meets its contract: the call that it makes is the step that stands there.
-use borrow.Author.Rules.{rules}
 use Rattle.call_answer.specs.Meets.{stored}
 use Rattle.run_calls.proofs.Loops.{step_met}
 use Rattle.run_calls.proofs.run_step.Goals as goal

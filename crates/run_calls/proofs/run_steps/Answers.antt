@@ -1,10 +1,7 @@
 -- `run_steps` meets its contract: each turn of the loop makes one step, and what is left of the script leaves what the whole does.
 use native.Mathlib.Omega.{arith}
 use borrow.Author.Rules.{rules}
-use Rattle.call_answer.specs.Meets.{stored}
-use Rattle.run_script.specs.Script.{steps_in}
-use Rattle.run_calls.specs.Runs.{left_after}
-use Rattle.run_calls.proofs.Loops.{Going, script_long, begun, step_stands, row_place, on, over}
+use Rattle.run_calls.proofs.Loops.{script_long, begun, step_stands, row_place, on, over}
 use Rattle.run_calls.proofs.run_steps.Goals as goal
 
 pub is_two-two-requires : goal.is_two-two-requires
