@@ -1,5 +1,4 @@
 -- `is_accepted` meets its contract: each case is told as it is.
-use borrow.Author.Rules.{rules}
 use Rattle.overlay_packed.proofs.Packing.{refusal_told}
 use Rattle.overlay_packed.proofs.is_accepted.Goals as goal
 

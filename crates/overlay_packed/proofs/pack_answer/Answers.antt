@@ -1,5 +1,4 @@
 -- `pack_answer` meets its contract: the answer's row is packed.
-use borrow.Author.Rules.{rules}
 use mathlib.Core.Path.{◌∙◌}
 use Rattle.model.specs.Answer.{told}
 use Rattle.overlay_packed.proofs.Packing.{row_fits, row_packed}

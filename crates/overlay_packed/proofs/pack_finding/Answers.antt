@@ -1,5 +1,4 @@
 -- `pack_finding` meets its contract: yes, no, or a refusal's row, packed.
-use borrow.Author.Rules.{rules}
 use mathlib.Core.Path.{◌∙◌}
 use Rattle.overlay_packed.proofs.Packing.{finding_fits, finding_packed}
 use Rattle.overlay_packed.proofs.pack_finding.Goals as goal

@@ -1,5 +1,4 @@
 -- `pack_writing` meets its contract: the file's length packed, or one number for each refusal.
-use borrow.Author.Rules.{rules}
 use native.Mathlib.Omega.{arith}
 use Rattle.overlay_packed.proofs.Packing.{writing_fits, writing_packed}
 use Rattle.overlay_packed.proofs.pack_writing.Goals as goal

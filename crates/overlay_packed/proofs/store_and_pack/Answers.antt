@@ -1,5 +1,4 @@
 -- `store_and_pack` meets its contract: accepted, the record is stored; refused, the four numbers stay.
-use borrow.Author.Rules.{rules}
 use mathlib.Core.Path.{◌∙◌}
 use Rattle.model.specs.Answer.{told}
 use Rattle.overlay_packed.proofs.Packing.{if_accepted_lem, if_refused}

@@ -1,5 +1,4 @@
 -- `store_and_pack_reading` meets its contract: one number for each case, and what is stored where the reading is accepted.
-use borrow.Author.Rules.{rules}
 use mathlib.Core.Path.{refl}
 use Rattle.overlay_packed.proofs.Packing.{read_stored}
 use Rattle.overlay_packed.proofs.store_and_pack_reading.Goals as goal

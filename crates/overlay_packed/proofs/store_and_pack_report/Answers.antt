@@ -1,5 +1,4 @@
 -- `store_and_pack_report` meets its contract: one number for each case, and what is stored in each.
-use borrow.Author.Rules.{rules}
 use mathlib.Core.Path.{refl, ◌∙◌}
 use Rattle.overlay_packed.proofs.Packing.{report_stored, report_fits, report_packed}
 use Rattle.overlay_packed.proofs.store_and_pack_report.Goals as goal

@@ -1,5 +1,4 @@
 -- `store_and_pack_run` meets its contract: one number and one record for each case.
-use borrow.Author.Rules.{rules}
 use Rattle.overlay_packed.proofs.Packing.{ran_stored}
 use Rattle.overlay_packed.proofs.store_and_pack_run.Goals as goal
 

@@ -1,5 +1,4 @@
 -- `store_content` meets its contract: four numbers stored, then two.
-use borrow.Author.Rules.{rules}
 use Rattle.overlay_packed.proofs.store_content.Goals as goal
 
 pub returns : goal.returns

@@ -1,5 +1,4 @@
 -- `store_two` meets its contract: two numbers in the place of two.
-use borrow.Author.Rules.{rules}
 use Rattle.overlay_packed.proofs.Packing.{two_stored}
 use Rattle.overlay_packed.proofs.store_two.Goals as goal
 
