@@ -3,6 +3,7 @@ use mathlib.Core.Path.{sym}
 use native.Mathlib.Omega.{arith}
 use lib.Seq.{length-take-le}
 use borrow.Author.Rules.{rules}
+use borrow.Enum.Refused.{opened}
 use Rattle.kept_write.proofs.Verdicts.{not_done, entries_within, file_within, now_written}
 use Rattle.kept_write.proofs.write.Goals as goal
 
@@ -10,7 +11,7 @@ pub returns-in_default : goal.returns-in_default
 returns-in_default c =
     let j = c.judge-judged in
     let a = c.args in
-    record { result_value = j.ensures; output_after = not_done a.listing.now a.table.now a.rec a.output.now j.result j.ensures c.in_default.in_default-own.keys2 }
+    record { result_value = j.ensures; output_after = not_done a.listing.now a.table.now a.rec a.output.now j.result j.ensures (opened c.in_default.in_default-own.keys2) }
 
 pub slice_bounds-put_file-end : goal.slice_bounds-put_file-end
 slice_bounds-put_file-end c =
