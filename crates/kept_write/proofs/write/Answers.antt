@@ -2,7 +2,6 @@
 use mathlib.Core.Path.{sym}
 use native.Mathlib.Omega.{arith}
 use lib.Seq.{length-take-le}
-use borrow.Author.Rules.{rules}
 use borrow.Enum.Refused.{opened}
 use Rattle.kept_write.proofs.Verdicts.{not_done, entries_within, file_within, now_written}
 use Rattle.kept_write.proofs.write.Goals as goal
