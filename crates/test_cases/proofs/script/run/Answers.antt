@@ -8,9 +8,9 @@ loop-end-init g c = (refl, refl, refl, search rules, search rules)
 
 pub loop-end-preserved : goal.loop-end-preserved
 loop-end-preserved g c =
-    let k = c.item-rec.auto.1.1 in
+    let k = c.item-rec.auto in
     let i = c.loop-end.invariant in
-    (k.0 ∙ i.0, k.1.0 ∙ i.1, k.1.1.0 ∙ i.2, search rules, search rules)
+    (k.table ∙ i.0, k.old ∙ i.1, k.work ∙ i.2, search rules, search rules)
 
 pub shape_of-table : goal.shape_of-table
 shape_of-table g c = c.loop-end.invariant.0
