@@ -8,7 +8,7 @@ loop-end-init g c = (refl, refl, refl, search rules, search rules)
 
 pub loop-end-preserved : goal.loop-end-preserved
 loop-end-preserved g c =
-    let k = c.item-rec.auto in
+    let k = c.item.auto in
     let i = c.loop-end.invariant in
     (k.table ∙ i.0, k.old ∙ i.1, k.work ∙ i.2, search rules, search rules)
 
