@@ -6,4 +6,4 @@ pub loop-i-init : goal.loop-i-init
 loop-i-init c = refl
 
 pub shape_of-s : goal.shape_of-s
-shape_of-s c = c.head.auto.0 ∙ c.loop-i.invariant
+shape_of-s c = c.head.auto.s ∙ c.loop-i.invariant

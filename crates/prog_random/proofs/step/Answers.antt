@@ -3,13 +3,13 @@ use Rattle.std.proofs.Common.{rules}
 use Rattle.prog_random.proofs.step.Goals as goal
 
 pub shape_of-table : goal.shape_of-table
-shape_of-table c = c.made-done.auto.1.1.0
+shape_of-table c = c.made-done.auto.table
 
 pub shape_of-old : goal.shape_of-old
-shape_of-old c = c.made-done.auto.1.1.1.0
+shape_of-old c = c.made-done.auto.old
 
 pub shape_of-work : goal.shape_of-work
-shape_of-work c = c.made-done.auto.1.1.1.1.0
+shape_of-work c = c.made-done.auto.work
 
 pub shape_of-tree : goal.shape_of-tree
-shape_of-tree c = c.effect.auto.0
+shape_of-tree c = c.effect.auto.tree

@@ -7,9 +7,9 @@ loop-i-init c = (refl, refl, refl, refl)
 
 pub loop-i-preserved : goal.loop-i-preserved
 loop-i-preserved c =
-    let k = c.step-now.auto.1.1 in
+    let k = c.step-now.auto in
     let i = c.loop-i.invariant in
-    (k.0 ∙ i.0, k.1.0 ∙ i.1, k.1.1.0 ∙ i.2, k.1.1.1.0 ∙ i.3)
+    (k.table ∙ i.0, k.old ∙ i.1, k.work ∙ i.2, k.tree ∙ i.3)
 
 pub shape_of-table : goal.shape_of-table
 shape_of-table c = c.loop-i.invariant.0

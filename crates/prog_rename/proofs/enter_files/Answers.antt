@@ -6,7 +6,7 @@ pub loop-i-init : goal.loop-i-init
 loop-i-init c = (refl, search rules, search rules)
 
 pub loop-i-preserved : goal.loop-i-preserved
-loop-i-preserved c = (c.enter_file.auto.0 ∙ c.loop-i.invariant.0, search rules, search rules)
+loop-i-preserved c = (c.enter_file.auto.t ∙ c.loop-i.invariant.0, search rules, search rules)
 
 pub shape_of-t : goal.shape_of-t
 shape_of-t c = c.loop-i.invariant.0

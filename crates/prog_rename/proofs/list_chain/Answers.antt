@@ -8,7 +8,7 @@ loop-len-init c = (refl, search rules, search rules, search rules)
 pub loop-len-preserved : goal.loop-len-preserved
 loop-len-preserved c =
     let i = c.loop-len.invariant in
-    (c.list.auto.0 ∙ i.0, search rules, search rules, search rules)
+    (c.list.auto.s ∙ i.0, search rules, search rules, search rules)
 
 pub shape_of-s : goal.shape_of-s
 shape_of-s c = c.loop-len.invariant.0

@@ -6,7 +6,7 @@ pub loop-i-init : goal.loop-i-init
 loop-i-init c = (refl, search rules, search rules)
 
 pub loop-i-preserved : goal.loop-i-preserved
-loop-i-preserved c = (c.list_file.auto.0 ∙ c.loop-i.invariant.0, search rules, search rules)
+loop-i-preserved c = (c.list_file.auto.s ∙ c.loop-i.invariant.0, search rules, search rules)
 
 pub shape_of-s : goal.shape_of-s
 shape_of-s c = c.loop-i.invariant.0

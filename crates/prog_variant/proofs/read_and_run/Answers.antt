@@ -5,7 +5,7 @@ use borrow.Author.Rules.{rules}
 use Rattle.prog_variant.proofs.read_and_run.Goals as goal
 
 pub slice_bounds-run_files-end-2 : goal.slice_bounds-run_files-end-2
-slice_bounds-run_files-end-2 c = sym (length-take-le _ _ c.read_file.ensures)
+slice_bounds-run_files-end-2 g c = sym (length-take-le _ _ c.read_file.ensures)
 
 pub slice_bounds-run_files-end-4 : goal.slice_bounds-run_files-end-4
-slice_bounds-run_files-end-4 c = sym (length-take-le _ _ c.read_file-2.ensures)
+slice_bounds-run_files-end-4 g c = sym (length-take-le _ _ c.read_file-2.ensures)

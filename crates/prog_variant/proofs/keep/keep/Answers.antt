@@ -5,4 +5,4 @@ use borrow.Author.Rules.{rules}
 use Rattle.prog_variant.proofs.keep.keep.Goals as goal
 
 pub slice_bounds-write_kept-end-2 : goal.slice_bounds-write_kept-end-2
-slice_bounds-write_kept-end-2 c = sym (length-take-le _ _ (search rules))
+slice_bounds-write_kept-end-2 g c = sym (length-take-le _ _ (search rules))

@@ -4,19 +4,19 @@ use Rattle.std.proofs.Common.{◌≡◌, ◌-◌, ◌≤◌, length, refl, ◌�
 use Rattle.test_cases.proofs.script.run.Goals as goal
 
 pub loop-end-init : goal.loop-end-init
-loop-end-init c = (refl, refl, refl, search rules, search rules)
+loop-end-init g c = (refl, refl, refl, search rules, search rules)
 
 pub loop-end-preserved : goal.loop-end-preserved
-loop-end-preserved c =
-    let k = c.item-rec.auto.1.1 in
+loop-end-preserved g c =
+    let k = c.item.auto in
     let i = c.loop-end.invariant in
-    (k.0 ∙ i.0, k.1.0 ∙ i.1, k.1.1.0 ∙ i.2, search rules, search rules)
+    (k.table ∙ i.0, k.old ∙ i.1, k.work ∙ i.2, search rules, search rules)
 
 pub shape_of-table : goal.shape_of-table
-shape_of-table c = c.loop-end.invariant.0
+shape_of-table g c = c.loop-end.invariant.0
 
 pub shape_of-old : goal.shape_of-old
-shape_of-old c = c.loop-end.invariant.1
+shape_of-old g c = c.loop-end.invariant.1
 
 pub shape_of-work : goal.shape_of-work
-shape_of-work c = c.loop-end.invariant.2
+shape_of-work g c = c.loop-end.invariant.2

@@ -1,9 +1,8 @@
 -- `lines::of_record` is safe: a record that is there can be read.
 use Rattle.view_marks.proofs.Marked.{node_there}
-use borrow.Author.Rules.{rules}
 use Rattle.test_lines.proofs.lines.of_record.Goals as goal
 
 pub node_at-found-requires : goal.node_at-found-requires
-node_at-found-requires c =
+node_at-found-requires g c =
     let a = c.args in
     node_there a.part.now a.records.left a.records.at c.requires.left_nonzero c.requires.standing
