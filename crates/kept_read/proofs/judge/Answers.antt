@@ -1,7 +1,6 @@
 -- `kept_read::judge` meets its contract: one law for each exit.
 use mathlib.Core.Path.{sym, ◌∙◌}
 use native.Mathlib.Omega.{arith}
-use borrow.Author.Tests.{not-false}
 use borrow.Author.Rules.{rules}
 use Rattle.base_fields.proofs.Pieces.{bytes_of}
 use Rattle.kept_read.proofs.Answers.{long_table, not_kept, no_frame, no_listing, no_entries, no_room, accepts}

@@ -1,6 +1,5 @@
 -- `kept_read::record_in` meets its contract: one law for each exit.
 use mathlib.Core.Path.{sym, ◌∙◌}
-use borrow.Author.Rules.{rules}
 use Rattle.kept_read.proofs.Sums.{too_long, not_whole, no_table, table_is}
 use Rattle.kept_read.proofs.record_in.Goals as goal
 

@@ -1,10 +1,8 @@
 -- `kept_read::sum_entries` meets its contract: each turn of the loop is a head of the counting pass, and each exit has
 -- its law.
-use Prim.Native.Nat.{◌-◌}
 use native.Mathlib.Omega.{arith}
 use borrow.Author.Rules.{rules}
-use lib.ListN.{length}
-use Rattle.kept_read.proofs.Turns.{Kept, started, headless, endless, kept_on, finished}
+use Rattle.kept_read.proofs.Turns.{started, headless, endless, kept_on, finished}
 use Rattle.kept_read.proofs.sum_entries.Goals as goal
 
 pub loop-at-init : goal.loop-at-init
