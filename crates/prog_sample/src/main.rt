@@ -341,7 +341,7 @@ fn fail(err: &impl Print, what: &[u8], error: io::Error) -> io::Result<()> {
     let mut words = [0u8; 256];
     let mut rest = &mut words[..];
     write!(rest, "{error}")?;
-    let end = 256 - rest.len();
+    let end = 256usize.saturating_sub(rest.len());
     err.write_all(what)?;
     err.write_all(b": ")?;
     err.write_all(before_number(&words[..end]))?;

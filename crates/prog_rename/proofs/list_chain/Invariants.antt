@@ -1,5 +1,5 @@
 -- `list_chain` meets its contract: a record's path has at most 55 bytes, and so a record at most 74.
-use Rattle.std.proofs.Common.{◌≡◌, ◌+◌, ◌-◌, ◌*◌, ◌≤◌, length, refl, ◌∙◌, rules}
+use Rattle.std.proofs.Common.{◌≡◌, ◌+◌, ◌-◌, ◌*◌, ◌≤◌, length}
 use Rattle.prog_rename.proofs.list_chain.Given as goal
 
 abbrev pub invariant-loop-len : goal.invariant-loop-len

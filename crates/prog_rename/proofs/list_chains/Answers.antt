@@ -1,5 +1,5 @@
 -- `list_chains` meets its contract: each chain ends at most 1,850 bytes behind its start.
-use Rattle.std.proofs.Common.{◌≡◌, ◌+◌, ◌-◌, ◌*◌, ◌≤◌, length, refl, ◌∙◌, rules}
+use Rattle.std.proofs.Common.{refl, ◌∙◌, rules}
 use Rattle.prog_rename.proofs.list_chains.Goals as goal
 
 pub loop-i-init : goal.loop-i-init

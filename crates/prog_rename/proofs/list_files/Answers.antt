@@ -1,5 +1,5 @@
 -- `list_files` meets its contract: each record is put within the listing, and the numbers rise by at most 2.
-use Rattle.std.proofs.Common.{◌≡◌, ◌-◌, ◌*◌, ◌≤◌, length, refl, ◌∙◌, rules}
+use Rattle.std.proofs.Common.{refl, ◌∙◌, rules}
 use Rattle.prog_rename.proofs.list_files.Goals as goal
 
 pub loop-i-init : goal.loop-i-init
