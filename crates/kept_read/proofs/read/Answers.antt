@@ -1,6 +1,5 @@
 -- `kept_read::read` meets its contract: what the judge answers, and what the table buffer is left as.
 use mathlib.Core.Path.{refl}
-use borrow.Author.Rules.{rules}
 use Rattle.kept_read.proofs.Answers.{unchanged, done_framed, done_fits, done}
 use Rattle.kept_read.proofs.read.Goals as goal
 
