@@ -1,5 +1,4 @@
 -- `overlay_append_bytes` meets its contract: the answer and the record of the call, packed and stored.
-use borrow.Author.Rules.{rules}
 use Rattle.model.specs.Calls.{append}
 use Rattle.call_answer.specs.Meets.{requested}
 use Rattle.overlay.specs.Exported.{called}

@@ -1,5 +1,4 @@
 -- `overlay_check_table` meets its contract: four numbers, and a table with them as its record.
-use borrow.Author.Rules.{rules}
 use Rattle.overlay.proofs.Leaving.{not_four, both_tests}
 use Rattle.overlay.proofs.overlay_check_table.Goals as goal
 

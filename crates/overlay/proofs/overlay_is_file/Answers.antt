@@ -1,5 +1,4 @@
 -- `overlay_is_file` meets its contract: the answer of the query, packed.
-use borrow.Author.Rules.{rules}
 use Rattle.model.specs.Calls.{is_file}
 use Rattle.model.specs.Answer.{told_finding}
 use Rattle.overlay.proofs.Leaving.{not_asked, query_fits, query_packed}

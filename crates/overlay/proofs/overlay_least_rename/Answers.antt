@@ -1,5 +1,4 @@
 -- `overlay_least_rename` meets its contract: what is reported, packed, and the two numbers.
-use borrow.Author.Rules.{rules}
 use Rattle.overlay.proofs.Reporting.{no_record, no_least, report_fits, report_settled}
 use Rattle.overlay.proofs.overlay_least_rename.Goals as goal
 

@@ -1,5 +1,4 @@
 -- `overlay_open_table` meets its contract: the answer of opening, packed, and its record, stored where it is accepted.
-use borrow.Author.Rules.{rules}
 use Rattle.overlay.proofs.Leaving.{not_opened, open_fits, open_settled}
 use Rattle.overlay.proofs.overlay_open_table.Goals as goal
 

@@ -1,5 +1,4 @@
 -- `overlay_read_kept` meets its contract: the reader's answer, packed, and the record, the place and the table that it leaves.
-use borrow.Author.Rules.{rules}
 use Rattle.overlay.proofs.Keeping.{no_record, no_place, read_settled}
 use Rattle.overlay.proofs.overlay_read_kept.Goals as goal
 

@@ -1,5 +1,4 @@
 -- `overlay_run` meets its contract: what the run gives, in one number and four.
-use borrow.Author.Rules.{rules}
 use Rattle.overlay.proofs.Running.{not_run, run_settled}
 use Rattle.overlay.proofs.overlay_run.Goals as goal
 

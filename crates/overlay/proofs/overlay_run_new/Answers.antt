@@ -1,5 +1,4 @@
 -- `overlay_run_new` meets its contract: what the run gives, in one number and four; where the number is 0, it is done.
-use borrow.Author.Rules.{rules}
 use Rattle.model.specs.Runs.{State, begin}
 use Rattle.run_script.specs.Script.{steps_in}
 use Rattle.run_calls.specs.Runs.{requests}

@@ -1,5 +1,4 @@
 -- `overlay_show` meets its contract: the answer of showing, packed, and its output.
-use borrow.Author.Rules.{rules}
 use Rattle.overlay.proofs.Showing.{not_shown, answer_fits, show_settled}
 use Rattle.overlay.proofs.overlay_show.Goals as goal
 

@@ -1,5 +1,4 @@
 -- `overlay_write_file_at` meets its contract: the answer and the record of the call, packed and stored.
-use borrow.Author.Rules.{rules}
 use Rattle.model.specs.Calls.{write_inside}
 use Rattle.call_answer.specs.Meets.{requested}
 use Rattle.overlay.specs.Exported.{called}

@@ -1,5 +1,4 @@
 -- `overlay_write_kept` meets its contract: the writer's answer, packed, and its output.
-use borrow.Author.Rules.{rules}
 use Rattle.overlay.proofs.Keeping.{not_written, writing_fits, write_settled}
 use Rattle.overlay.proofs.overlay_write_kept.Goals as goal
 
