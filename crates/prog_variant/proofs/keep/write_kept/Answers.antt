@@ -13,4 +13,7 @@ slice_bounds-write_file-end g c =
     c.in-Done.is
 
 pub slice_bounds-write_file-end-in-Done : goal.slice_bounds-write_file-end-in-Done
-slice_bounds-write_file-end-in-Done g c = sym (length-take-le _ _ (slice-reshare-prefix-write-file c))
+slice_bounds-write_file-end-in-Done g c =
+    let a = c.args in
+    let e = c.write-writing.ensures in
+    sym (length-take-le _ _ (made_within a.listing.now a.table.now a.rec a.output.now _ c.write-writing.result _ e.result_value e.output_after c.in-Done.is))
