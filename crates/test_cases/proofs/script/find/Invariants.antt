@@ -1,5 +1,5 @@
 -- `script::find` meets its contract: the place is at or behind `from`, within the text, and the measure is how many bytes are to come.
-use Rattle.std.proofs.Common.{◌-◌, ◌≤◌, length, rules}
+use Rattle.std.proofs.Common.{◌-◌, ◌≤◌, length}
 use Rattle.test_cases.proofs.script.find.Given as goal
 
 abbrev pub invariant-loop-i : goal.invariant-loop-i

@@ -1,6 +1,6 @@
 -- `script::run` is safe and ends: an item stands from `from` up to `end`, within the text; the buffers keep their lengths.
 -- The measure is how many bytes of the text are to come.
-use Rattle.std.proofs.Common.{◌≡◌, ◌-◌, ◌≤◌, length, refl, ◌∙◌, rules}
+use Rattle.std.proofs.Common.{refl, ◌∙◌, rules}
 use Rattle.test_cases.proofs.script.run.Goals as goal
 
 pub loop-end-init : goal.loop-end-init
