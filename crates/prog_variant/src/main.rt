@@ -5,8 +5,8 @@
 // file, which gets the kept file of the table after the last call. Each of the files has less than 1 MiB, the table
 // 1 MiB, and the report room for 32,768 calls. The five buffers of 1 MiB are locals: the program needs a stack of
 // 6 MiB.
-// What it does not take it says on standard error, in a line with the file's name, and its exit status is 0 all the same,
-// but where standard error cannot be written to; `tools/variant` gives one, by whether anything was said there.
+// What it does not take it says on standard error, in a line with the file's name, and its exit status is 0 all the
+// same, but where standard error cannot be written to; `tools/variant` gives one, by whether anything was said there.
 #![tactic(auto)]
 
 mod args;
