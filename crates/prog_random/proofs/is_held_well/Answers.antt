@@ -1,6 +1,5 @@
 -- `prog_random::is_held_well` is safe: what is compared with the plain tree was checked to be a table.
-use Rattle.std.proofs.Common.{sym, ◌∙◌, rules}
-use borrow.Author.Tests.{not-false}
+use Rattle.std.proofs.Common.{sym, ◌∙◌}
 use Rattle.prog_random.proofs.is_held_well.Goals as goal
 
 pub is_all_held-requires : goal.is_all_held-requires

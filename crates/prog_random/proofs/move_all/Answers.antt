@@ -1,5 +1,5 @@
 -- `prog_random::move_all` is safe and ends: the length stays, and the measure is how many paths are to come.
-use Rattle.std.proofs.Common.{◌≡◌, ◌-◌, length, refl, rules}
+use Rattle.std.proofs.Common.{refl}
 use Rattle.prog_random.proofs.move_all.Goals as goal
 
 pub loop-k-init : goal.loop-k-init

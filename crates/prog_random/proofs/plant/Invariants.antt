@@ -1,5 +1,5 @@
 -- `prog_random::plant` is safe: the length stays.
-use Rattle.std.proofs.Common.{◌≡◌, ◌-◌, length, refl, rules}
+use Rattle.std.proofs.Common.{◌≡◌, length}
 use Rattle.prog_random.proofs.plant.Given as goal
 
 abbrev pub invariant-loop-i : goal.invariant-loop-i

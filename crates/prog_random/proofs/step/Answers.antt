@@ -1,5 +1,4 @@
 -- `prog_random::step`  is safe: each lent buffer keeps its length through the calls that it is lent to.
-use Rattle.std.proofs.Common.{rules}
 use Rattle.prog_random.proofs.step.Goals as goal
 
 pub shape_of-table : goal.shape_of-table

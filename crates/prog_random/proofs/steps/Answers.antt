@@ -1,5 +1,5 @@
 -- `prog_random::steps` is safe and ends: each lent buffer keeps its length, and the measure is how many calls are to come.
-use Rattle.std.proofs.Common.{◌≡◌, ◌-◌, length, refl, ◌∙◌, rules}
+use Rattle.std.proofs.Common.{refl, ◌∙◌}
 use Rattle.prog_random.proofs.steps.Goals as goal
 
 pub loop-i-init : goal.loop-i-init

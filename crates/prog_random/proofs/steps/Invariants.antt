@@ -1,5 +1,5 @@
 -- `prog_random::steps` is safe: each lent buffer keeps its length.
-use Rattle.std.proofs.Common.{◌≡◌, ◌-◌, length, refl, ◌∙◌, rules}
+use Rattle.std.proofs.Common.{◌≡◌, length}
 use Rattle.prog_random.proofs.steps.Given as goal
 
 abbrev pub invariant-loop-i : goal.invariant-loop-i

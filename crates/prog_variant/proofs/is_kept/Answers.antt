@@ -2,7 +2,6 @@
 use mathlib.Core.Path.{sym}
 use native.Mathlib.Omega.{arith}
 use lib.Seq.{length-take-le}
-use borrow.Author.Rules.{rules}
 use Rattle.prog_variant.proofs.is_kept.Goals as goal
 
 pub slice_bounds-mark-end : goal.slice_bounds-mark-end

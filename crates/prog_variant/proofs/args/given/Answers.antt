@@ -1,6 +1,5 @@
 -- `args::given` meets its contract: usage that is right has names, and the second and the third stand behind the first.
 use native.Mathlib.Omega.{arith}
-use borrow.Author.Rules.{rules}
 use Rattle.prog_variant.proofs.Arguments.{some_plan, two_names, not_right}
 use Rattle.prog_variant.proofs.args.given.Goals as goal
 

@@ -2,7 +2,6 @@
 use mathlib.Core.Path.{sym}
 use lib.Seq.{length-take-le}
 use Rattle.prog_variant.proofs.MadeFile.{made_within}
-use borrow.Author.Rules.{rules}
 use Rattle.prog_variant.proofs.keep.write_kept.Goals as goal
 
 pub slice_bounds-write_file-end : goal.slice_bounds-write_file-end

@@ -1,8 +1,6 @@
 -- `views::show` meets its contract: where nothing is asked for it gives true; and what is shown was checked.
 use mathlib.Core.Path.{refl, sym, ◌∙◌}
 use mathlib.Core.Bool.{◌||◌}
-use borrow.Author.Tests.{not-false}
-use borrow.Author.Rules.{rules}
 use Rattle.prog_variant.proofs.Arguments.{asked_both}
 use mathlib.Core.Path.{ap}
 use mathlib.Core.Bool.{not}
