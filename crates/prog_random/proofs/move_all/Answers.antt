@@ -1,4 +1,4 @@
--- `prog_random::move_all` is safe and ends: the length stays, and the measure is how many paths are to come.
+-- `prog_random::move_all` is safe: the length stays.
 use Rattle.std.proofs.Common.{refl}
 use Rattle.prog_random.proofs.move_all.Goals as goal
 

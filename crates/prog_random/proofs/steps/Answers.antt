@@ -1,4 +1,4 @@
--- `prog_random::steps` is safe and ends: each lent buffer keeps its length, and the measure is how many calls are to come.
+-- `prog_random::steps` is safe: each lent buffer keeps its length.
 use Rattle.std.proofs.Common.{refl, ◌∙◌}
 use Rattle.prog_random.proofs.steps.Goals as goal
 
