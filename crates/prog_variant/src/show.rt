@@ -1,6 +1,6 @@
 // The lines that are printed of a script's calls: a head, and one line for each.
 // Where the script or the report ends early, so do the lines.
-ghost use Rattle.std.specs.Prelude.{◌≡◌, ◌+◌, ◌≤◌, length, IfOk};
+ghost use Rattle.std.specs.Prelude.{◌≡◌, ◌+◌, ◌≤◌, length, true, IfOk, Ok};
 ghost use Rattle.run_script.specs.Script.{step_head};
 
 use crate::said;
@@ -11,7 +11,8 @@ use test_lines::{bytes, column, text};
 
 // What is said where standard output could not be written to; gives whether it could.
 pub fn printed(err: &impl Print, ok: bool) -> io::Result<bool>
-    ensures { IfOk result (λ could. could ≡ ok) }
+    ensures told { IfOk result (λ could. could ≡ ok) }
+    ensures silent { ok ≡ true → result ≡ Ok true }
 {
     if !ok {
         said::text(err, b"variant: standard output cannot be written to\n")?;
