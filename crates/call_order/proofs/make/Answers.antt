@@ -1,4 +1,5 @@
 -- `make` meets its contract: each kind is made by its own call.
+use borrow.Author.Rules.{rules}
 use Rattle.call_answer.specs.Meets.{stored}
 use Rattle.call_order.proofs.Cases.{by_kind}
 use Rattle.call_order.proofs.make.Goals as goal
@@ -31,13 +32,13 @@ pub returns-in-Unlink : goal.returns-in-Unlink
 returns-in-Unlink c =
     let a = c.args in
     by_kind a.listing.now a.work.now a.first.now a.second.now a.lent.now (stored a.table.now a.rec) a.order _
-    c.in-Unlink.is c.unlink.ensures
+    c.in-Unlink.is (search rules)
 
 pub returns-in-Rmdir : goal.returns-in-Rmdir
 returns-in-Rmdir c =
     let a = c.args in
     by_kind a.listing.now a.work.now a.first.now a.second.now a.lent.now (stored a.table.now a.rec) a.order _
-    c.in-Rmdir.is c.rmdir.ensures
+    c.in-Rmdir.is (search rules)
 
 pub returns-in-Rename : goal.returns-in-Rename
 returns-in-Rename c =

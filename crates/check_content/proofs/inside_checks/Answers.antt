@@ -1,5 +1,6 @@
 -- `inside_checks` meets its contract: the entry decides over any listing, then the sum.
 use native.Mathlib.Omega.{arith}
+use borrow.Author.Rules.{rules}
 use Rattle.model.specs.Map.{lookup}
 use Rattle.model.specs.Listing.{tree_in}
 use Rattle.model.specs.Table.{table_in}
@@ -22,7 +23,7 @@ returns-then-added-offset c =
     λ l d z.
     let x = c.if-added-offset.true in
     let q = c.ranges in
-    too_far l a.table.now a.rec a.path.now c.requires w.result (w.ensures a.table.now (lookup (table_in a.table.now a.rec) a.path.now) (lookup (tree_in l) a.path.now) g.ensures (listed_not_own l a.path.now)) a.offset a.added d z (c.if-not-own.false) (omega arith)
+    too_far l a.table.now a.rec a.path.now c.requires w.result (w.ensures a.table.now (lookup (table_in a.table.now a.rec) a.path.now) (lookup (tree_in l) a.path.now) g.ensures (listed_not_own l a.path.now)) a.offset a.added d z (search rules) (omega arith)
 
 pub returns : goal.returns
 returns c =
