@@ -307,7 +307,10 @@ fn rooms(rt: &impl Print) -> io::Result<()> {
         rename  - L - ----- a b|\
         rename  - L - 01207 a b|\
         rename  - L - 01208 a b|",
-    )?;
+    )
+}
+
+fn small_rooms(rt: &impl Print) -> io::Result<()> {
     scenes::over_l(
         rt,
         51,
@@ -724,6 +727,7 @@ pub fn run(rt: &impl Print) -> io::Result<()> {
     deleted_entries(rt)?;
     malformed(rt)?;
     rooms(rt)?;
+    small_rooms(rt)?;
     beside(rt)?;
     not_below(rt)?;
     onto_directories(rt)?;

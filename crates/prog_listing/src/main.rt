@@ -6,7 +6,6 @@
 
 ghost use Rattle.std.specs.Prelude.{◌≤◌};
 
-use std::env::FillError;
 use std::io;
 use std::rt::{CpuClock, Env};
 
@@ -157,15 +156,6 @@ fn told(rt: &impl Print, answer: bool) -> io::Result<()> {
     }
 }
 
-// Whether times are asked for: whether there is an argument behind the program's name.
-fn is_timed(rt: &impl Env) -> bool {
-    let mut start = [0u8; 1];
-    match rt.arg(1, &mut start) {
-        Ok(_) | Err(FillError::TooLong) => true,
-        Err(FillError::NotPresent) => false,
-    }
-}
-
 // The check of the first n bytes, and how long it took where times are asked for.
 fn timed(rt: &(impl Print + Env + CpuClock), s: &[u8], n: usize) -> io::Result<()> {
     if n <= s.len() {
@@ -173,7 +163,7 @@ fn timed(rt: &(impl Print + Env + CpuClock), s: &[u8], n: usize) -> io::Result<(
         let answer = listing_check::check(&s[0..n]);
         let after = test_clock::micros(rt);
         told(rt, answer)?;
-        if is_timed(rt) {
+        if test_clock::is_timed(rt) {
             let micros = std::num::wrapping_sub_u64(after, before);
             print!(rt; ", {micros} us")?;
         }

@@ -7,7 +7,6 @@
 ghost use Rattle.std.specs.Prelude.{◌+◌, ◌*◌, ◌≤◌, length};
 
 use model::{Answered, Record};
-use std::env::FillError;
 use std::io;
 use std::rt::{CpuClock, Env};
 
@@ -235,18 +234,9 @@ fn tell_answer(rt: &impl Print, answer: model::Answer) -> io::Result<()> {
     }
 }
 
-// Whether times are asked for: whether there is an argument behind the program's name.
-fn is_timed(rt: &impl Env) -> bool {
-    let mut start = [0u8; 1];
-    match rt.arg(1, &mut start) {
-        Ok(_) | Err(FillError::TooLong) => true,
-        Err(FillError::NotPresent) => false,
-    }
-}
-
 // The time, where times are asked for.
 fn tell_time(rt: &(impl Print + Env), micros: u64) -> io::Result<()> {
-    if is_timed(rt) {
+    if test_clock::is_timed(rt) {
         print!(rt; ", {micros} us")?;
     }
     rt.write_all(b"\n")

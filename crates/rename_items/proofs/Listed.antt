@@ -17,17 +17,17 @@ use Rattle.listing_records.specs.declared.Found.{Found}
 use Rattle.listing_records.specs.declared.Found.TheVariants as found
 
 -- which node a record has
-data Node_of (q : ListingRecord) : Type 0 where
-  a_dir : node_of q ≡ dir q.mtime → Node_of q
-  a_file_lem : node_of q ≡ file q.mtime q.size (listed q.path) → Node_of q
-  a_link_lem : node_of q ≡ link → Node_of q
+data NodeOf (q : ListingRecord) : Type 0 where
+  a_dir : node_of q ≡ dir q.mtime → NodeOf q
+  a_file : node_of q ≡ file q.mtime q.size (listed q.path) → NodeOf q
+  a_link : node_of q ≡ link → NodeOf q
 
-node_of_lem : (q : ListingRecord) → Node_of q
+node_of_lem : (q : ListingRecord) → NodeOf q
 node_of_lem q = elim (test (eqb q.type 1)) [
   | yea z ↦ a_dir (rw z)
   | nay z ↦ elim (test (eqb q.type 2)) [
-    | yea y ↦ a_file_lem (rw (z, y))
-    | nay y ↦ a_link_lem (rw (z, y))
+    | yea y ↦ a_file (rw (z, y))
+    | nay y ↦ a_link (rw (z, y))
   ]
 ]
 
@@ -52,16 +52,16 @@ size_in found.Absent = 0
 
 module _ (q : ListingRecord) where
   kind_stored : kind_in (found_of (some (node_of q))) ≡ type_of (as_entry (node_of q))
-  kind_stored = elim (node_of_lem q) [ a_dir e ↦ (rw e) | a_file_lem e ↦ (rw e) | a_link_lem e ↦ (rw e) ]
+  kind_stored = elim (node_of_lem q) [ a_dir e ↦ (rw e) | a_file e ↦ (rw e) | a_link e ↦ (rw e) ]
 
   mtime_stored : mtime_in (found_of (some (node_of q))) ≡ mtime_of (as_entry (node_of q))
-  mtime_stored = elim (node_of_lem q) [ a_dir e ↦ (rw e) | a_file_lem e ↦ (rw e) | a_link_lem e ↦ (rw e) ]
+  mtime_stored = elim (node_of_lem q) [ a_dir e ↦ (rw e) | a_file e ↦ (rw e) | a_link e ↦ (rw e) ]
 
   size_stored : size_in (found_of (some (node_of q))) ≡ size_of (as_entry (node_of q))
-  size_stored = elim (node_of_lem q) [ a_dir e ↦ (rw e) | a_file_lem e ↦ (rw e) | a_link_lem e ↦ (rw e) ]
+  size_stored = elim (node_of_lem q) [ a_dir e ↦ (rw e) | a_file e ↦ (rw e) | a_link e ↦ (rw e) ]
 
   body_stored : cond (says is_file (found_kind (found_of (some (node_of q))))) q.path [] ≡ body_of (as_entry (node_of q))
-  body_stored = elim (node_of_lem q) [ a_dir e ↦ (rw e) | a_file_lem e ↦ (rw e) | a_link_lem e ↦ (rw e) ]
+  body_stored = elim (node_of_lem q) [ a_dir e ↦ (rw e) | a_file e ↦ (rw e) | a_link e ↦ (rw e) ]
 
 -- the fields, in a case that is told
 pub in_case : (f x : Found) → f ≡ x → (q : ListingRecord) → f ≡ found_of (some (node_of q))

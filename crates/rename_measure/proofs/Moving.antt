@@ -80,8 +80,8 @@ module _ (own part s : Bytes) (a b : Path) (e : Entry) (r : Record) (count recor
   abbrev E : ℕ
   E = r.entry_size
 
-  abbrev to_come_lem : Stream → Table
-  to_come_lem u = rekey a b (ahead T a own part u)
+  abbrev moved_ahead : Stream → Table
+  moved_ahead u = rekey a b (ahead T a own part u)
 
   abbrev all : Table
   all = rekey a b ((a, e) ∷ ahead T a own part from)
@@ -93,32 +93,32 @@ module _ (own part s : Bytes) (a b : Path) (e : Entry) (r : Record) (count recor
       → Moving own part s a b e r count records from f x from
   moving_begun h l w m c n nl bl x p z =
       let l1 = l.1 in
-      let top : all ≡ (b, e) ∷ to_come_lem from = rekey_top a b e (ahead T a own part from) in
+      let top : all ≡ (b, e) ∷ moved_ahead from = rekey_top a b e (ahead T a own part from) in
       let q : Place = record { at = 0; left = r.count } in
       let fits : near b ≡ true = le-leb (length b) 512 l1 in
-      let first : only near all ≡ (b, e) ∷ only near (to_come_lem from) = ap (only near) top ∙ only_yes near b e (to_come_lem from) fits in
+      let first : only near all ≡ (b, e) ∷ only near (moved_ahead from) = ap (only near) top ∙ only_yes near b e (moved_ahead from) fits in
       let up = ascends_is a (ahead T a own part from) (ahead_ascends own part s a f from w T) in
-      let asc : Ascending ((b, e) ∷ only near (to_come_lem from)) =
+      let asc : Ascending ((b, e) ∷ only near (moved_ahead from)) =
       subst (λ (y : Table). Ascending y) first (ascending_only near all (ascending_rekey a b ((a, e) ∷ ahead T a own part from) (up.0, up.1))) in
-      let asc' = is_ascends [] ((b, e) ∷ only near (to_come_lem from)) (lt_first b l.0) asc in
-      let begun : Putting s E (puts (only near all) T) ((b, e) ∷ only near (to_come_lem from)) q r 16777216 =
-      subst (λ (y : Table). Putting s E (puts y T) ((b, e) ∷ only near (to_come_lem from)) q r 16777216) (sym first)
-      (putting_begun s r ((b, e) ∷ only near (to_come_lem from)) q h asc' refl) in
+      let asc' = is_ascends [] ((b, e) ∷ only near (moved_ahead from)) (lt_first b l.0) asc in
+      let begun : Putting s E (puts (only near all) T) ((b, e) ∷ only near (moved_ahead from)) q r 16777216 =
+      subst (λ (y : Table). Putting s E (puts y T) ((b, e) ∷ only near (moved_ahead from)) q r 16777216) (sym first)
+      (putting_begun s r ((b, e) ∷ only near (moved_ahead from)) q h asc' refl) in
       let ex : x.extra ≡ 0 = z.0 in
       let no : far b ≡ false = ap not fits in
-      let ch = ap (charge_sum E) (ap (only far) top ∙ only_no far b e (to_come_lem from) no) in
+      let ch = ap (charge_sum E) (ap (only far) top ∙ only_no far b e (moved_ahead from) no) in
       record {
         streaming = w;
         carrying = c;
         most = 33555456;
-        putting = putting_on s E (puts (only near all) T) q r 16777216 b e (only near (to_come_lem from)) n begun bl x.place x.rec 33555456
+        putting = putting_on s E (puts (only near all) T) q r 16777216 b e (only near (moved_ahead from)) n begun bl x.place x.rec 33555456
             (omega arith) p;
         room = omega arith;
         extra = omega arith;
         extra_room = omega arith;
         long =
-            ap (λ (y : Bool). y || not (every short (keys (to_come_lem from)))) z.1
-            ∙ or-and false (short b) (every short (keys (to_come_lem from)))
+            ap (λ (y : Bool). y || not (every short (keys (moved_ahead from)))) z.1
+            ∙ or-and false (short b) (every short (keys (moved_ahead from)))
             ∙ ap (λ (y : Table). not (every short (keys y))) (sym top);
       }
 
@@ -128,7 +128,7 @@ module _ (own part s : Bytes) (a b : Path) (e : Entry) (r : Record) (count recor
         let n = few_entries own count y in
         let o = few_records part records z.stand in
         let w = m.room in
-        putting_counts s E (puts (only near all) T) x.place x.rec m.most (only near (to_come_lem u)) m.putting (size_small s r h)
+        putting_counts s E (puts (only near all) T) x.place x.rec m.most (only near (moved_ahead u)) m.putting (size_small s r h)
         (omega arith)
 
     pub moving_extra : Standing own count 0 → PartBelow part a records → x.extra ≤ 0x4000_0000_0000_0000
@@ -145,7 +145,7 @@ module _ (own part s : Bytes) (a b : Path) (e : Entry) (r : Record) (count recor
           long = x.long;
         })
     moving_over z c g =
-        let none : to_come_lem u ≡ [] = ap (rekey a b) (nothing_ahead own part T a u z) in
+        let none : moved_ahead u ≡ [] = ap (rekey a b) (nothing_ahead own part T a u z) in
         let p : Putting s E (puts (only near all) T) [] x.place x.rec m.most =
         subst (λ (y : Table). Putting s E (puts (only near all) T) (only near y) x.place x.rec m.most) none m.putting in
         let ch = ap (λ (y : Table). charge_sum E (only far y)) none in
@@ -172,7 +172,7 @@ module _ (own part s : Bytes) (a b : Path) (e : Entry) (r : Record) (count recor
       abbrev key : Path
       key = new_key a b item.0
 
-      next_moved : to_come_lem u ≡ (key, item.1) ∷ to_come_lem v
+      next_moved : moved_ahead u ≡ (key, item.1) ∷ moved_ahead v
       next_moved =
           ap (rekey a b) (c T (tree_at part records 0) m.carrying).1
           ∙ rekey_item a b item (ahead T a own part v) (item_below own part s a f u m.streaming h n (omega arith))
@@ -184,31 +184,31 @@ module _ (own part s : Bytes) (a b : Path) (e : Entry) (r : Record) (count recor
           let i = (item_short own part s a f u m.streaming h n).0 in
           omega arith
 
-      still_long : (y.long || not (every short (keys (to_come_lem v)))) ≡ not (every short (keys all))
+      still_long : (y.long || not (every short (keys (moved_ahead v)))) ≡ not (every short (keys all))
       still_long =
-          ap (λ (z : Bool). z || not (every short (keys (to_come_lem v)))) d.long
-          ∙ or-and x.long (short key) (every short (keys (to_come_lem v)))
+          ap (λ (z : Bool). z || not (every short (keys (moved_ahead v)))) d.long
+          ∙ or-and x.long (short key) (every short (keys (moved_ahead v)))
           ∙ ap (λ (z : Table). x.long || not (every short (keys z))) (sym next_moved)
           ∙ m.long
 
       moving_near : near key ≡ true → Moving own part s a b e r count records from g y v
       moving_near t =
-          let o : Putting s E (puts (only near all) T) ((key, item.1) ∷ only near (to_come_lem v)) x.place x.rec m.most =
+          let o : Putting s E (puts (only near all) T) ((key, item.1) ∷ only near (moved_ahead v)) x.place x.rec m.most =
           subst (λ (z : Table). Putting s E (puts (only near all) T) z x.place x.rec m.most)
-          (ap (only near) next_moved ∙ only_yes near key item.1 (to_come_lem v) t) m.putting in
+          (ap (only near) next_moved ∙ only_yes near key item.1 (moved_ahead v) t) m.putting in
           let kl = leb-true (length key) 512 t in
           let bl = (item_short own part s a f u m.streaming h n).1 in
           let rm = m.room in
           let xr = m.extra_room in
           let k = d.kept t in
           let ex = m.extra in
-          let ch = ap (charge_sum E) (ap (only far) next_moved ∙ only_no far key item.1 (to_come_lem v) (ap not t)) in
+          let ch = ap (charge_sum E) (ap (only far) next_moved ∙ only_no far key item.1 (moved_ahead v) (ap not t)) in
           record {
             streaming = w;
             carrying = (c T (tree_at part records 0) m.carrying).0;
             most = m.most + 16778240;
             putting =
-                putting_on s E (puts (only near all) T) x.place x.rec m.most key item.1 (only near (to_come_lem v))
+                putting_on s E (puts (only near all) T) x.place x.rec m.most key item.1 (only near (moved_ahead v))
                 (length (body_of item.1)) o refl
                 y.place y.rec (m.most + 16778240) (omega arith) (d.measured t);
             room = omega arith;
@@ -219,14 +219,14 @@ module _ (own part s : Bytes) (a b : Path) (e : Entry) (r : Record) (count recor
 
       moving_far : near key ≡ false → Moving own part s a b e r count records from g y v
       moving_far t =
-          let o : Putting s E (puts (only near all) T) (only near (to_come_lem v)) x.place x.rec m.most =
+          let o : Putting s E (puts (only near all) T) (only near (moved_ahead v)) x.place x.rec m.most =
           subst (λ (z : Table). Putting s E (puts (only near all) T) z x.place x.rec m.most)
-          (ap (only near) next_moved ∙ only_no near key item.1 (to_come_lem v) t) m.putting in
+          (ap (only near) next_moved ∙ only_no near key item.1 (moved_ahead v) t) m.putting in
           let ps = d.passed t in
-          let o' : Putting s E (puts (only near all) T) (only near (to_come_lem v)) y.place x.rec m.most =
-          subst (λ (z : Place). Putting s E (puts (only near all) T) (only near (to_come_lem v)) z x.rec m.most) (sym ps.0) o in
-          let o'' : Putting s E (puts (only near all) T) (only near (to_come_lem v)) y.place y.rec m.most =
-          subst (λ (z : Record). Putting s E (puts (only near all) T) (only near (to_come_lem v)) y.place z m.most) (sym ps.1) o' in
+          let o' : Putting s E (puts (only near all) T) (only near (moved_ahead v)) y.place x.rec m.most =
+          subst (λ (z : Place). Putting s E (puts (only near all) T) (only near (moved_ahead v)) z x.rec m.most) (sym ps.0) o in
+          let o'' : Putting s E (puts (only near all) T) (only near (moved_ahead v)) y.place y.rec m.most =
+          subst (λ (z : Record). Putting s E (puts (only near all) T) (only near (moved_ahead v)) y.place z m.most) (sym ps.1) o' in
           let bl = (item_short own part s a f u m.streaming h n).1 in
           let kl = key_long in
           let rm = m.room in
@@ -235,7 +235,7 @@ module _ (own part s : Bytes) (a b : Path) (e : Entry) (r : Record) (count recor
           let sm = m.putting.size in
           let k = d.charged t in
           let ex = m.extra in
-          let ch = ap (charge_sum E) (ap (only far) next_moved ∙ only_yes far key item.1 (to_come_lem v) (ap not t)) in
+          let ch = ap (charge_sum E) (ap (only far) next_moved ∙ only_yes far key item.1 (moved_ahead v) (ap not t)) in
           record {
             streaming = w;
             carrying = (c T (tree_at part records 0) m.carrying).0;

@@ -1,9 +1,12 @@
-// The processor time that the running program has used, for programs that tell how long a call takes.
+// The processor time that the running program has used, for programs that tell how long a call takes, and whether they
+// are asked to.
 // std's clock of the process counts nanoseconds, and answers an error where it has no time to tell.
 #![tactic(auto)]
 
 ghost use Rattle.std.specs.Prelude.{◌<◌};
 
+use std::env::FillError;
+use std::rt::Env;
 use std::time::CpuClock;
 
 // The processor time used so far in microseconds, or 0 where the clock fails.
@@ -24,4 +27,13 @@ fn told(micros: u128) -> u64
         return micros as u64;
     }
     0
+}
+
+// Whether times are asked for: whether there is an argument behind the program's name.
+pub fn is_timed(rt: &impl Env) -> bool {
+    let mut start = [0u8; 1];
+    match rt.arg(1, &mut start) {
+        Ok(_) | Err(FillError::TooLong) => true,
+        Err(FillError::NotPresent) => false,
+    }
 }

@@ -78,14 +78,14 @@ tells_listed_file e k m z n y b q p s hk hm hz hb hq hs = rw (hs, hq) (tells_fil
 
 -- what a record lists
 data Lists (r : ListingRecord) : Type 0 where
-  a_directory_lem : node_of r ≡ dir r.mtime → Lists r
-  a_file_lem : node_of r ≡ file r.mtime r.size (listed r.path) → Lists r
-  a_link_lem : node_of r ≡ link → Lists r
+  a_directory : node_of r ≡ dir r.mtime → Lists r
+  a_file : node_of r ≡ file r.mtime r.size (listed r.path) → Lists r
+  a_link : node_of r ≡ link → Lists r
 
 lists : (r : ListingRecord) → Lists r
 lists r = elim (test (eqb r.type 1)) [
-  | yea e ↦ a_directory_lem (rw e)
-  | nay e ↦ elim (test (eqb r.type 2)) [ yea f ↦ a_file_lem (rw (e, f)) | nay f ↦ a_link_lem (rw (e, f)) ]
+  | yea e ↦ a_directory (rw e)
+  | nay e ↦ elim (test (eqb r.type 2)) [ yea f ↦ a_file (rw (e, f)) | nay f ↦ a_link (rw (e, f)) ]
 ]
 
 -- the node n by what was found
@@ -97,9 +97,9 @@ node_directory link f m h g = absurd (bot (cc))
 node_file : (r : ListingRecord) (f : Found) (m z : ℕ) (k : Path) → f ≡ found_of (some (node_of r)) → f ≡ found.File m z
     → k ≡ r.path → node_of r ≡ file m z (listed k)
 node_file r f m z k h g e = elim (lists r) [
-  | a_directory_lem i ↦ (let j : f ≡ found.Directory r.mtime = h ∙ ap (λ (n : Node). found_of (some n)) i in absurd (bot (cc)))
-  | a_file_lem i ↦ (let j : f ≡ found.File r.mtime r.size = h ∙ ap (λ (n : Node). found_of (some n)) i in cc)
-  | a_link_lem i ↦ (let j : f ≡ found.Link = h ∙ ap (λ (n : Node). found_of (some n)) i in absurd (bot (cc)))
+  | a_directory i ↦ (let j : f ≡ found.Directory r.mtime = h ∙ ap (λ (n : Node). found_of (some n)) i in absurd (bot (cc)))
+  | a_file i ↦ (let j : f ≡ found.File r.mtime r.size = h ∙ ap (λ (n : Node). found_of (some n)) i in cc)
+  | a_link i ↦ (let j : f ≡ found.Link = h ∙ ap (λ (n : Node). found_of (some n)) i in absurd (bot (cc)))
 ]
 
 -- no entry shows a link, and something was found
