@@ -1,6 +1,6 @@
 /* overlay.h: an overlay file table over a published listing, for programs in C.
  *
- * Link with liboverlay.a (`sh tools/library` writes it to target/staticlib; x86-64 Linux).
+ * Link with liboverlay.a (`sh tools/library` writes it to target/staticlib; Linux, x86-64-v2).
  * The library has no state and calls nothing but memcpy, memmove and memset of the C library. Threads may call it at
  * once, each with buffers of its own.
  *
