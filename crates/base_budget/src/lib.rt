@@ -5,17 +5,16 @@
 ghost use Rattle.std.specs.Prelude.{◌≡◌};
 ghost use Rattle.base_budget.specs.Budget.{covers, shrunk};
 
-#[derive(Clone, Copy)]
+#[derive(Clone, Copy, Debug, PartialEq, Eq)]
 pub struct MemoryBudget {
     pub available: u64,
     pub limit: u64,
 }
 
-// The Rust's Result of `shrink`: the budget that is left, or the error with the limit.
-#[derive(Clone, Copy)]
-pub enum Shrunk {
-    Left(MemoryBudget),
-    MemoryUsageLimitExceeded(u64),
+// More was to be charged than is available under `limit`.
+#[derive(Clone, Copy, Debug, PartialEq, Eq)]
+pub struct MemoryUsageLimitExceeded {
+    pub limit: u64,
 }
 
 impl MemoryBudget {
@@ -25,7 +24,7 @@ impl MemoryBudget {
     {
         MemoryBudget {
             available: limit,
-            limit: limit,
+            limit,
         }
     }
 
@@ -36,22 +35,21 @@ impl MemoryBudget {
         bytes <= self.available
     }
 
-    pub fn shrink(self, bytes: u64) -> Shrunk
+    // The budget that is left.
+    pub fn shrink(self, bytes: u64) -> Result<MemoryBudget, MemoryUsageLimitExceeded>
         ensures { result ≡ shrunk self bytes }
     {
-        if bytes <= self.available {
-            let left = self.available - bytes;
-            return Shrunk::Left(MemoryBudget {
-                available: left,
-                limit: self.limit,
-            });
-        }
-        Shrunk::MemoryUsageLimitExceeded(self.limit)
+        let limit = self.limit;
+        let available = self
+            .available
+            .checked_sub(bytes)
+            .ok_or(MemoryUsageLimitExceeded { limit })?;
+        Ok(MemoryBudget { available, limit })
     }
 }
 
 // What the table's charge leaves of a limit: `available_memory` of overlay.rs.
-pub fn available_memory(charge: u64, limit: u64) -> Shrunk
+pub fn available_memory(charge: u64, limit: u64) -> Result<MemoryBudget, MemoryUsageLimitExceeded>
     ensures { result ≡ shrunk (record { available = limit; limit = limit }) charge }
 {
     MemoryBudget::full(limit).shrink(charge)

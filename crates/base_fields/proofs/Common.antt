@@ -4,13 +4,12 @@ use mathlib.Core.Path.{◌≡◌, refl, sym, ◌∙◌}
 use mathlib.Core.Bool.{true, false}
 use mathlib.Core.Logic.{inl, inr}
 use mathlib.Core.List.{[], ◌∷◌, ◌++◌}
-use Prim.Native.Nat.{ℕ, zero, suc, ◌+◌, ◌<◌, ◌≤◌, compare, Ordering}
+use Prim.Native.Nat.{ℕ, zero, suc, ◌<◌, ◌≤◌, min, compare, Ordering}
 use native.Mathlib.Omega.{arith}
-use native.Mathlib.Numerals.{add-one, one-add, lt_of_le_of_ne}
-use lib.Dec.{ltb}
+use lib.Dec.{ltb, leb}
 use lib.ListN.{length, get_or, take, drop, drop_of_length-le}
 use lib.Seq.{drop-cons}
-use borrow.Author.Tests.{lt-ltb, le-ltb, ltb-true, ltb-false, eq-eqb, ne_eqb}
+use borrow.Author.Tests.{lt-ltb, le-ltb, ltb-true, ltb-false, leb-true, leb-false}
 use Rattle.model.specs.Bytes.{Bytes, by_order, order, before}
 use Rattle.model.proofs.Orders.{bot, yea, nay, test, NatOrder, nat_lt, nat_eq, nat_gt, nat_order}
 use Rattle.model.proofs.Orders.{Lt, Lt_irrefl, Lt_trans, Lt-≢, Cmp, cmp, none_before}
@@ -66,20 +65,6 @@ order_behind (a ∷ s) (b ∷ t) (suc k) h = elim (heads a s b t) [
   | apart e n o ↦ absurd (omega arith)
 ]
 
-compare_less : (x y : ℕ) → x < y → compare x y ≡ Ordering.lt
-compare_less x y h = elim (nat_order x y) as (λ o z. o ≡ Ordering.lt) [
-  | nat_lt l ↦ refl
-  | nat_eq e ↦ absurd (omega arith)
-  | nat_gt l ↦ absurd (omega arith)
-]
-
-compare_more : (x y : ℕ) → y < x → compare x y ≡ Ordering.gt
-compare_more x y h = elim (nat_order x y) as (λ o z. o ≡ Ordering.gt) [
-  | nat_lt l ↦ absurd (omega arith)
-  | nat_eq e ↦ absurd (omega arith)
-  | nat_gt l ↦ refl
-]
-
 less_ltb : (x y : ℕ) → by_order (compare x y) true false false ≡ ltb x y
 less_ltb x y = elim (nat_order x y) as (λ o z. by_order o true false false ≡ ltb x y) [
   | nat_lt l ↦ sym (lt-ltb x y l)
@@ -94,12 +79,6 @@ module _ (a b : Bytes) (n : ℕ) (e : n ≡ common a b) where
 
   pub order_first_ends : length a ≤ n → n < length b → order a b ≡ Ordering.lt
   order_first_ends h k = behind ∙ rw (drop_of_length-le a h, drop-cons b n 0 k)
-
-  pub order_second_ends : n < length a → length b ≤ n → order a b ≡ Ordering.gt
-  order_second_ends h k = behind ∙ rw (drop_of_length-le b k, drop-cons a n 0 h)
-
-  pub order_both_end : length a ≤ n → length b ≤ n → order a b ≡ Ordering.eq
-  order_both_end h k = behind ∙ rw (drop_of_length-le a h, drop_of_length-le b k)
 
   pub before_ended : length b ≤ n → before a b ≡ false
   before_ended k = rw (behind, drop_of_length-le b k) (none_before (drop n a))
@@ -119,14 +98,6 @@ get_d_apart (a ∷ s) (b ∷ t) (suc n) e h k = elim (heads a s b t) [
 ]
 
 module _ (a b : Bytes) (n : ℕ) (e : n ≡ common a b) (h : n < length a) (k : n < length b) where
-  pub order_less : get_or a n 0 < get_or b n 0 → order a b ≡ Ordering.lt
-  order_less l = (get_d_apart a b n e h k).1 ∙ compare_less (get_or a n 0) (get_or b n 0) l
-
-  pub order_more : get_or b n 0 ≤ get_or a n 0 → order a b ≡ Ordering.gt
-  order_more l =
-      let d = get_d_apart a b n e h k in
-      d.1 ∙ compare_more (get_or a n 0) (get_or b n 0) (lt_of_le_of_ne l (λ z. d.0 (sym z)))
-
   pub before_apart : before a b ≡ ltb (get_or a n 0) (get_or b n 0)
   before_apart = rw (get_d_apart a b n e h k).1 (less_ltb (get_or a n 0) (get_or b n 0))
 
@@ -185,20 +156,16 @@ common_none : (s : Bytes) → common s [] ≡ 0
 common_none [] = refl
 common_none (a ∷ s) = refl
 
--- the loop of `shared` at its i-th byte
+-- where one has ended, no more is in common
 module _ (a b : Bytes) (i : ℕ) where
-  pub first_over : length a ≤ i → common (drop i a) (drop i b) ≡ 0
+  first_over : length a ≤ i → common (drop i a) (drop i b) ≡ 0
   first_over h = rw (drop_of_length-le a h)
 
-  pub second_over : length b ≤ i → common (drop i a) (drop i b) ≡ 0
+  second_over : length b ≤ i → common (drop i a) (drop i b) ≡ 0
   second_over h = rw (drop_of_length-le b h) (common_none (drop i a))
 
-  module _ (h : i < length a) (k : i < length b) where
-    pub parting : (get_or a i 0 ≡ get_or b i 0 → ⊥) → common (drop i a) (drop i b) ≡ 0
-    parting e = rw (drop-cons a i 0 h, drop-cons b i 0 k, ne_eqb (get_or a i 0) (get_or b i 0) e)
-
-    pub going : get_or a i 0 ≡ get_or b i 0
-        → common (drop i a) (drop i b) ≡ 1 + common (drop (i + 1) a) (drop (i + 1) b)
-    going e =
-        rw (drop-cons a i 0 h, drop-cons b i 0 k, eq-eqb (get_or a i 0) (get_or b i 0) e, add-one i)
-        (sym (one-add (common (drop (suc i) a) (drop (suc i) b))))
+  pub one_over : min (length a) (length b) ≤ i → common (drop i a) (drop i b) ≡ 0
+  one_over h = elim (test (leb (length a) i)) [
+    | yea z ↦ first_over (leb-true (length a) i z)
+    | nay z ↦ second_over (omega (arith, leb-false (length a) i z))
+  ]

@@ -1,5 +1,5 @@
 pub mod Common
-pub mod Numbers
+mod Slices
 pub mod Writes
 pub mod Zeros
 mod Words

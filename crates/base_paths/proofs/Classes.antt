@@ -1,6 +1,6 @@
 -- The classes of bytes: one computed test compares each entry of the code's table with its row in RFC 3629's grammar, a second one
 -- compares the class of each of the 256 bytes. And by the row, the ranges of the bytes that follow.
-use mathlib.Core.Path.{◌≡◌, refl, ap, subst, sym, ◌∙◌}
+use mathlib.Core.Path.{◌≡◌, refl, subst}
 use mathlib.Core.Bool.{Bool, true, cond}
 use mathlib.Core.List.{List, [], ◌∷◌, ◌++◌}
 use mathlib.Core.Logic.{◌⊎◌, inl, inr}
@@ -9,11 +9,11 @@ use native.Mathlib.Nat.{le_of_suc-le-suc, not-suc-le-zero}
 use native.Mathlib.Omega.{arith}
 use lib.Dec.{eqb, ltb}
 use lib.ListN.{length, get_or, replicate}
-use borrow.Author.Tests.{eqb-true, lt-ltb, le-ltb}
+use borrow.Author.Tests.{eqb-true}
 use Rattle.model.specs.Utf8.{within, Row, rows, nowhere, after_in}
 use Rattle.model.proofs.Orders.{yea, nay, test}
 use Rattle.base_paths.specs.Classes.{row_in, after_row}
-use Rattle.base_paths.proofs.Table.{each, from, each_below, below}
+use Rattle.base_paths.proofs.Table.{each, from, each_below}
 
 -- the table of the code, from byte C0 on, in runs of one class
 abbrev from_e0 : List ℕ
@@ -40,17 +40,6 @@ right_byte b = right b (class_of b)
 pub every_right : each_below right_byte 0x100 ≡ true
 every_right = refl
 
--- the rule, for every byte
-pub class_row : (b : ℕ) → b < 0x100 → class_of b ≡ row_in rows b
-class_row b h = eqb-true (class_of b) (row_in rows b) (below right_byte 0x100 every_right b h)
-
--- and so for each of the code's three answers
-pub ascii_row : (b : ℕ) → b < 0x80 → 0 ≡ row_in rows b
-ascii_row b h = cc (lt-ltb b 0x80 h, class_row b (omega arith))
-
-pub low_row : (b : ℕ) → 0x80 ≤ b → b < 0xC0 → 9 ≡ row_in rows b
-low_row b l h = cc (le-ltb b 0x80 l, lt-ltb b 0xC0 h, class_row b (omega arith))
-
 pub table_row : (b : ℕ) → 0xC0 ≤ b → b < 0x100 → get_or classes (b - 0xC0) 0 ≡ row_in rows b
 table_row b l h =
     let k = b - 0xC0 in
@@ -71,13 +60,6 @@ row_below b k e = omega (arith, e, row_le rows b)
 after_row_lem : (rs : List Row) (b : ℕ) → after_row rs (row_in rs b) ≡ after_in rs b
 after_row_lem [] b = refl
 after_row_lem (r ∷ rs) b = let ih = after_row_lem rs b in elim (test (within r.first b)) [ yea e ↦ cc | nay e ↦ cc ]
-
-pub of_class : (b k : ℕ) → k ≡ row_in rows b → after_row rows k ≡ after_in rows b
-of_class b k e = ap (after_row rows) e ∙ after_row_lem rows b
-
--- in an arm of the code's match that has the class by itself, what follows it
-pub at_row : (k n : ℕ) → k ≡ n → after_row rows n ≡ after_row rows k
-at_row k n e = ap (after_row rows) (sym e)
 
 -- and in the last arm, which has no row
 no_row : (rs : List Row) (k : ℕ) → length rs ≤ k → nowhere ∷ [] ≡ after_row rs k

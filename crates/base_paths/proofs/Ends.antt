@@ -2,24 +2,13 @@
 use mathlib.Core.Path.{◌≡◌, refl, ap, sym, ◌∙◌}
 use mathlib.Core.Bool.{Bool, true, false, not, ◌&&◌}
 use mathlib.Core.List.{List, [], ◌∷◌, ◌++◌, append-nil}
-use Prim.Native.Nat.{ℕ, zero, suc, ◌+◌, ◌<◌, ◌≤◌}
+use Prim.Native.Nat.{ℕ, ◌<◌, ◌≤◌}
 use native.Mathlib.Omega.{arith}
-use native.Mathlib.Numerals.{add-one}
 use lib.Dec.{leb, ltb}
-use lib.ListN.{length, take, set}
 use borrow.Author.Tests.{ltb-true, leb-true, lt-ltb, le-leb}
 use Rattle.model.specs.Bytes.{cons_if}
 use Rattle.model.proofs.Orders.{and_true}
 use Rattle.base_paths.specs.Dirs.{climbs}
-
--- what is stored behind the first n is the last of the first n + 1
-pub take_set : (es : List ℕ) (n e : ℕ) → n < length es → take (n + 1) (set es n e) ≡ take n es ++ (e ∷ [])
-take_set es n e h = rw (add-one n) (stored es n h)
-  where
-    stored : (es : List ℕ) (n : ℕ) → n < length es → take (suc n) (set es n e) ≡ take n es ++ (e ∷ [])
-    stored [] n h = absurd (omega arith)
-    stored (x ∷ es) zero h = refl
-    stored (x ∷ es) (suc n) h = ap (λ (r : List ℕ). x ∷ r) (stored es n (omega arith))
 
 -- one more where a test fails, or none
 pub unmade : (es : List ℕ) (e : ℕ) (b : Bool) → b ≡ true → es ≡ es ++ cons_if (not b) e []

@@ -7,5 +7,4 @@ pub mod Ancestors
 pub mod Grammar
 pub mod Related
 pub mod Components
-pub mod Parents
 pub mod Ends

@@ -3,7 +3,6 @@ use mathlib.Core.Path.{◌≡◌, refl, sym, ap, ◌∙◌}
 use mathlib.Core.Bool.{Bool, true, false, ◌&&◌, and_assoc, and_comm}
 use mathlib.Core.List.{[], ◌∷◌}
 use Prim.Native.Nat.{ℕ, suc, ◌+◌, ◌<◌, ◌≤◌}
-use native.Mathlib.Omega.{arith}
 use native.Mathlib.Numerals.{add-one}
 use lib.Dec.{leb, ltb, eqb}
 use lib.ListN.{length, get_or, drop, drop_of_length-le}
@@ -37,10 +36,6 @@ pub record Kept (s : Bytes) (t : Tail) (n : Names) (i : ℕ) : Type 0 where
 
 pub too_long : (s : Path) → 512 < length s → false ≡ is_path s
 too_long s h = rw (lt-leb (length s) 512 h)
-
-pub root : (s : Path) → length s ≡ 0 → true ≡ is_path s
-root [] h = refl
-root (b ∷ s) h = absurd (omega arith)
 
 not_root_lem : (s : Path) → (length s ≡ 0 → ⊥) → is_root s ≡ false
 not_root_lem [] h = absurd (h refl)

@@ -1,18 +1,18 @@
 -- Whether a path is below another, a child of it, or before it with one byte behind it, by the bytes that the two have in common.
 use mathlib.Core.Path.{◌≡◌, refl, ap, sym, ◌∙◌}
-use mathlib.Core.Bool.{Bool, true, false, ◌&&◌}
+use mathlib.Core.Bool.{Bool, true, false, not, ◌&&◌, ◌||◌, and_assoc}
 use mathlib.Core.List.{[], ◌∷◌, ◌++◌}
 use Prim.Native.Nat.{ℕ, zero, suc, ◌+◌, ◌<◌, ◌≤◌}
 use native.Mathlib.Omega.{arith}
 use native.Mathlib.Numerals.{add-one}
 use lib.Dec.{eqb, ltb}
-use lib.ListN.{length, get_or, drop, drop_of_length-le}
-use lib.Seq.{drop-cons}
+use lib.ListN.{length, get_or, drop}
 use borrow.Author.Tests.{eq-eqb, ne_eqb, le-ltb}
+use Rattle.std.specs.List.{list_any}
 use Rattle.model.specs.Bytes.{Bytes, before}
 use Rattle.model.specs.Path.{Path, below, slashless, child}
 use Rattle.base_fields.specs.Read.{common}
-use Rattle.model.proofs.Orders.{none_before}
+use Rattle.model.proofs.Orders.{none_before, bot, and_true}
 use Rattle.base_fields.proofs.Common.{alike, apart, heads, before_apart}
 
 -- `below` by the bytes in common
@@ -44,56 +44,29 @@ below_next (a ∷ d) (b ∷ q) (suc n) e h k = elim (heads a d b q) [
   | apart z m o ↦ absurd (omega arith)
 ]
 
--- `child`: the same, and no other slash
-pub child_apart : (d q : Path) → common d q < length d → false ≡ child d q
-child_apart [] q h = absurd (omega arith)
-child_apart (a ∷ d) [] h = refl
-child_apart (a ∷ d) (b ∷ q) h = elim (heads a d b q) [
-  | alike e n o ↦ rw (eq-eqb a b e) (child_apart d q (omega arith))
-  | apart e n o ↦ rw (ne_eqb a b e)
-]
+pub below_long : (d q : Path) → below d q ≡ true → length d < length q
+below_long [] [] h = absurd (bot (cc))
+below_long [] (c ∷ q) h = omega arith
+below_long (a ∷ d) [] h = absurd (bot (cc))
+below_long (a ∷ d) (c ∷ q) h = omega (arith, below_long d q (and_true (eqb a c) (below d q) h).1)
 
-pub child_over : (d q : Path) → length q ≤ common d q → false ≡ child d q
-child_over [] [] h = refl
-child_over [] (b ∷ q) h = absurd (omega arith)
-child_over (a ∷ d) [] h = refl
-child_over (a ∷ d) (b ∷ q) h = elim (heads a d b q) [
-  | alike e n o ↦ rw (eq-eqb a b e) (child_over d q (omega arith))
-  | apart e n o ↦ rw (ne_eqb a b e)
-]
+-- `child`: below, and no other slash
+pub child_below : (d q : Path) → child d q ≡ (below d q && slashless (drop (length d + 1) q))
+child_below d q = rw (add-one (length d)) (go d q)
+  where
+    go : (d q : Path) → child d q ≡ (below d q && slashless (drop (suc (length d)) q))
+    go [] [] = refl
+    go [] (c ∷ q) = refl
+    go (a ∷ d) [] = refl
+    go (a ∷ d) (c ∷ q) = ap (λ (t : Bool). eqb a c && t) (go d q) ∙ sym (and_assoc (eqb a c) (below d q) (slashless (drop (suc (length d)) q)))
 
--- behind all of the directory's bytes: a slash, and no other
-child_next : (d q : Path) (n : ℕ) → n ≡ common d q → length d ≤ n → n < length q
-    → (eqb (get_or q n 0) 47 && slashless (drop (suc n) q)) ≡ child d q
-child_next [] [] n e h k = absurd (omega arith)
-child_next [] (b ∷ q) zero e h k = refl
-child_next [] (b ∷ q) (suc n) e h k = absurd (omega arith)
-child_next (a ∷ d) [] n e h k = absurd (omega arith)
-child_next (a ∷ d) (b ∷ q) zero e h k = absurd (omega arith)
-child_next (a ∷ d) (b ∷ q) (suc n) e h k = elim (heads a d b q) [
-  | alike z m o ↦ rw (eq-eqb a b z) (child_next d q n (omega arith) (omega arith) (omega arith))
-  | apart z m o ↦ absurd (omega arith)
-]
+not_or : (a b : Bool) → not (a || b) ≡ (not a && not b)
+not_or true b = refl
+not_or false b = refl
 
-module _ (d q : Path) (n : ℕ) (e : n ≡ common d q) (h : length d ≤ n) (k : n < length q) where
-  pub child_other : (get_or q n 0 ≡ 47 → ⊥) → false ≡ child d q
-  child_other z = let c = child_next d q n e h k in ap (λ (t : Bool). t && slashless (drop (suc n) q)) (sym (ne_eqb (get_or q n 0) 47 z)) ∙ c
-
-  pub child_slash : get_or q n 0 ≡ 47 → slashless (drop (n + 1) q) ≡ child d q
-  child_slash z =
-      let c = child_next d q n e h k in
-      rw (add-one n) (ap (λ (t : Bool). t && slashless (drop (suc n) q)) (sym (eq-eqb (get_or q n 0) 47 z)) ∙ c)
-
--- the search for another slash
-module _ (q : Path) (i : ℕ) (b : Bool) (e : slashless (drop i q) ≡ b) where
-  pub slash_here : i < length q → get_or q i 0 ≡ 47 → false ≡ b
-  slash_here h z = let f : slashless (drop i q) ≡ false = rw (drop-cons q i 0 h, eq-eqb (get_or q i 0) 47 z) in sym f ∙ e
-
-  pub slash_on : i < length q → (get_or q i 0 ≡ 47 → ⊥) → slashless (drop (i + 1) q) ≡ b
-  slash_on h z = let f : slashless (drop i q) ≡ slashless (drop (suc i) q) = rw (drop-cons q i 0 h, ne_eqb (get_or q i 0) 47 z) in rw (add-one i) (sym f ∙ e)
-
-  pub slash_none : length q ≤ i → true ≡ b
-  slash_none h = let f : slashless (drop i q) ≡ true = rw (drop_of_length-le q h) in sym f ∙ e
+pub none_any : (s : Path) → not (list_any (λ (b : ℕ). eqb b 47) s) ≡ slashless s
+none_any [] = refl
+none_any (b ∷ s) = not_or (eqb b 47) (list_any (λ (c : ℕ). eqb c 47) s) ∙ ap (λ (t : Bool). not (eqb b 47) && t) (none_any s)
 
 -- a key of no bytes but those in common
 pub with_over : (k d : Bytes) (b n : ℕ) → n ≡ common k d → length k ≤ n → true ≡ before k (d ++ (b ∷ []))

@@ -8,20 +8,11 @@ use native.Mathlib.Omega.{arith}
 use native.Mathlib.Nat.{zero-add}
 use lib.Dec.{leb, ltb, eqb}
 use lib.ListN.{length}
-use borrow.Author.Tests.{eq-eqb, ne_eqb, lt-leb}
+use borrow.Author.Tests.{lt-leb}
 use Rattle.model.specs.Bytes.{Bytes, every, same}
 use Rattle.model.specs.Path.{Path, allowed, component, components}
 use Rattle.model.proofs.Orders.{yea, nay, test, same_cons}
 use Rattle.base_paths.specs.Scan.{sized_name, scan}
-
--- one byte of the code's pass
-module _ (ok : Bool) (n : ℕ) (d : Bool) (k b : ℕ) (s : Bytes) where
-  pub at_slash : (r : Bool) → b ≡ 47 → r ≡ (ok && sized_name n d) → (r && scan 0 true (k + 1) s) ≡ (ok && scan n d k (b ∷ s))
-  at_slash r h e = rw (e, eq-eqb b 47 h) (and_assoc ok (sized_name n d) (scan 0 true (k + 1) s))
-
-  pub at_byte : (r : Bool) → (b ≡ 47 → ⊥) → r ≡ allowed b
-      → (ok && r && scan (n + 1) (d && eqb b 46) k s) ≡ (ok && scan n d k (b ∷ s))
-  at_byte r h e = rw (e, ne_eqb b 47 h) (and_assoc ok (allowed b) (scan (n + 1) (d && eqb b 46) k s))
 
 abbrev dots : Bytes → Bool
 dots c = every (λ b. eqb b 46) c

@@ -20,12 +20,6 @@ pub stuck : (s : Bytes) → characters (nowhere ∷ []) s ≡ false
 stuck [] = refl
 stuck (b ∷ s) = cc (no_byte b)
 
--- a byte out of its range
-pub refused : (n : ℕ) (r : Range) (b : ℕ) (s : Bytes) → (n ≡ 0 → ⊥) → within r b ≡ false
-    → characters (nowhere ∷ []) s ≡ characters (ranges n r) (b ∷ s)
-refused zero r b s p e = absurd (p refl)
-refused (suc n) r b s p e = cc (stuck s)
-
 tails : (n : ℕ) → ranges n tail ≡ replicate n tail
 tails zero = refl
 tails (suc n) = refl

@@ -24,7 +24,7 @@ pub fn is_path(s: &[u8]) -> bool
     if model::PATH_MAX < s.len() {
         return false;
     }
-    if s.len() == 0 {
+    if s.is_empty() {
         return true;
     }
     let mut t = Tail {
@@ -38,11 +38,9 @@ pub fn is_path(s: &[u8]) -> bool
         dots: true,
         before: 0,
     };
-    let mut i = 0;
-    while i < s.len() {
-        t = next_tail(t, s[i]);
-        n = next_names(n, s[i]);
-        i += 1;
+    for &b in s {
+        t = next_tail(t, b);
+        n = next_names(n, b);
     }
     (t.need == 0) & (is_ended(n) & (n.before < model::DEPTH_MAX))
 }

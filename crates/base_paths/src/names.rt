@@ -37,23 +37,18 @@ pub fn next_names(n: Names, b: u8) -> Names
     ensures by_index { (s : List ℕ) → completes result s ≡ completes n (b ∷ s) }
     ensures len_bound { (result.len ≤ n.len + 1) × (result.before ≤ n.before + 1) }
 {
-    let len = n.len;
-    let before = n.before;
     if b == b'/' {
-        let ok = is_ended(n);
         return Names {
-            ok,
+            ok: is_ended(n),
             len: 0,
             dots: true,
-            before: before + 1,
+            before: n.before + 1,
         };
     }
-    let ok = n.ok & is_allowed(b);
-    let dots = n.dots & (b == b'.');
     Names {
-        ok,
-        len: len + 1,
-        dots,
-        before,
+        ok: n.ok & is_allowed(b),
+        len: n.len + 1,
+        dots: n.dots & (b == b'.'),
+        before: n.before,
     }
 }

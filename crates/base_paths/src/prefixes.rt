@@ -11,18 +11,14 @@ pub struct Dirs {
 }
 
 // Those directories, and one more that ends at `end`.
-pub fn with_end(dirs: Dirs, end: usize) -> Dirs
+pub fn with_end(mut dirs: Dirs, end: usize) -> Dirs
     requires { dirs.count < 32 }
     ensures result_value { ends_of result ≡ ends_of dirs ++ (end ∷ []) }
     ensures count_value { result.count ≡ dirs.count + 1 }
 {
-    let count = dirs.count;
-    let mut ends = dirs.ends;
-    ends[count] = end;
-    Dirs {
-        ends: ends,
-        count: count + 1,
-    }
+    dirs.ends[dirs.count] = end;
+    dirs.count += 1;
+    dirs
 }
 
 // Where the first proper ancestor of path ends whose end is at from or behind it; path's length where there is none.
@@ -31,12 +27,10 @@ pub fn next_ancestor(path: &[u8], from: usize) -> usize
     ensures value { result ≡ next_slash path.now from }
     ensures lower_bound { (from ≤ result) × (result ≤ length path.now) }
 {
-    let mut i = from;
-    while i < path.len() {
+    for i in from..path.len() {
         if path[i] == b'/' {
             return i;
         }
-        i += 1;
     }
     path.len()
 }
@@ -47,12 +41,10 @@ pub fn parent_end(path: &[u8], from: usize) -> usize
     requires { from < length path.now }
     ensures { Parted path.now from result }
 {
-    let mut end = path.len() - 1;
-    while from < end {
+    for end in (from + 1..path.len()).rev() {
         if path[end] == b'/' {
             return end;
         }
-        end -= 1;
     }
-    end
+    from
 }

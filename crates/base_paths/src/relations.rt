@@ -10,39 +10,14 @@ pub fn is_below(dir: &[u8], path: &[u8]) -> bool
     ensures { result ≡ below dir.now path.now }
 {
     let n = base_fields::shared(dir, path);
-    if n < dir.len() {
-        return false;
-    }
-    if n < path.len() {
-        let b = path[n];
-        return b == b'/';
-    }
-    false
+    n == dir.len() && n < path.len() && path[n] == b'/'
 }
 
 // Whether a path is a child of a directory: the directory's path, a slash, and one component.
 pub fn is_child(dir: &[u8], path: &[u8]) -> bool
     ensures { result ≡ child dir.now path.now }
 {
-    let n = base_fields::shared(dir, path);
-    if n < dir.len() {
-        return false;
-    }
-    if path.len() <= n {
-        return false;
-    }
-    let b = path[n];
-    if b != b'/' {
-        return false;
-    }
-    let mut i = n + 1;
-    while i < path.len() {
-        if path[i] == b'/' {
-            return false;
-        }
-        i += 1;
-    }
-    true
+    is_below(dir, path) && !path[dir.len() + 1..].contains(&b'/')
 }
 
 // Whether a key comes before a directory's path with one byte behind it. With a slash, what is not before it and is
@@ -51,13 +26,12 @@ pub fn is_before_with(key: &[u8], dir: &[u8], b: u8) -> bool
     ensures { result ≡ before key.now (dir.now ++ (b ∷ [])) }
 {
     let n = base_fields::shared(key, dir);
-    if key.len() <= n {
+    if n == key.len() {
         return true;
     }
-    let x = key[n];
     if n < dir.len() {
-        let y = dir[n];
-        return x < y;
+        key[n] < dir[n]
+    } else {
+        key[n] < b
     }
-    x < b
 }

@@ -1,28 +1,12 @@
 // How many components a path has, and whether it is short enough for document 01's form.
-ghost use Rattle.std.specs.Prelude.{◌≡◌, cond, eqb, length};
+ghost use Rattle.std.specs.Prelude.{◌≡◌, length};
 ghost use Rattle.model.specs.Path.{components, short};
-
-// 1 for a slash, 0 for every other byte.
-fn slash(b: u8) -> u64
-    ensures { result ≡ cond (eqb b 47) 1 0 }
-{
-    if b == b'/' {
-        return 1;
-    }
-    0
-}
 
 // How many components a path has: one more than slashes.
 pub fn component_count(path: &[u8]) -> u64
     ensures { result ≡ length (components path.now) }
 {
-    let mut n: u64 = 1;
-    let mut i = 0;
-    while i < path.len() {
-        n += slash(path[i]);
-        i += 1;
-    }
-    n
+    1 + path.iter().filter(|&&b| b == b'/').count() as u64
 }
 
 // Whether a path has at most 512 bytes and 32 components.

@@ -59,8 +59,7 @@ pub fn class_of(b: u8) -> u8
     if b < 0xC0 {
         return 9;
     }
-    let k = (b - 0xC0) as usize;
-    CLASS[k]
+    CLASS[usize::from(b - 0xC0)]
 }
 
 fn tail_of(need: u8, low: u8, high: u8) -> Tail
@@ -98,22 +97,11 @@ pub fn after_first(b: u8) -> Tail
 pub fn next_tail(t: Tail, b: u8) -> Tail
     ensures { (s : List ℕ) → characters (pending result) s ≡ characters (pending t) (b ∷ s) }
 {
-    let need = t.need;
-    let low = t.low;
-    let high = t.high;
-    if need == 0 {
+    if t.need == 0 {
         return after_first(b);
     }
-    if (low <= b) & (b <= high) {
-        return Tail {
-            need: need - 1,
-            low: 0x80,
-            high: 0xBF,
-        };
+    if (t.low <= b) & (b <= t.high) {
+        return tail_of(t.need - 1, 0x80, 0xBF);
     }
-    Tail {
-        need: 1,
-        low: 1,
-        high: 0,
-    }
+    tail_of(1, 1, 0)
 }

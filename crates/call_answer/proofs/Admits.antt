@@ -1,5 +1,5 @@
 -- A call as an outer and an inner function: 1 and 2 refuse and decide, or listing, table and work buffer are as the inner one asks, and the verdict is that of 3 on.
-use mathlib.Core.Path.{◌≡◌, ap, sym, ◌∙◌}
+use mathlib.Core.Path.{◌≡◌, sym, ◌∙◌}
 use mathlib.Core.Bool.{Bool, true, ◌&&◌}
 use Prim.Native.Nat.{◌≤◌}
 use lib.Dec.{leb}
@@ -12,15 +12,13 @@ use Rattle.model.specs.Checks.{Check, pass, ◌then◌, unless, limited}
 use Rattle.model.specs.Calls.{forms, rules}
 use Rattle.model.specs.Answer.{told_refusal}
 use Rattle.model.specs.Outcome.{Store, Given, Request, lent, room, verdict, outcome}
+use Rattle.model.specs.declared.Answered.{Answered}
 use Rattle.model.specs.declared.Refusal.{Refusal}
-use Rattle.model.specs.declared.Answer.TheVariants.{Refused}
 use Rattle.model.proofs.Orders.{and_true}
 use Rattle.model.proofs.Invariant.{then_pass, unless_pass}
-use Rattle.check_judged.specs.declared.Judged.{Judged}
-use Rattle.check_judged.specs.declared.Judged.TheVariants as judge
-use Rattle.check_judged.specs.Judged.{as_check, check_of}
-use Rattle.check_judged.proofs.Checked.{refusal_refuses, refused_stops}
-use Rattle.check_judged.proofs.Thens.{then_assoc}
+use Rattle.std.specs.Prelude.{Err}
+use Rattle.check_judged.specs.Judged.{as_check}
+use Rattle.check_judged.proofs.Thens.{then_assoc, stops}
 use Rattle.call_answer.specs.Meets.{Meets}
 use Rattle.call_answer.proofs.Settles.{told_so}
 
@@ -44,16 +42,17 @@ module _ (listing : Bytes) (q : Request) (s : Store) where
       let w = le-leb (length s.table) (length q.work) h in
       rw (g.table_is, w, g.listing_is)
 
-  -- 1 and 2 gave j
-  module _ (j : Judged) (e : check_of j ≡ (unless 1 (lent q s) then unless 2 (is_listing listing))) where
-    pub not_admitted : (r : Refusal) → j ≡ judge.Refused r → Meets (outcome listing q s) (record { answer = Refused r; «record» = s.rec }) s.table q.work
-    not_admitted r h =
-        told_so listing q s r
-        (sym (then_assoc (unless 1 (lent q s)) (unless 2 (is_listing listing)) verdict_on)
-        ∙ ap (λ (c : Check). c then verdict_on) (sym e ∙ ap check_of h)
-        ∙ refused_stops (as_check (told_refusal r)) verdict_on (refusal_refuses r))
+  -- 1 and 2
+  abbrev pub first_checks : Check
+  first_checks = unless 1 (lent q s) then unless 2 (is_listing listing)
 
-    pub admitted_given : j ≡ judge.Pass → Given listing s.table s.rec × (length s.table ≤ length q.work)
-    admitted_given h =
-        let k = all_passed (is_table s.table s.rec) (leb (length s.table) (length q.work)) (is_listing listing) (sym (ap check_of h) ∙ e) in
-        (record { listing_is = k.2; table_is = k.0 }, leb-true (length s.table) (length q.work) k.1)
+  pub not_admitted : (r : Refusal) → as_check (told_refusal r) ≡ first_checks → (a : Answered)
+      → a ≡ record { answer = Err r; «record» = s.rec } → Meets (outcome listing q s) a s.table q.work
+  not_admitted r e =
+      told_so listing q s r
+      (sym (stops first_checks verdict_on r e ∙ then_assoc (unless 1 (lent q s)) (unless 2 (is_listing listing)) verdict_on))
+
+  pub admitted_given : pass ≡ first_checks → Given listing s.table s.rec × (length s.table ≤ length q.work)
+  admitted_given e =
+      let k = all_passed (is_table s.table s.rec) (leb (length s.table) (length q.work)) (is_listing listing) e in
+      (record { listing_is = k.2; table_is = k.0 }, leb-true (length s.table) (length q.work) k.1)

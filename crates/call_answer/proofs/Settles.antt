@@ -14,13 +14,13 @@ use Rattle.model.specs.Outcome.{Store, Request, Outcome, table_after, room, verd
 use Rattle.model.specs.declared.Answered.{Answered}
 use Rattle.model.specs.declared.Refusal.{Refusal}
 use Rattle.model.specs.declared.Refusal.TheVariants as refusal
-use Rattle.model.specs.declared.Answer.TheVariants.{Accepted, Refused}
 use Rattle.model.proofs.Orders.{test, yea, nay}
 use Rattle.model.proofs.Unchanged.{nothing_done, unchanged_fits, unchanged_settled}
-use Rattle.table_insert.specs.declared.Inserted.{Inserted}
-use Rattle.table_insert.specs.declared.Inserted.TheVariants as inserted
-use Rattle.table_insert.specs.Insert.{insertion, if_done}
+use Rattle.table_insert.specs.declared.InsertError.TheVariants as inserted
+use Rattle.std.specs.Prelude.{Ok, Err}
+use Rattle.table_insert.specs.Insert.{Inserted, insertion, if_done}
 use Rattle.check_judged.specs.Judged.{as_check}
+use Rattle.check_judged.proofs.Thens.{stops}
 use Rattle.call_answer.specs.Meets.{last, Meets, answered_of}
 
 -- every refusal is told as one, with its number, path and length
@@ -55,15 +55,15 @@ module _ (listing : Bytes) (q : Request) (s : Store) where
   passes_so : verdict listing q s ≡ pass → outcome listing q s ≡ settle pass listing q s
   passes_so e = ap (λ (c : Check). settle c listing q s) e
 
-  pub told_so : (r : Refusal) → verdict listing q s ≡ as_check (told_refusal r)
-      → Meets (outcome listing q s) (record { answer = Refused r; «record» = s.rec }) s.table q.work
-  told_so r e =
+  pub told_so : (r : Refusal) → verdict listing q s ≡ as_check (told_refusal r) → (a : Answered) → a ≡ record { answer = Err r; «record» = s.rec }
+      → Meets (outcome listing q s) a s.table q.work
+  told_so r e a k =
       let t = told_as r in
       let o : outcome listing q s ≡ record { reply = refused t.number t.path t.len; store = s; work = q.work } =
       refuses_so t.number t.path t.len (e ∙ ap as_check t.is) in
       record {
-        answer = t.is ∙ sym (ap (λ (x : Outcome). x.reply) o);
-        rec = sym (ap (λ (x : Outcome). x.store.rec) o);
+        answer = ap (λ (x : Answered). told x.answer) k ∙ t.is ∙ sym (ap (λ (x : Outcome). x.reply) o);
+        rec = ap (λ (x : Answered). x.«record») k ∙ sym (ap (λ (x : Outcome). x.store.rec) o);
         bytes = sym (ap (λ (x : Outcome). x.store.table) o);
         buffer = sym (ap (λ (x : Outcome). x.work) o);
       }
@@ -71,7 +71,7 @@ module _ (listing : Bytes) (q : Request) (s : Store) where
   -- accepted, with the entries as they were: table and record are those before, and the work buffer w is all 0
   pub unchanged_meets : is_table s.table s.rec ≡ true → table_after listing q s ≡ table_in s.table s.rec
       → verdict listing q s ≡ unless 13 (room listing q s) → (w : Bytes) → w ≡ replicate (length q.work) 0
-      → Meets (outcome listing q s) (record { answer = Accepted (value_of q.call); «record» = s.rec }) s.table w
+      → Meets (outcome listing q s) (record { answer = Ok (value_of q.call); «record» = s.rec }) s.table w
   unchanged_meets h e v w z =
       let o : outcome listing q s ≡ nothing_done q s =
       passes_so (v ∙ ap (unless 13) (unchanged_fits listing q s h e)) ∙ unchanged_settled listing q s h e in
@@ -88,11 +88,9 @@ module _ (listing : Bytes) (q : Request) (s : Store) where
 
   -- the checks before 11, which decide where they refuse
   module _ (c : Check) (v : verdict listing q s ≡ (c then last listing q s)) where
-    pub refused_meets : (r : Refusal) → as_check (told_refusal r) ≡ c → Meets (outcome listing q s) (record { answer = Refused r; «record» = s.rec }) s.table q.work
-    refused_meets r e = told_so listing q s r (v ∙ ap (λ (x : Check). x then last listing q s) (sym e) ∙ stops r)
-      where
-        stops : (r : Refusal) → (as_check (told_refusal r) then last listing q s) ≡ as_check (told_refusal r)
-        stops r = let t = told_as r in rw t.is
+    pub refused_meets : (r : Refusal) → as_check (told_refusal r) ≡ c → (a : Answered) → a ≡ record { answer = Err r; «record» = s.rec }
+        → Meets (outcome listing q s) a s.table q.work
+    refused_meets r e = told_so listing q s r (v ∙ sym (stops c (last listing q s) r e))
 
     pub inserted_meets : pass ≡ c → (i : Inserted) → i ≡ insertion s.rec.entry_size q.limit (length s.table) after → (t w : Bytes)
         → t ≡ if_done i (padded (length s.table) (encode after)) s.table → w ≡ if_done i (replicate (length q.work) 0) q.work
@@ -101,10 +99,10 @@ module _ (listing : Bytes) (q : Request) (s : Store) where
         let E : ℕ = s.rec.entry_size in
         let u : verdict listing q s ≡ last listing q s = v ∙ ap (λ (x : Check). x then last listing q s) (sym e) in
         elim (test (leb (charge E after) q.limit)) [
-          | nay x ↦ by inserted.MemoryUsageLimitExceeded (f ∙ rw x) (refuses_so listing q s 11 0 0 (u ∙ rw x)) refl refl refl refl
+          | nay x ↦ by (Err inserted.MemoryUsageLimitExceeded) (f ∙ rw x) (refuses_so listing q s 11 0 0 (u ∙ rw x)) refl refl refl refl
           | yea x ↦ elim (test (leb (length (encode after)) (length s.table))) [
-            | nay y ↦ by inserted.NoRoom (f ∙ rw (x, y)) (refuses_so listing q s 13 0 0 (u ∙ rw (x, y))) refl refl refl refl
-            | yea y ↦ by (inserted.Done (record_of E after)) (f ∙ rw (x, y)) (passes_so listing q s (u ∙ rw (x, y))) refl refl refl refl
+            | nay y ↦ by (Err inserted.NoRoom) (f ∙ rw (x, y)) (refuses_so listing q s 13 0 0 (u ∙ rw (x, y))) refl refl refl refl
+            | yea y ↦ by (Ok (record_of E after)) (f ∙ rw (x, y)) (passes_so listing q s (u ∙ rw (x, y))) refl refl refl refl
           ]
         ]
       where

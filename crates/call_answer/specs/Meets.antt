@@ -1,5 +1,5 @@
 -- What a call leaves, beside the outcome that the definition gives.
-use Rattle.std.specs.Prelude.{◌≡◌, ℕ}
+use Rattle.std.specs.Prelude.{◌≡◌, ℕ, Ok, Err}
 use Rattle.model.specs.Bytes.{Bytes}
 use Rattle.model.specs.Checks.{Check, ◌then◌, unless, limited, charged}
 use Rattle.model.specs.Calls.{Call}
@@ -7,10 +7,7 @@ use Rattle.model.specs.Answer.{told}
 use Rattle.model.specs.Outcome.{Store, Request, Outcome, table_after, room}
 use Rattle.model.specs.declared.Record.{Record}
 use Rattle.model.specs.declared.Answered.{Answered}
-use Rattle.model.specs.declared.Answer.TheVariants.{Accepted, Refused}
-use Rattle.model.specs.declared.Refusal.TheVariants.{Limit, NoRoom}
-use Rattle.table_insert.specs.declared.Inserted.{Inserted}
-use Rattle.table_insert.specs.declared.Inserted.TheVariants as inserted
+use Rattle.table_insert.specs.Insert.{Inserted, refusal_of}
 
 -- a call with its limit and its work buffer; a table with its record
 abbrev pub requested : Call → ℕ → Bytes → Request
@@ -33,6 +30,5 @@ pub record Meets (o : Outcome) (r : Answered) (table work : Bytes) : Type 0 wher
 
 -- the answer to an insertion: accepted with the value v and the new record, or refused with the old one
 abbrev pub answered_of : Inserted → Record → ℕ → Answered
-answered_of (inserted.Done r) old v = record { answer = Accepted v; «record» = r }
-answered_of inserted.MemoryUsageLimitExceeded old v = record { answer = Refused Limit; «record» = old }
-answered_of inserted.NoRoom old v = record { answer = Refused NoRoom; «record» = old }
+answered_of (Ok r) old v = record { answer = Ok v; «record» = r }
+answered_of (Err e) old v = record { answer = Err (refusal_of e); «record» = old }

@@ -15,17 +15,16 @@ use Rattle.model.specs.Table.{table_in}
 use Rattle.model.specs.Checks.{Check, pass, ◌then◌, form, limited, unlimited, charged}
 use Rattle.model.specs.Content.{is_own, content_of, needed, appended, spliced, append_checks, append_memory, inside_checks}
 use Rattle.model.specs.Calls.{append, write_inside, changed, rules}
+use Rattle.model.specs.Answer.{told_refusal}
 use Rattle.model.specs.Outcome.{Given, shown_in, Request, outcome}
 use Rattle.model.specs.declared.Record.{Record}
 use Rattle.model.specs.declared.Refusal.{Refusal}
 use Rattle.model.specs.declared.Answered.{Answered}
-use Rattle.model.specs.declared.Answer.TheVariants.{Refused}
 use Rattle.model.proofs.Invariant.{then_pass}
 use Rattle.model.proofs.Contents.{count_passed, InsidePassed, inside_passed}
-use Rattle.table_insert.specs.declared.Inserted.{Inserted}
-use Rattle.check_judged.specs.declared.Judged.{Judged}
-use Rattle.check_judged.specs.declared.Judged.TheVariants as judge
-use Rattle.check_judged.specs.Judged.{check_of}
+use Rattle.std.specs.Prelude.{Err}
+use Rattle.table_insert.specs.Insert.{Inserted}
+use Rattle.check_judged.specs.Judged.{as_check}
 use Rattle.check_judged.proofs.Thens.{then_assoc}
 use Rattle.check_content.proofs.Owned.{own_shown}
 use Rattle.call_answer.specs.Meets.{requested, stored, Meets, answered_of}
@@ -33,10 +32,10 @@ use Rattle.call_answer.proofs.OnePath.{call_refused, call_inserted}
 use Rattle.call_content.specs.Judged.{append_behind, append_judged, inside_judged}
 use Rattle.call_content.specs.Leaves.{Leaves}
 
--- the call at p, with the mtime m and the work buffer w; its checks gave j
-module _ (l s : Bytes) (r : Record) (w : Bytes) (p : Path) (m limit : ℕ) (g : Given l s r) (h : length s ≤ length w) (j : Judged) where
+-- the call at p, with the mtime m and the work buffer w
+module _ (l s : Bytes) (r : Record) (w : Bytes) (p : Path) (m limit : ℕ) (g : Given l s r) (h : length s ≤ length w) where
   -- append of d, b being lent
-  module _ (d b : Bytes) (e : check_of j ≡ append_judged l s r limit d b p) where
+  module _ (d b : Bytes) where
     abbrev added : Request
     added = requested (append p m d b) limit w
 
@@ -47,14 +46,16 @@ module _ (l s : Bytes) (r : Record) (w : Bytes) (p : Path) (m limit : ℕ) (g : 
         let f = shown_in l s r in
         sym (then_assoc (append_checks f p b) (append_memory o (table_in s r) (f p) (length (appended (f p) d b))) (charged o (changed (table_in s r) (tree_in l) (append p m d b))))
 
-    pub append_refused : (y : Refusal) → j ≡ judge.Refused y → Meets (outcome l added (stored s r)) (record { answer = Refused y; «record» = r }) s w
-    append_refused = call_refused l added (stored s r) g h p (append_behind l s r limit d b p) refl grouped j e
+    pub append_refused : (y : Refusal) → as_check (told_refusal y) ≡ append_judged l s r limit d b p → (a : Answered)
+        → a ≡ record { answer = Err y; «record» = r } → Meets (outcome l added (stored s r)) a s w
+    append_refused = call_refused l added (stored s r) g h p (append_behind l s r limit d b p) refl grouped
 
-    module _ (u : j ≡ judge.Pass) where
+    -- its checks pass
+    module _ (u : pass ≡ append_judged l s r limit d b p) where
       pub append_count : eqb (length b) (needed (shown_in l s r p)) ≡ true
       append_count =
           let f = shown_in l s r in
-          let x = (then_pass (form 0 p) (append_behind l s r limit d b p) (sym e ∙ ap check_of u)).1 in
+          let x = (then_pass (form 0 p) (append_behind l s r limit d b p) (sym u)).1 in
           count_passed f p b (then_pass (append_checks f p b) (append_memory (limited r.entry_size limit) (table_in s r) (f p) (length (appended (f p) d b))) x).0
 
       -- the insertion answered i and left t and v
@@ -62,20 +63,22 @@ module _ (l s : Bytes) (r : Record) (w : Bytes) (p : Path) (m limit : ℕ) (g : 
           → Leaves r.entry_size limit s w (put p (own m (appended (shown_in l s r p) d b)) (table_in s r)) i t v
           → (a : Answered) → a ≡ answered_of i r (length d) → Meets (outcome l added (stored s r)) a t v
       append_inserted i t v x a y =
-          call_inserted l added (stored s r) g h p (append_behind l s r limit d b p) refl grouped j e u i x.answer t v x.bytes x.buffer a y
+          call_inserted l added (stored s r) g h p (append_behind l s r limit d b p) refl grouped u i x.answer t v x.bytes x.buffer a y
 
   -- d written inside the file, from the offset o on
-  module _ (o : ℕ) (d : Bytes) (e : check_of j ≡ inside_judged l s r o d p) where
+  module _ (o : ℕ) (d : Bytes) where
     abbrev written : Request
     written = requested (write_inside p m o d) limit w
 
-    pub inside_refused : (y : Refusal) → j ≡ judge.Refused y → Meets (outcome l written (stored s r)) (record { answer = Refused y; «record» = r }) s w
-    inside_refused = call_refused l written (stored s r) g h p (inside_checks (shown_in l s r) p o d) refl refl j e
+    pub inside_refused : (y : Refusal) → as_check (told_refusal y) ≡ inside_judged l s r o d p → (a : Answered)
+        → a ≡ record { answer = Err y; «record» = r } → Meets (outcome l written (stored s r)) a s w
+    inside_refused = call_refused l written (stored s r) g h p (inside_checks (shown_in l s r) p o d) refl refl
 
-    module _ (u : j ≡ judge.Pass) where
+    -- its checks pass
+    module _ (u : pass ≡ inside_judged l s r o d p) where
       passed : InsidePassed unlimited (table_in s r) (tree_in l) p m o d
       passed =
-          let x = (then_pass (form 0 p) (inside_checks (shown_in l s r) p o d) (sym e ∙ ap check_of u)).1 in
+          let x = (then_pass (form 0 p) (inside_checks (shown_in l s r) p o d) (sym u)).1 in
           inside_passed unlimited (table_in s r) (tree_in l) p m o d (ap (λ (c : Check). c then pass) x)
 
       pub inside_own : is_own (shown_in l s r p) ≡ true
@@ -88,4 +91,4 @@ module _ (l s : Bytes) (r : Record) (w : Bytes) (p : Path) (m limit : ℕ) (g : 
           → Leaves r.entry_size limit s w (put p (own m (spliced o d (content_of (shown_in l s r p) []))) (table_in s r)) i t v
           → (a : Answered) → a ≡ answered_of i r (length d) → Meets (outcome l written (stored s r)) a t v
       inside_inserted i t v x a y =
-          call_inserted l written (stored s r) g h p (inside_checks (shown_in l s r) p o d) refl refl j e u i x.answer t v x.bytes x.buffer a y
+          call_inserted l written (stored s r) g h p (inside_checks (shown_in l s r) p o d) refl refl u i x.answer t v x.bytes x.buffer a y

@@ -15,24 +15,19 @@ use Rattle.model.specs.Content.{is_own, content_of, spliced}
 use Rattle.model.specs.Outcome.{shown_in}
 use Rattle.model.specs.declared.Record.{Record}
 use Rattle.model.proofs.Orders.{bot}
-use Rattle.table_entries.specs.Place.{Sought}
+use Rattle.std.specs.Prelude as code
 use Rattle.table_entries.specs.Said.{said, said_of}
 use Rattle.table_entries.specs.declared.Place.{Place}
 use Rattle.table_entries.specs.declared.OverlayEntry.{OverlayEntry}
 use Rattle.table_entries.proofs.Seeks.{found_all}
-use Rattle.table_insert.specs.declared.Inserted.{Inserted}
+use Rattle.table_insert.specs.Insert.{Inserted}
 use Rattle.table_splice.specs.Splice.{is_own_file}
 use Rattle.model.proofs.Splices.{spliced_end}
 use Rattle.check_content.proofs.Owned.{listed_not_own}
 use Rattle.call_content.specs.Leaves.{Leaves}
 
--- sought from the first entry on
-pub from_first : (s : Bytes) (k : Path) (r : Record) (q : Place) (left at : ℕ) → q ≡ record { at = 0; left = r.count }
-    → Sought s k q.left q.at left at → Sought s k r.count 0 left at
-from_first s k r q left at e h = subst (λ (x : Place). Sought s k x.left x.at left at) e h
-
 -- whether the file at k is an own one was found to be b, by what was read of its entry from the first on
-pub own_read : (l s : Bytes) (r : Record) (k : Path) (q : Place) → q ≡ record { at = 0; left = r.count } → (g : OverlayEntry)
+pub own_read : (l s : Bytes) (r : Record) (k : Path) (q : Place) → q ≡ record { at = 0; left = r.count } → (g : code.Option OverlayEntry)
     → said_of s g ≡ said (lookup (entries_at s q.left q.at) k) → (b : Bool)
     → ((x : Bytes) (e : Option Entry) (n : Option Node) → said_of x g ≡ said e → is_own n ≡ false → b ≡ is_own (over e n)) → b ≡ is_own (shown_in l s r k)
 own_read l s r k q e g h b f = f s (lookup (table_in s r) k) (lookup (tree_in l) k) (found_all s k r q e g h) (listed_not_own l k)

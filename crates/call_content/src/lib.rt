@@ -23,21 +23,17 @@ ghost use Rattle.call_answer.specs.Meets.{requested, stored, Meets};
 ghost use Rattle.call_content.specs.Judged.{append_judged, inside_judged};
 ghost use Rattle.call_content.specs.Leaves.{Leaves};
 
-use base_budget::Shrunk;
 use check_judged::Judged;
-use model::{Answer, Answered, Record, Refusal};
+use model::{Answered, Record, Refusal};
 use table_entries::Place;
-use table_insert::Inserted;
+use table_insert::InsertError;
 use table_splice::insert_parts;
 
 // Whether `len` bytes are within what the charge leaves of the limit; equal passes.
 fn check_budget(charge: u64, len: u64, limit: u64) -> bool
     ensures { result ≡ leb (charge + len) limit }
 {
-    let Shrunk::Left(budget) = base_budget::available_memory(charge, limit) else {
-        return false;
-    };
-    budget.check(len)
+    base_budget::available_memory(charge, limit).is_ok_and(|budget| budget.check(len))
 }
 
 // 11 by append's own budget: unless the file is an own one, its whole new content of `len` bytes is to be within it.
@@ -49,17 +45,16 @@ fn append_memory(table: &[u8], rec: Record, path: &[u8], len: u64, limit: u64) -
 {
     let entry = table_entries::get(table, rec, path);
     if check_content::is_own(entry) {
-        return Judged::Pass;
+        return Ok(());
     }
     let charge = table_insert::memory_usage(table, rec);
     if check_budget(charge, len, limit) {
-        return Judged::Pass;
+        return Ok(());
     }
-    Judged::Refused(Refusal::Limit)
+    Err(Refusal::Limit)
 }
 
-// append: 3 to 8, 17, and 11 by its own budget. Checks and budget are both worked out; the checks count first. A path
-// that passes is neither the root nor too long for a key.
+// append: 3 to 8, 17, and 11 by its own budget. A path that passes is neither the root nor too long for a key.
 fn append_judge(
     listing: &[u8],
     table: &[u8],
@@ -75,17 +70,10 @@ fn append_judge(
     ensures path_value { check_of result ≡ pass → (before [] path.now ≡ true)
         × (length path.now ≤ 512) }
 {
-    let form = check_lent::check_path(path, 0);
-    if check_judged::is_refused(form) {
-        return form;
-    }
+    check_lent::check_path(path, 0)?;
     let held = lent.len() as u64;
-    let checks = check_content::append_checks(listing, table, rec, path, held);
-    let memory = append_memory(table, rec, path, held + data.len() as u64, limit);
-    if check_judged::is_refused(checks) {
-        return checks;
-    }
-    memory
+    check_content::append_checks(listing, table, rec, path, held)?;
+    append_memory(table, rec, path, held + data.len() as u64, limit)
 }
 
 // Writing inside: 3, 5 and 18, where `added` bytes are written from `offset` on. A path that passes is neither the root
@@ -97,10 +85,7 @@ fn inside_judge(table: &[u8], rec: Record, path: &[u8], offset: u64, added: u64)
     ensures path_value { check_of result ≡ pass → (before [] path.now ≡ true)
         × (length path.now ≤ 512) }
 {
-    let form = check_lent::check_path(path, 0);
-    if check_judged::is_refused(form) {
-        return form;
-    }
+    check_lent::check_path(path, 0)?;
     check_content::inside_checks(table, rec, path, offset, added)
 }
 
@@ -115,7 +100,7 @@ fn append_file(
     place: Place,
     data: &[u8],
     limit: u64,
-) -> Inserted
+) -> Result<Record, InsertError>
     requires rec_value { is_table table.old rec ≡ true }
     requires path_value { (before [] path.now ≡ true) × (length path.now ≤ 512)
         × (length table.old ≤ length work.old) }
@@ -141,7 +126,7 @@ fn insert_appended(
     data: &[u8],
     lent: &[u8],
     limit: u64,
-) -> Inserted
+) -> Result<Record, InsertError>
     requires rec_value { is_table table.old rec ≡ true }
     requires path_value { (before [] path.now ≡ true) × (length path.now ≤ 512)
         × (length table.old ≤ length work.old) }
@@ -153,10 +138,8 @@ fn insert_appended(
 {
     let first = table_entries::first_entry(table, rec);
     let got = table_entries::get_from(table, first, path);
-    let entry = got.entry;
-    let place = got.place;
-    if check_content::is_own(entry) {
-        return append_file(table, work, rec, path, mtime, place, data, limit);
+    if check_content::is_own(got.entry) {
+        return append_file(table, work, rec, path, mtime, got.place, data, limit);
     }
     table_splice::insert_lent(table, work, rec, path, mtime, lent, data, limit)
 }
@@ -180,15 +163,8 @@ pub fn append_bytes(
 {
     let admitted = check_lent::admitted(listing, table, rec, work.len());
     match admitted {
-        Judged::Refused(refusal) => {
-            return Answered {
-                answer: Answer::Refused(refusal),
-                record: rec,
-            };
-        }
-        Judged::Pass => {
-            return append_bytes_admitted(listing, table, rec, work, path, mtime, data, lent, limit);
-        }
+        Err(refusal) => call_answer::refused(refusal, rec),
+        Ok(()) => append_bytes_admitted(listing, table, rec, work, path, mtime, data, lent, limit),
     }
 }
 
@@ -212,15 +188,10 @@ pub fn append_bytes_admitted(
 {
     let judged = append_judge(listing, table, rec, path, data, lent, limit);
     match judged {
-        Judged::Refused(refusal) => {
-            return Answered {
-                answer: Answer::Refused(refusal),
-                record: rec,
-            };
-        }
-        Judged::Pass => {
+        Err(refusal) => call_answer::refused(refusal, rec),
+        Ok(()) => {
             let inserted = insert_appended(table, work, rec, path, mtime, data, lent, limit);
-            return call_answer::answered(inserted, rec, data.len() as u64);
+            call_answer::answered(inserted, rec, data.len() as u64)
         }
     }
 }
@@ -244,17 +215,10 @@ pub fn write_file_at(
 {
     let admitted = check_lent::admitted(listing, table, rec, work.len());
     match admitted {
-        Judged::Refused(refusal) => {
-            return Answered {
-                answer: Answer::Refused(refusal),
-                record: rec,
-            };
-        }
-        Judged::Pass => {
-            return write_file_at_admitted(
-                listing, table, rec, work, path, mtime, offset, data, limit,
-            );
-        }
+        Err(refusal) => call_answer::refused(refusal, rec),
+        Ok(()) => write_file_at_admitted(
+            listing, table, rec, work, path, mtime, offset, data, limit,
+        ),
     }
 }
 
@@ -279,17 +243,12 @@ pub fn write_file_at_admitted(
     let added = data.len() as u64;
     let judged = inside_judge(table, rec, path, offset, added);
     match judged {
-        Judged::Refused(refusal) => {
-            return Answered {
-                answer: Answer::Refused(refusal),
-                record: rec,
-            };
-        }
-        Judged::Pass => {
+        Err(refusal) => call_answer::refused(refusal, rec),
+        Ok(()) => {
             let first = table_entries::first_entry(table, rec);
             let place = table_entries::seek(table, first, path);
             let inserted = insert_parts(table, work, rec, path, mtime, place, offset, data, limit);
-            return call_answer::answered(inserted, rec, added);
+            call_answer::answered(inserted, rec, added)
         }
     }
 }

@@ -3,7 +3,7 @@ use mathlib.Core.Path.{◌≡◌, refl, sym, ap, ap₂, ◌∙◌}
 use mathlib.Core.Bool.{Bool, true, false, cond, ◌||◌}
 use mathlib.Core.List.{List, [], ◌∷◌, ◌++◌, map}
 use mathlib.Core.Option.{Option, none, some}
-use Prim.Native.Nat.{ℕ, ◌<◌}
+use Prim.Native.Nat.{ℕ, ◌<◌, ◌≤◌}
 use native.Mathlib.Omega.{arith}
 use lib.Dec.{eqb}
 use lib.ListN.{length, take}
@@ -20,7 +20,11 @@ use Rattle.model.specs.declared.Record.{Record}
 use Rattle.model.proofs.Orders.{bot, yea, nay, test, mem}
 use Rattle.model.proofs.Maps.{Ascending, or_else, lookup_puts, lookup_each, ascending_puts, ascends_is, map_ext}
 use Rattle.model.proofs.Codec.{decoded}
-use Rattle.base_paths.specs.Dirs.{climbs, prefixes}
+use Rattle.model.specs.declared.Refusal.{Refusal}
+use Rattle.base_paths.specs.declared.prefixes.Dirs.{Dirs}
+use Rattle.base_paths.specs.Dirs.{ends_of, climbs, prefixes}
+use Rattle.std.specs.Prelude.{Result, Ok, Err, IfOk}
+use Rattle.call_mkdir.specs.Step.{Makes}
 use Rattle.check_parents.specs.Missing.{missing_ends}
 
 -- the ancestors of a path are what ends where they end, and so are the missing ones
@@ -104,7 +108,7 @@ module _ (l s : Bytes) (r : Record) (p : Path) where
   f = shown t (tree_in l)
 
   -- with the flag: the missing ancestors and the path
-  pub made_all : is_table s r ≡ true → (es : List ℕ) → es ≡ missing_ends (kind f) p → is_nothing (kind f p) ≡ true → (m : ℕ)
+  made_all : is_table s r ≡ true → (es : List ℕ) → es ≡ missing_ends (kind f) p → is_nothing (kind f p) ≡ true → (m : ℕ)
       → puts (each (directory m) (prefixes p es)) t ≡ puts (each (directory m) (makes f p)) t
   made_all h es e n m =
       let a = (ascends_is [] t (decoded s r h).ascending).1 in
@@ -113,12 +117,18 @@ module _ (l s : Bytes) (r : Record) (p : Path) where
       (λ q. mem_last q (missing (kind f) (ancestors p)) p)
       ∙ sym (ap (λ (qs : List Path). puts (each (directory m) qs) t) (makes_nothing f p n))
 
+  -- so they are what mkdir makes; j is what the ancestors' check gave
+  pub made_dirs : is_table s r ≡ true → (j : Result Dirs Refusal) → IfOk j (λ d. ends_of d ≡ missing_ends (kind f) p)
+      → IfOk j (λ d. (d.count ≤ 32) × (climbs 0 (length p) (ends_of d) ≡ true)) → IfOk j (λ d. is_nothing (kind f p) ≡ true → Makes l s r p d)
+  made_dirs h (Ok d) e b = λ n. record { count = b.0; climb = b.1; table = made_all h (ends_of d) e n }
+  made_dirs h (Err x) e b = tt
+
   -- without it: the path alone, since its parents are there
-  pub made_one : (es : List ℕ) → es ≡ length p ∷ [] → (c : Check) → c ≡ parent_checks 0 f p → c ≡ pass → is_nothing (kind f p) ≡ true → (m : ℕ)
+  pub made_one : (es : List ℕ) → es ≡ length p ∷ [] → pass ≡ parent_checks 0 f p → is_nothing (kind f p) ≡ true → (m : ℕ)
       → puts (each (directory m) (prefixes p es)) t ≡ puts (each (directory m) (makes f p)) t
-  made_one es e c d h n m =
+  made_one es e h n m =
       let a : prefixes p es ≡ p ∷ [] = ap (prefixes p) e ∙ ap (λ (q : Path). q ∷ []) (whole p) in
-      let b : makes f p ≡ p ∷ [] = makes_nothing f p n ∙ ap (λ (qs : List Path). p ∷ qs) (none_missing 0 (length p) (kind f) (ancestors p) (sym d ∙ h)) in
+      let b : makes f p ≡ p ∷ [] = makes_nothing f p n ∙ ap (λ (qs : List Path). p ∷ qs) (none_missing 0 (length p) (kind f) (ancestors p) (sym h)) in
       ap (λ (qs : List Path). puts (each (directory m) qs) t) (a ∙ sym b)
 
 -- the path's end alone climbs to it

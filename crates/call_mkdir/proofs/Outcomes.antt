@@ -16,19 +16,17 @@ use Rattle.model.specs.Outcome.{Given, shown_in, Request, room, verdict, outcome
 use Rattle.model.specs.declared.Record.{Record}
 use Rattle.model.specs.declared.Refusal.{Refusal}
 use Rattle.model.specs.declared.Answered.{Answered}
-use Rattle.model.specs.declared.Answer.TheVariants.{Accepted, Refused}
 use Rattle.base_fields.proofs.Zeros.{zeroed_all}
-use Rattle.table_insert.specs.declared.Inserted.{Inserted}
-use Rattle.table_insert.specs.Insert.{insertion, if_done}
+use Rattle.std.specs.Prelude.{Option, Some, None, Ok, Err}
+use Rattle.base_paths.specs.declared.prefixes.Dirs.{Dirs}
+use Rattle.table_insert.specs.Insert.{Inserted, insertion, if_done}
 use Rattle.check_judged.specs.Judged.{as_check}
 use Rattle.check_judged.proofs.Checked.{refusal_refuses, refused_stops}
 use Rattle.check_judged.proofs.Thens.{then_assoc}
 use Rattle.call_answer.specs.Meets.{requested, stored, last, Meets, answered_of}
 use Rattle.call_answer.proofs.Settles.{refused_meets, unchanged_meets, inserted_meets}
 use Rattle.call_answer.proofs.Admits.{given_verdict}
-use Rattle.call_mkdir.specs.Step.{mkdir_checks, after_step}
-use Rattle.call_mkdir.specs.declared.Step.{Step}
-use Rattle.call_mkdir.specs.declared.Step.TheVariants as step
+use Rattle.call_mkdir.specs.Step.{mkdir_checks, after_judging}
 
 -- mkdir behind 1 and 2, with the work buffer w
 module _ (l s : Bytes) (r : Record) (w : Bytes) (p : Path) (up ok : Bool) (mtime limit : ℕ) (g : Given l s r) (h : length s ≤ length w) where
@@ -50,30 +48,36 @@ module _ (l s : Bytes) (r : Record) (w : Bytes) (p : Path) (up ok : Bool) (mtime
   abbrev fits : Check
   fits = unless 13 (room l q (stored s r))
 
-  -- x is the step that 3 to 8 gave
-  module _ (x : Step) (e : (later : Check) → (form 0 p then mkdir_checks f p up ok later) ≡ after_step x later) where
-    decides : (y : Step) → x ≡ y → verdict l q (stored s r) ≡ (after_step y charge then fits)
-    decides y u =
-        given_verdict l q (stored s r) g h
-        ∙ sym (then_assoc (form 0 p) (mkdir_checks f p up ok charge) fits)
-        ∙ ap (λ (c : Check). c then fits) (e charge ∙ ap (λ (z : Step). after_step z charge) u)
+  -- what 3 to 8 give with the check `later` behind them
+  abbrev pub Decides : (Check → Check) → Type 0
+  Decides k = (later : Check) → (form 0 p then mkdir_checks f p up ok later) ≡ k later
 
-    pub step_refused : (y : Refusal) → x ≡ step.Refused y → Meets (outcome l q (stored s r)) (record { answer = Refused y; «record» = r }) s w
-    step_refused y u =
-        let c = as_check (told_refusal y) in
-        let v : verdict l q (stored s r) ≡ (c then last l q (stored s r)) =
-        decides (step.Refused y) u ∙ refused_stops c fits (refusal_refuses y) ∙ sym (refused_stops c (last l q (stored s r)) (refusal_refuses y)) in
-        refused_meets l q (stored s r) c v y refl
+  decides : (k : Check → Check) → Decides k → verdict l q (stored s r) ≡ (k charge then fits)
+  decides k e =
+      given_verdict l q (stored s r) g h
+      ∙ sym (then_assoc (form 0 p) (mkdir_checks f p up ok charge) fits)
+      ∙ ap (λ (c : Check). c then fits) (e charge)
 
-    -- nothing is made: the table is the one that was read, and the work buffer v is zeroed
-    pub step_there : x ≡ step.There → makes f p ≡ [] → (v : Bytes) → v ≡ take 0 w ++ replicate (length w - 0) 0
-        → Meets (outcome l q (stored s r)) (record { answer = Accepted 0; «record» = r }) s v
-    step_there u n v z = unchanged_meets l q (stored s r) g.table_is (ap made n) (decides step.There u) v (z ∙ zeroed_all w)
+  pub step_refused : (y : Refusal) → Decides (λ later. as_check (told_refusal y)) → (a : Answered) → a ≡ record { answer = Err y; «record» = r }
+      → Meets (outcome l q (stored s r)) a s w
+  step_refused y e =
+      let c = as_check (told_refusal y) in
+      let v : verdict l q (stored s r) ≡ (c then last l q (stored s r)) =
+      decides (λ later. c) e ∙ refused_stops c fits (refusal_refuses y) ∙ sym (refused_stops c (last l q (stored s r)) (refusal_refuses y)) in
+      refused_meets l q (stored s r) c v y refl
 
-    -- the directories ks were given to the insertion, which answered i and left u and v
-    pub step_made : x ≡ step.Make → (ks : List Path) → made ks ≡ made (makes f p) → (i : Inserted) → i ≡ insertion r.entry_size limit (length s) (made ks)
-        → (u v : Bytes) → u ≡ if_done i (padded (length s) (encode (made ks))) s → v ≡ if_done i (replicate (length w) 0) w
-        → (a : Answered) → a ≡ answered_of i r 0 → Meets (outcome l q (stored s r)) a u v
-    step_made z ks m i n u v b d a k =
-        inserted_meets l q (stored s r) pass (decides step.Make z) refl i (n ∙ ap (insertion r.entry_size limit (length s)) m) u v
-        (b ∙ ap (λ (y : Table). if_done i (padded (length s) (encode y)) s) m) d a k
+  -- nothing is made: the table is the one that was read, and the work buffer v is zeroed
+  pub step_there : (o : Option Dirs) → o ≡ None → Decides (after_judging (Ok o)) → makes f p ≡ [] → (v : Bytes) → v ≡ take 0 w ++ replicate (length w - 0) 0
+      → Meets (outcome l q (stored s r)) (record { answer = Ok 0; «record» = r }) s v
+  step_there o i e n v z =
+      unchanged_meets l q (stored s r) g.table_is (ap made n)
+      (decides (after_judging (Ok o)) e ∙ ap (λ (x : Option Dirs). after_judging (Ok x) charge then fits) i) v (z ∙ zeroed_all w)
+
+  -- the directories ks were given to the insertion, which answered i and left u and v
+  pub step_made : (o : Option Dirs) (ds : Dirs) → o ≡ Some ds → Decides (after_judging (Ok o)) → (ks : List Path) → made ks ≡ made (makes f p) → (i : Inserted) → i ≡ insertion r.entry_size limit (length s) (made ks)
+      → (u v : Bytes) → u ≡ if_done i (padded (length s) (encode (made ks))) s → v ≡ if_done i (replicate (length w) 0) w
+      → (a : Answered) → a ≡ answered_of i r 0 → Meets (outcome l q (stored s r)) a u v
+  step_made o ds z e ks m i n u v b d a k =
+      inserted_meets l q (stored s r) pass
+      (decides (after_judging (Ok o)) e ∙ ap (λ (x : Option Dirs). after_judging (Ok x) charge then fits) z) refl i (n ∙ ap (insertion r.entry_size limit (length s)) m) u v
+      (b ∙ ap (λ (y : Table). if_done i (padded (length s) (encode y)) s) m) d a k

@@ -1,5 +1,5 @@
 -- What mkdir does once its checks are made.
-use Rattle.std.specs.Prelude.{◌≡◌, Bool, true, ℕ, ◌≤◌, length}
+use Rattle.std.specs.Prelude.{◌≡◌, Bool, true, ℕ, ◌≤◌, length, Result, Ok, Err, Option, Some, None}
 use Rattle.model.specs.Bytes.{Bytes}
 use Rattle.model.specs.Path.{Path}
 use Rattle.model.specs.Map.{puts, each}
@@ -12,18 +12,17 @@ use Rattle.model.specs.declared.Record.{Record}
 use Rattle.base_paths.specs.declared.prefixes.Dirs.{Dirs}
 use Rattle.check_judged.specs.Judged.{as_check}
 use Rattle.base_paths.specs.Dirs.{ends_of, climbs, prefixes}
-use Rattle.call_mkdir.specs.declared.Step.{Step}
-use Rattle.call_mkdir.specs.declared.Step.TheVariants.{Make, There, Refused}
+use Rattle.model.specs.declared.Refusal.{Refusal}
 
 -- 4 to 8: what the path shows, then its parents; `later` follows where something is to be made
 abbrev pub mkdir_checks : View → Path → Bool → Bool → Check → Check
 mkdir_checks f p up ok later = mkdir_at (length p) ok (kind f p) (mkdir_parents f p up then later)
 
 -- the check that follows, `later`, is made only where something is to be made
-abbrev pub after_step : Step → Check → Check
-after_step Make later = later
-after_step There later = pass
-after_step (Refused r) later = as_check (told_refusal r)
+abbrev pub after_judging : {A : Type 0} → Result (Option A) Refusal → Check → Check
+after_judging (Ok (Some d)) later = later
+after_judging (Ok None) later = pass
+after_judging (Err r) later = as_check (told_refusal r)
 
 -- d are the directories that mkdir makes at p: put into the table s, with any mtime, they give what the definition puts
 pub record Makes (l s : Bytes) (r : Record) (p : Path) (d : Dirs) : Type 0 where

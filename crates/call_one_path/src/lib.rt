@@ -19,7 +19,7 @@ ghost use Rattle.call_one_path.specs.Called.{call_of, brings, kind_put};
 
 use check_judged::Judged;
 use check_one_path::Change;
-use model::{Answer, Answered, DELETED, OWN_FILE, Record};
+use model::{Answered, DELETED, OWN_FILE, Record};
 use table_insert::insert;
 
 // 3 to 10. A path that passes is neither the root nor too long for a key.
@@ -30,10 +30,7 @@ fn judge(change: Change, listing: &[u8], table: &[u8], rec: Record, path: &[u8])
     ensures path_value { check_of result ≡ pass → (before [] path.now ≡ true)
         × (length path.now ≤ 512) }
 {
-    let form = check_lent::check_path(path, 0);
-    if check_judged::is_refused(form) {
-        return form;
-    }
+    check_lent::check_path(path, 0)?;
     check_one_path::change_checks(change, listing, table, rec, path)
 }
 
@@ -42,15 +39,9 @@ fn kind_put(change: Change) -> u64
     ensures { result ≡ kind_put change }
 {
     match change {
-        Change::Write => {
-            return OWN_FILE;
-        }
-        Change::Unlink => {
-            return DELETED;
-        }
-        Change::Rmdir => {
-            return DELETED;
-        }
+        Change::Write => OWN_FILE,
+        Change::Unlink => DELETED,
+        Change::Rmdir => DELETED,
     }
 }
 
@@ -76,16 +67,11 @@ fn change_admitted(
 {
     let judged = judge(change, listing, table, rec, path);
     match judged {
-        Judged::Refused(refusal) => {
-            return Answered {
-                answer: Answer::Refused(refusal),
-                record: rec,
-            };
-        }
-        Judged::Pass => {
+        Err(refusal) => call_answer::refused(refusal, rec),
+        Ok(()) => {
             let kind = kind_put(change);
             let inserted = insert(table, work, rec, path, kind, mtime, 0, data, limit);
-            return call_answer::answered(inserted, rec, data.len() as u64);
+            call_answer::answered(inserted, rec, data.len() as u64)
         }
     }
 }
@@ -109,15 +95,8 @@ fn change_any(
 {
     let admitted = check_lent::admitted(listing, table, rec, work.len());
     match admitted {
-        Judged::Refused(refusal) => {
-            return Answered {
-                answer: Answer::Refused(refusal),
-                record: rec,
-            };
-        }
-        Judged::Pass => {
-            return change_admitted(change, listing, table, rec, work, path, mtime, data, limit);
-        }
+        Err(refusal) => call_answer::refused(refusal, rec),
+        Ok(()) => change_admitted(change, listing, table, rec, work, path, mtime, data, limit),
     }
 }
 

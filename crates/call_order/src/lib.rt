@@ -30,33 +30,27 @@ pub fn make(
         second.now lent.now) order.limit work.old) (stored table.old
         rec)) result table.new work.new }
 {
-    let kind = order.kind;
-    let mtime = order.mtime;
-    let limit = order.limit;
+    let Order {
+        kind,
+        parents,
+        exist_ok,
+        mtime,
+        limit,
+        offset,
+    } = order;
     match kind {
-        Kind::Write => {
-            return write_bytes(listing, table, rec, work, first, mtime, second, limit);
-        }
-        Kind::Append => {
-            return append_bytes(listing, table, rec, work, first, mtime, second, lent, limit);
-        }
+        Kind::Write => write_bytes(listing, table, rec, work, first, mtime, second, limit),
+        Kind::Append => append_bytes(listing, table, rec, work, first, mtime, second, lent, limit),
         Kind::WriteInside => {
-            let at = order.offset;
-            return write_file_at(listing, table, rec, work, first, mtime, at, second, limit);
+            write_file_at(
+                listing, table, rec, work, first, mtime, offset, second, limit,
+            )
         }
-        Kind::Mkdir => {
-            let up = order.parents;
-            let ok = order.exist_ok;
-            return mkdir(listing, table, rec, work, first, up, ok, mtime, limit);
-        }
-        Kind::Unlink => {
-            return unlink(listing, table, rec, work, first, limit);
-        }
-        Kind::Rmdir => {
-            return rmdir(listing, table, rec, work, first, limit);
-        }
-        Kind::Rename => {
-            return rename(listing, table, rec, work, first, second, limit);
-        }
+        Kind::Mkdir => mkdir(
+            listing, table, rec, work, first, parents, exist_ok, mtime, limit,
+        ),
+        Kind::Unlink => unlink(listing, table, rec, work, first, limit),
+        Kind::Rmdir => rmdir(listing, table, rec, work, first, limit),
+        Kind::Rename => rename(listing, table, rec, work, first, second, limit),
     }
 }

@@ -9,39 +9,29 @@ use borrow.Author.Tests.{leb-true}
 use Rattle.model.specs.Bytes.{Bytes, every}
 use Rattle.model.specs.Path.{Path, is_path, short}
 use Rattle.model.specs.Map.{keys, rekey}
-use Rattle.model.specs.Tree.{Table, Tree, shown, Kind, is_directory}
+use Rattle.model.specs.Tree.{Table, Tree, shown}
 use Rattle.model.specs.Listing.{tree_in}
 use Rattle.model.specs.Table.{encode, padded, charge, record_of, table_in}
 use Rattle.model.specs.Checks.{Check, pass, refuse, ◌then◌, unless, Memory, limited, charged}
-use Rattle.model.specs.Rename.{if_directory, carried, moved, keys_fit, rename_paths, rename_types, directory_memory, rename_memory, onto_itself}
+use Rattle.model.specs.Rename.{carried, moved, keys_fit, rename_paths, rename_types, directory_memory, rename_memory, onto_itself}
 use Rattle.model.specs.Calls.{rename, forms}
 use Rattle.model.specs.Answer.{told_refusal}
 use Rattle.model.specs.Outcome.{Given, Request, Outcome, table_after, room, verdict, settle, outcome}
 use Rattle.model.specs.declared.Record.{Record}
 use Rattle.model.specs.declared.Refusal.{Refusal}
-use Rattle.model.specs.declared.Answer.TheVariants.{Accepted, Refused}
+use Rattle.model.specs.declared.Answered.{Answered}
+use Rattle.std.specs.Prelude.{Ok, Err}
 use Rattle.model.proofs.Invariant.{then_pass, unless_pass}
 use Rattle.model.proofs.Passed.{elsewhere_two, types_passed}
 use Rattle.base_fields.proofs.Zeros.{zeroed_all}
 use Rattle.check_lent.proofs.Firsts.{both_paths}
-use Rattle.check_judged.specs.declared.Judged.{Judged}
-use Rattle.check_judged.specs.declared.Judged.TheVariants as judge
-use Rattle.check_judged.specs.Judged.{as_check, check_of, refuses}
-use Rattle.check_judged.proofs.Checked.{not_refused_passes, refusal_refuses, refused_stops}
+use Rattle.check_judged.specs.Judged.{as_check}
+use Rattle.check_judged.proofs.Thens.{stops}
 use Rattle.call_answer.specs.Meets.{requested, stored, Meets}
 use Rattle.call_answer.proofs.Settles.{told_so, unchanged_meets}
 use Rattle.call_answer.proofs.Admits.{given_verdict}
 use Rattle.rename_checks.specs.Early.{EarlyPassed}
-use Rattle.rename_settle.specs.declared.Settled.{Settled}
-use Rattle.rename_settle.specs.declared.Settled.TheVariants as settled
-use Rattle.rename_settle.specs.Settled.{last_checks, settled_check}
-
--- a check of directories, by whether k is one
-pub is_planned : (k m : Kind) (b : Bool) (c j : Check) → k ≡ m → b ≡ is_directory k → b ≡ true → j ≡ c → j ≡ if_directory m c
-is_planned k m b c j e f h g = g ∙ sym (ap (λ (x : Bool). cond x c pass) (sym (ap is_directory e) ∙ sym f ∙ h))
-
-pub not_planned : (k m : Kind) (b : Bool) (c : Check) → k ≡ m → b ≡ is_directory k → b ≡ false → pass ≡ if_directory m c
-not_planned k m b c e f h = sym (ap (λ (x : Bool). cond x c pass) (sym (ap is_directory e) ∙ sym f ∙ h))
+use Rattle.rename_settle.specs.Settled.{last_checks}
 
 -- the checks from 3 on, in the groups in which they are made: each path by itself; behind that both together with the plan and the walk, then 11 to 13
 by_paths : (a b c d : Check) → (a then (b then c) then d) ≡ ((a then b) then c then d)
@@ -55,9 +45,9 @@ by_moves pass (refuse n w k) c d e = refl
 by_moves pass pass (refuse n w k) d e = refl
 by_moves pass pass pass d e = refl
 
--- 3 gave the check j, and y is whether that refuses
-pub forms_known : (a b : Path) (j : Check) (y : Bool) → j ≡ forms (rename a b) → y ≡ refuses j → y ≡ false → (is_path a ≡ true) × (is_path b ≡ true)
-forms_known a b j y e i h = both_paths a b (sym e ∙ not_refused_passes j (sym i ∙ h))
+-- 3 passed
+pub forms_known : (a b : Path) → pass ≡ forms (rename a b) → (is_path a ≡ true) × (is_path b ≡ true)
+forms_known a b e = both_paths a b (sym e)
 
 -- 11, 12 and 13 passed: the keys are short, and there is room
 all_three : (c k u : Bool) → (unless 11 c then unless 12 k then unless 13 u) ≡ pass → (k ≡ true) × (u ≡ true)
@@ -99,29 +89,20 @@ module _ (l s : Bytes) (r : Record) (w : Bytes) (a b : Path) (limit : ℕ) (give
       given_verdict l q (stored s r) given long
       ∙ by_paths (forms (rename a b)) (rename_paths t g a b) (cond (onto_itself (shown t g) a b) pass moves) thirteen
 
-  -- j is what 3 and each path by itself gave
-  module _ (j : Judged) (e : check_of j ≡ first) where
-    pub paths_refused : (x : Refusal) → j ≡ judge.Refused x → Meets (outcome l q (stored s r)) (record { answer = Refused x; «record» = r }) s w
-    paths_refused x h =
-        let c = as_check (told_refusal x) in
-        let later = cond (onto_itself (shown t g) a b) pass moves then thirteen in
-        told_so l q (stored s r) x (verdict_is ∙ ap (λ (y : Check). y then later) (sym e ∙ ap check_of h) ∙ refused_stops c later (refusal_refuses x))
+  -- 3, or a path by itself, is refused with x
+  pub paths_refused : (x : Refusal) → as_check (told_refusal x) ≡ first → (o : Answered) → o ≡ record { answer = Err x; «record» = r }
+      → Meets (outcome l q (stored s r)) o s w
+  paths_refused x e =
+      told_so l q (stored s r) x (verdict_is ∙ sym (stops first (cond (onto_itself (shown t g) a b) pass moves then thirteen) x e))
 
-    pub paths_passed : j ≡ judge.Pass → first ≡ pass
-    paths_passed h = sym e ∙ ap check_of h
-
-    -- onto itself, as x tells, with the work buffer v zeroed
-    pub itself_meets : j ≡ judge.Pass → (x : Bool) → x ≡ onto_itself (shown t g) a b → x ≡ true → (v : Bytes) → v ≡ take 0 w ++ replicate (length w - 0) 0
-        → Meets (outcome l q (stored s r)) (record { answer = Accepted 0; «record» = r }) s v
-    itself_meets h x i y v z =
-        let o : onto_itself (shown t g) a b ≡ true = sym i ∙ y in
-        unchanged_meets l q (stored s r) given.table_is (ap (λ (k : Bool). cond k t (moved t g a b)) o)
-        (verdict_is ∙ ap (λ (c : Check). c then cond (onto_itself (shown t g) a b) pass moves then thirteen) (paths_passed h)
-        ∙ ap (λ (k : Bool). cond k pass moves then thirteen) o) v (z ∙ zeroed_all w)
-
-    -- elsewhere
-    pub not_itself : (x : Bool) → x ≡ onto_itself (shown t g) a b → x ≡ false → onto_itself (shown t g) a b ≡ false
-    not_itself x i y = sym i ∙ y
+  -- onto itself, with the work buffer v zeroed
+  pub itself_meets : pass ≡ first → true ≡ onto_itself (shown t g) a b → (v : Bytes) → v ≡ take 0 w ++ replicate (length w - 0) 0
+      → Meets (outcome l q (stored s r)) (record { answer = Ok 0; «record» = r }) s v
+  itself_meets h y v z =
+      let o : onto_itself (shown t g) a b ≡ true = sym y in
+      unchanged_meets l q (stored s r) given.table_is (ap (λ (k : Bool). cond k t (moved t g a b)) o)
+      (verdict_is ∙ ap (λ (c : Check). c then cond (onto_itself (shown t g) a b) pass moves then thirteen) (sym h)
+      ∙ ap (λ (k : Bool). cond k pass moves then thirteen) o) v (z ∙ zeroed_all w)
 
   -- a move to another path, once each path by itself has passed
   module _ (p : first ≡ pass) (n : onto_itself (shown t g) a b ≡ false) where
@@ -146,54 +127,49 @@ module _ (l s : Bytes) (r : Record) (w : Bytes) (a b : Path) (limit : ℕ) (give
         ∙ by_moves (rename_types t g a b) (directory_memory m t g a b) (charged m new) (keys_fit m (rekey a b (carried t g a))) thirteen
         ∙ ap (λ (y : Table). judgement then charged m new then keys_fit m (rekey a b (carried t g a)) then unless 13 (leb (length (encode y)) (length s))) new_table
 
-    -- j is what was judged
-    module _ (j : Judged) (e : check_of j ≡ judgement) where
-      pub move_refused : (x : Refusal) → j ≡ judge.Refused x → Meets (outcome l q (stored s r)) (record { answer = Refused x; «record» = r }) s w
-      move_refused x h =
-          let c = as_check (told_refusal x) in
-          told_so l q (stored s r) x (move_verdict ∙ ap (λ (y : Check). y then rest) (sym e ∙ ap check_of h) ∙ refused_stops c rest (refusal_refuses x))
+    -- it is refused with x
+    pub move_refused : (x : Refusal) → as_check (told_refusal x) ≡ judgement → (o : Answered) → o ≡ record { answer = Err x; «record» = r }
+        → Meets (outcome l q (stored s r)) o s w
+    move_refused x e = told_so l q (stored s r) x (move_verdict ∙ sym (stops judgement rest x e))
 
-      module _ (h : j ≡ judge.Pass) where
-        passed : judgement ≡ pass
-        passed = sym e ∙ ap check_of h
+    module _ (h : pass ≡ judgement) where
+      types : rename_types t g a b ≡ pass
+      types = (then_pass (rename_types t g a b) (directory_memory m t g a b) (sym h)).0
 
-        types : rename_types t g a b ≡ pass
-        types = (then_pass (rename_types t g a b) (directory_memory m t g a b) passed).0
+      -- all that stands before the plan
+      pub early : EarlyPassed t g a b
+      early = record {
+        two = elsewhere_two (shown t g) a b (length a) n (types_passed t g a b types).source_present;
+        paths = (then_pass (forms (rename a b)) (rename_paths t g a b) p).1;
+        types = types;
+      }
 
-        -- all that stands before the plan
-        pub early : EarlyPassed t g a b
-        early = record {
-          two = elsewhere_two (shown t g) a b (length a) n (types_passed t g a b types).source_present;
-          paths = (then_pass (forms (rename a b)) (rename_paths t g a b) p).1;
-          types = types;
-        }
+      decides : verdict l q (stored s r) ≡ rest
+      decides = move_verdict ∙ ap (λ (y : Check). y then rest) (sym h)
 
-        -- x is what 11, 12 and 13 settled
-        module _ (x : Settled) (f : settled_check x ≡ rest) where
-          decides : verdict l q (stored s r) ≡ settled_check x
-          decides = move_verdict ∙ ap (λ (y : Check). y then rest) passed ∙ sym f
+      -- 11, 12 or 13 refuses it with y
+      pub settled_refused : (y : Refusal) → as_check (told_refusal y) ≡ rest → (o : Answered) → o ≡ record { answer = Err y; «record» = r }
+          → Meets (outcome l q (stored s r)) o s w
+      settled_refused y e = told_so l q (stored s r) y (decides ∙ sym e)
 
-          pub settled_refused : (y : Refusal) → x ≡ settled.Refused y
-              → Meets (outcome l q (stored s r)) (record { answer = Refused y; «record» = r }) s w
-          settled_refused y k = told_so l q (stored s r) y (decides ∙ ap settled_check k)
+      -- they passed
+      module _ (f : pass ≡ rest) where
+        pub settled_fits : (every short (keys (rekey a b (carried t g a))) ≡ true) × (length (encode new) ≤ length s)
+        settled_fits =
+            let y = all_three (leb (charge r.entry_size new) limit) (every short (keys (rekey a b (carried t g a))))
+            (leb (length (encode new)) (length s)) (sym f) in
+            (y.0, leb-true (length (encode new)) (length s) y.1)
 
-          pub settled_fits : (after : Record) → x ≡ settled.Done after
-              → (every short (keys (rekey a b (carried t g a))) ≡ true) × (length (encode new) ≤ length s)
-          settled_fits after k =
-              let y = all_three (leb (charge r.entry_size new) limit) (every short (keys (rekey a b (carried t g a))))
-              (leb (length (encode new)) (length s)) (sym f ∙ ap settled_check k) in
-              (y.0, leb-true (length (encode new)) (length s) y.1)
-
-          -- the table u and the work buffer v were written
-          pub settled_done : (after : Record) → x ≡ settled.Done after → after ≡ record_of r.entry_size new → (u v : Bytes)
-              → u ≡ padded (length s) (encode new) → v ≡ replicate (length w) 0
-              → Meets (outcome l q (stored s r)) (record { answer = Accepted 0; «record» = after }) u v
-          settled_done after k i u v y z =
-              let o : outcome l q (stored s r) ≡ settle pass l q (stored s r) =
-              ap (λ (c : Check). settle c l q (stored s r)) (decides ∙ ap settled_check k) in
-              record {
-                answer = sym (ap (λ (c : Outcome). c.reply) o);
-                rec = i ∙ ap (record_of r.entry_size) (sym new_table) ∙ sym (ap (λ (c : Outcome). c.store.rec) o);
-                bytes = y ∙ ap (λ (c : Table). padded (length s) (encode c)) (sym new_table) ∙ sym (ap (λ (c : Outcome). c.store.table) o);
-                buffer = z ∙ sym (ap (λ (c : Outcome). c.work) o);
-              }
+        -- the table u and the work buffer v were written
+        pub settled_done : (after : Record) → after ≡ record_of r.entry_size new → (u v : Bytes)
+            → u ≡ padded (length s) (encode new) → v ≡ replicate (length w) 0
+            → Meets (outcome l q (stored s r)) (record { answer = Ok 0; «record» = after }) u v
+        settled_done after i u v y z =
+            let o : outcome l q (stored s r) ≡ settle pass l q (stored s r) =
+            ap (λ (c : Check). settle c l q (stored s r)) (decides ∙ sym f) in
+            record {
+              answer = sym (ap (λ (c : Outcome). c.reply) o);
+              rec = i ∙ ap (record_of r.entry_size) (sym new_table) ∙ sym (ap (λ (c : Outcome). c.store.rec) o);
+              bytes = y ∙ ap (λ (c : Table). padded (length s) (encode c)) (sym new_table) ∙ sym (ap (λ (c : Outcome). c.store.table) o);
+              buffer = z ∙ sym (ap (λ (c : Outcome). c.work) o);
+            }

@@ -18,8 +18,7 @@ ghost use Rattle.check_judged.specs.Judged.{check_of};
 ghost use Rattle.call_answer.specs.Meets.{requested, stored, Meets};
 
 use check_judged::Judged;
-use model::{Answer, Answered, Record};
-use rename_settle::Settled;
+use model::{Answered, Record};
 
 // The plan and the walk, where the source is a directory.
 fn plan_directory(
@@ -39,7 +38,7 @@ fn plan_directory(
     if view_at::is_directory(visible) {
         return rename_plan::plan_checks(listing, table, rec, source, destination, limit);
     }
-    Judged::Pass
+    Ok(())
 }
 
 // 3, and each path by itself.
@@ -55,10 +54,7 @@ fn judge_paths(
         then rename_paths (table_in table.now rec) (tree_in listing.now) source.now
         destination.now) }
 {
-    let forms = check_lent::check_paths(source, destination);
-    if check_judged::is_refused(forms) {
-        return forms;
-    }
+    check_lent::check_paths(source, destination)?;
     rename_checks::check_paths(listing, table, rec, source, destination)
 }
 
@@ -78,10 +74,7 @@ fn judge_move(
         (table_in table.now rec) (tree_in listing.now) source.now
         destination.now) }
 {
-    let types = rename_checks::check_types(listing, table, rec, source, destination);
-    if check_judged::is_refused(types) {
-        return types;
-    }
+    rename_checks::check_types(listing, table, rec, source, destination)?;
     plan_directory(listing, table, rec, source, destination, limit)
 }
 
@@ -105,40 +98,17 @@ fn rename_elsewhere(
         destination.now) limit work.old) (stored table.old rec)) result table.new
         work.new }
 {
-    let judged = judge_move(listing, table, rec, source, destination, limit);
-    match judged {
-        Judged::Refused(refusal) => {
-            return Answered {
-                answer: Answer::Refused(refusal),
-                record: rec,
-            };
-        }
-        Judged::Pass => {
-            let visible = view_at::visible_at(listing, table, rec, source);
-            let whole = view_at::is_directory(visible);
-            let settled = rename_settle::last_checks(
-                listing,
-                table,
-                rec,
-                source,
-                destination,
-                whole,
-                limit,
-            );
-            match settled {
-                Settled::Refused(refusal) => {
-                    return Answered {
-                        answer: Answer::Refused(refusal),
-                        record: rec,
-                    };
-                }
-                Settled::Done(after) => {
-                    rename_table::write_move(table, work, rec, listing, source, destination, whole);
-                    return Answered {
-                        answer: Answer::Accepted(0),
-                        record: after,
-                    };
-                }
+    if let Err(refusal) = judge_move(listing, table, rec, source, destination, limit) {
+        return call_answer::refused(refusal, rec);
+    }
+    let whole = view_at::is_directory(view_at::visible_at(listing, table, rec, source));
+    match rename_settle::last_checks(listing, table, rec, source, destination, whole, limit) {
+        Err(refusal) => call_answer::refused(refusal, rec),
+        Ok(after) => {
+            rename_table::write_move(table, work, rec, listing, source, destination, whole);
+            Answered {
+                answer: Ok(0),
+                record: after,
             }
         }
     }
@@ -161,15 +131,8 @@ pub fn rename(
 {
     let admitted = check_lent::admitted(listing, table, rec, work.len());
     match admitted {
-        Judged::Refused(refusal) => {
-            return Answered {
-                answer: Answer::Refused(refusal),
-                record: rec,
-            };
-        }
-        Judged::Pass => {
-            return rename_admitted(listing, table, rec, work, source, destination, limit);
-        }
+        Err(refusal) => call_answer::refused(refusal, rec),
+        Ok(()) => rename_admitted(listing, table, rec, work, source, destination, limit),
     }
 }
 
@@ -189,23 +152,15 @@ pub fn rename_admitted(
         destination.now) limit work.old) (stored table.old rec)) result table.new
         work.new }
 {
-    let judged = judge_paths(listing, table, rec, source, destination);
-    match judged {
-        Judged::Refused(refusal) => {
-            return Answered {
-                answer: Answer::Refused(refusal),
-                record: rec,
-            };
-        }
-        Judged::Pass => {
-            if rename_checks::is_onto_itself(listing, table, rec, source, destination) {
-                base_fields::zero_from(work, 0);
-                return Answered {
-                    answer: Answer::Accepted(0),
-                    record: rec,
-                };
-            }
-            return rename_elsewhere(listing, table, rec, work, source, destination, limit);
-        }
+    if let Err(refusal) = judge_paths(listing, table, rec, source, destination) {
+        return call_answer::refused(refusal, rec);
     }
+    if rename_checks::is_onto_itself(listing, table, rec, source, destination) {
+        base_fields::zero_from(work, 0);
+        return Answered {
+            answer: Ok(0),
+            record: rec,
+        };
+    }
+    rename_elsewhere(listing, table, rec, work, source, destination, limit)
 }

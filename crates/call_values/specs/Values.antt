@@ -1,12 +1,28 @@
 -- The call that an order and its three byte strings are, and the row of document 01's table that an answer is.
+use Rattle.std.specs.Prelude.{◌≡◌, ◌<◌, ◌⊎◌, ℕ, Result, MatchResult}
 use Rattle.model.specs.Bytes.{Bytes}
 use Rattle.model.specs.Path.{Path}
 use Rattle.model.specs.Calls as calls
 use Rattle.model.specs.Answer.{Reply, accepted, refused}
 use Rattle.call_values.specs.declared.Kind.{Kind}
 use Rattle.call_values.specs.declared.Kind.TheVariants.{Write, Append, WriteInside, Mkdir, Unlink, Rmdir, Rename}
+use Rattle.call_values.specs.declared.UnknownKind.{UnknownKind}
 use Rattle.call_values.specs.declared.Order.{Order}
 use Rattle.call_values.specs.declared.Row.{Row}
+
+-- the number of a kind
+abbrev pub number_of : Kind → ℕ
+number_of Write = 1
+number_of Mkdir = 2
+number_of Unlink = 3
+number_of Rmdir = 4
+number_of Rename = 5
+number_of Append = 6
+number_of WriteInside = 7
+
+-- r is the kind with the number n; or there is none, and n is not from 1 to 7
+abbrev pub OfNumber : ℕ → Result Kind UnknownKind → Type 0
+OfNumber n r = MatchResult r (λ kind. number_of kind ≡ n) (λ e. (e.0 ≡ n) × ((n ≡ 0) ⊎ (7 < n)))
 
 -- p is the path, a rename's source; d is the data of a write, an append and a writing inside, and a rename's
 -- destination; b is what an append is lent

@@ -3,11 +3,12 @@
 
 ghost use Rattle.std.specs.Prelude.{◌≡◌};
 ghost use Rattle.model.specs.Answer as replies;
-ghost use Rattle.call_values.specs.Values.{row_of};
+ghost use Rattle.call_values.specs.Values.{row_of, OfNumber};
 
 use model::{Answer, Refusal};
 
-#[derive(Clone, Copy)]
+// The kinds of calls.
+#[derive(Clone, Copy, Debug, PartialEq, Eq)]
 pub enum Kind {
     Write,
     Append,
@@ -18,9 +19,33 @@ pub enum Kind {
     Rename,
 }
 
+// A number that no kind of call has.
+#[derive(Clone, Copy, Debug, PartialEq, Eq)]
+pub struct UnknownKind(pub u64);
+
+// The kind with a number, as a script's steps have it.
+impl TryFrom<u64> for Kind {
+    type Error = UnknownKind;
+
+    ghost try_from_gives = { OfNumber };
+
+    fn try_from(number: u64) -> Result<Self, UnknownKind> {
+        match number {
+            1 => Ok(Kind::Write),
+            2 => Ok(Kind::Mkdir),
+            3 => Ok(Kind::Unlink),
+            4 => Ok(Kind::Rmdir),
+            5 => Ok(Kind::Rename),
+            6 => Ok(Kind::Append),
+            7 => Ok(Kind::WriteInside),
+            _ => Err(UnknownKind(number)),
+        }
+    }
+}
+
 // What a call takes beside its paths and data. The flags are mkdir's, the offset is that of writing inside, and the
 // mtime is for the calls that set one: write, append, writing inside and mkdir. The other calls take no notice of them.
-#[derive(Clone, Copy)]
+#[derive(Clone, Copy, Debug, PartialEq, Eq)]
 pub struct Order {
     pub kind: Kind,
     pub parents: bool,
@@ -31,7 +56,7 @@ pub struct Order {
 }
 
 // An answer as a row. Accepted: 0, 0 and the value; refused: number, path and length.
-#[derive(Clone, Copy)]
+#[derive(Clone, Copy, Debug, PartialEq, Eq)]
 pub struct Row {
     pub number: u64,
     pub path: u64,
@@ -73,15 +98,11 @@ pub fn told(answer: Answer) -> Row
     ensures { result ≡ row_of (replies.told answer) }
 {
     match answer {
-        Answer::Accepted(value) => {
-            return Row {
-                number: 0,
-                path: 0,
-                len: value,
-            };
-        }
-        Answer::Refused(refusal) => {
-            return told_refusal(refusal);
-        }
+        Ok(value) => Row {
+            number: 0,
+            path: 0,
+            len: value,
+        },
+        Err(refusal) => told_refusal(refusal),
     }
 }

@@ -10,7 +10,7 @@ use borrow.Author.Tests.{lt-ltb, le-ltb, eq-eqb, ne_eqb}
 use Rattle.model.specs.Bytes.{Bytes, same}
 use Rattle.model.specs.Path.{Path}
 use Rattle.model.specs.Map.{lookup}
-use Rattle.model.specs.Tree.{held, listed, Node, dir, file, link, Entry, own, reference, directory, deleted, over}
+use Rattle.model.specs.Tree.{held, listed, Node, dir, file, link, Entry, over}
 use Rattle.model.specs.Listing.{ListingRecord, records, node_of, tree_from, tree_in}
 use Rattle.model.specs.Table.{table_in, is_table}
 use Rattle.model.specs.Checks.{Check, pass, refuse, ◌then◌, unless}
@@ -20,12 +20,10 @@ use Rattle.model.specs.declared.Record.{Record}
 use Rattle.model.proofs.Orders.{bot}
 use Rattle.model.proofs.Maps.{ascends_is, lookup_low}
 use Rattle.model.proofs.Codec.{decoded}
+use Rattle.std.specs.Prelude.{Some}
 use Rattle.listing_records.specs.declared.Found.{Found}
 use Rattle.listing_records.specs.declared.Found.TheVariants as found
 use Rattle.listing_records.specs.Found.{found_of}
-use Rattle.table_entries.specs.declared.OverlayEntry.{OverlayEntry}
-use Rattle.table_entries.specs.Said.{Said, said, said_of}
-use Rattle.table_entries.specs.Said as entry
 
 -- no node of a listing has a content
 pub listed_not_own : (l : Bytes) (p : Path) → is_own (lookup (tree_in l) p) ≡ false
@@ -44,63 +42,13 @@ listed_not_own l p = go (records l)
     go [] = refl
     go (r ∷ rs) = first (same r.path p) (node_of r) (lookup (tree_from rs) p) (by_type (eqb r.type 1) (eqb r.type 2) r.mtime r.size r.path) (go rs)
 
--- how many bytes are to be lent, by what was found in the listing
-abbrev found_needs : Found → ℕ
-found_needs (found.Directory m) = 0
-found_needs (found.File m z) = z
-found_needs found.Link = 0
-found_needs found.Absent = 0
-
-found_needs_lem : (o : Option Node) → is_own o ≡ false → found_needs (found_of o) ≡ needed o
-found_needs_lem none h = refl
-found_needs_lem (some (dir m)) h = refl
-found_needs_lem (some (file m z (held c))) h = absurd (bot (cc))
-found_needs_lem (some (file m z (listed q))) h = refl
-found_needs_lem (some link) h = refl
-
--- f is what was found at p, y its case, and n what the code gives in that case
-pub by_found : (l : Bytes) (p : Path) (f y : Found) → f ≡ found_of (lookup (tree_in l) p) → f ≡ y → (n : ℕ) → n ≡ found_needs y → n ≡ needed (lookup (tree_in l) p)
-by_found l p f y h i n e = e ∙ ap found_needs (sym i ∙ h) ∙ found_needs_lem (lookup (tree_in l) p) (listed_not_own l p)
-
--- the same by what is said of an entry, n where there is none; and whether it is an own file
-abbrev said_needs : Said → ℕ → ℕ
-said_needs (entry.a_file m d) n = 0
-said_needs (entry.a_reference m z d) n = z
-said_needs (entry.a_directory m) n = 0
-said_needs entry.is_deleted n = 0
-said_needs entry.no_entry n = n
-
-said_needs_lem : (e : Option Entry) (o : Option Node) → said_needs (said e) (needed o) ≡ needed (over e o)
-said_needs_lem none o = refl
-said_needs_lem (some (own m c)) o = refl
-said_needs_lem (some (reference m z q)) o = refl
-said_needs_lem (some (directory m)) o = refl
-said_needs_lem (some deleted) o = refl
-
-abbrev said_own : Said → Bool
-said_own (entry.a_file m d) = true
-said_own (entry.a_reference m z d) = false
-said_own (entry.a_directory m) = false
-said_own entry.is_deleted = false
-said_own entry.no_entry = false
-
-said_own_lem : (e : Option Entry) (o : Option Node) → is_own o ≡ false → said_own (said e) ≡ is_own (over e o)
-said_own_lem none o h = sym h
-said_own_lem (some (own m c)) o h = refl
-said_own_lem (some (reference m z q)) o h = refl
-said_own_lem (some (directory m)) o h = refl
-said_own_lem (some deleted) o h = refl
-
--- g is what was read of p's entry, y its case, and n what the code gives in that case
-pub by_entry : (l s : Bytes) (r : Record) (p : Path) (g y : OverlayEntry) → said_of s g ≡ said (lookup (table_in s r) p) → g ≡ y
-    → (n : ℕ) → n ≡ said_needs (said_of s y) (needed (lookup (tree_in l) p)) → n ≡ needed (shown_in l s r p)
-by_entry l s r p g y h i n e =
-    let o = lookup (tree_in l) p in
-    e ∙ ap (λ (a : Said). said_needs a (needed o)) (sym (ap (said_of s) i) ∙ h) ∙ said_needs_lem (lookup (table_in s r) p) o
-
-pub own_by : (s : Bytes) (e : Option Entry) (o : Option Node) (g y : OverlayEntry) → said_of s g ≡ said e → is_own o ≡ false → g ≡ y
-    → (b : Bool) → b ≡ said_own (said_of s y) → b ≡ is_own (over e o)
-own_by s e o g y h k i b z = z ∙ ap said_own (sym (ap (said_of s) i) ∙ h) ∙ said_own_lem e o k
+-- a file that the listing has needs its size
+pub listed_size : (o : Option Node) (f : Found) (m z : ℕ) → f ≡ found.File m z → Some f ≡ found_of o → is_own o ≡ false → z ≡ needed o
+listed_size none f m z e h k = absurd (bot (cc))
+listed_size (some (dir n)) f m z e h k = absurd (bot (cc))
+listed_size (some (file n y (held c))) f m z e h k = absurd (bot (cc))
+listed_size (some (file n y (listed q))) f m z e h k = cc
+listed_size (some link) f m z e h k = absurd (bot (cc))
 
 -- n bytes are lent, and k were found to be needed of what o shows
 module _ (o : Option Node) (n k : ℕ) (e : k ≡ needed o) (b : Bytes) (z : length b ≡ n) where

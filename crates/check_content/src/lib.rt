@@ -27,20 +27,9 @@ fn needed_listed(listing: &[u8], path: &[u8]) -> u64
     requires { is_listing listing.now ≡ true }
     ensures { result ≡ needed (lookup (tree_in listing.now) path.now) }
 {
-    let found = listing_dir::find(listing, path);
-    match found {
-        Found::Directory(_) => {
-            return 0;
-        }
-        Found::File(_, bytes) => {
-            return bytes;
-        }
-        Found::Link => {
-            return 0;
-        }
-        Found::Absent => {
-            return 0;
-        }
+    match listing_dir::find(listing, path) {
+        Some(Found::File(_, size)) => size,
+        _ => 0,
     }
 }
 
@@ -50,28 +39,10 @@ fn needed_bytes(listing: &[u8], table: &[u8], rec: Record, path: &[u8]) -> u64
     requires { Given listing.now table.now rec }
     ensures { result ≡ needed (shown_in listing.now table.now rec path.now) }
 {
-    let entry = table_entries::get(table, rec, path);
-    match entry {
-        OverlayEntry::File { mtime, at, len } => {
-            return 0;
-        }
-        OverlayEntry::RealFileRef {
-            mtime,
-            size,
-            at,
-            len,
-        } => {
-            return size;
-        }
-        OverlayEntry::Directory { mtime } => {
-            return 0;
-        }
-        OverlayEntry::Deleted => {
-            return 0;
-        }
-        OverlayEntry::Absent => {
-            return needed_listed(listing, path);
-        }
+    match table_entries::get(table, rec, path) {
+        Some(OverlayEntry::RealFileRef { size, .. }) => size,
+        Some(_) => 0,
+        None => needed_listed(listing, path),
     }
 }
 
@@ -82,44 +53,19 @@ pub fn append_checks(listing: &[u8], table: &[u8], rec: Record, path: &[u8], len
     ensures { (b : Bytes) → length b ≡ lent → check_of result ≡ append_checks (shown_in listing.now
         table.now rec) path.now b }
 {
-    let write = check_one_path::change_checks(Change::Write, listing, table, rec, path);
-    if check_judged::is_refused(write) {
-        return write;
+    check_one_path::change_checks(Change::Write, listing, table, rec, path)?;
+    if lent != needed_bytes(listing, table, rec, path) {
+        return Err(Refusal::LentCount);
     }
-    let needed = needed_bytes(listing, table, rec, path);
-    if lent == needed {
-        return Judged::Pass;
-    }
-    Judged::Refused(Refusal::LentCount)
+    Ok(())
 }
 
 // Whether what is visible is an own file, where the table has this entry, or none: a listing's node is none.
-pub fn is_own(entry: OverlayEntry) -> bool
+pub fn is_own(entry: Option<OverlayEntry>) -> bool
     ensures { (s : Bytes) (e : Option Entry) (n : Option Node) → said_of s entry ≡ said e → is_own n ≡ false → result
         ≡ is_own (over e n) }
 {
-    match entry {
-        OverlayEntry::File { mtime, at, len } => {
-            return true;
-        }
-        OverlayEntry::RealFileRef {
-            mtime,
-            size,
-            at,
-            len,
-        } => {
-            return false;
-        }
-        OverlayEntry::Directory { mtime } => {
-            return false;
-        }
-        OverlayEntry::Deleted => {
-            return false;
-        }
-        OverlayEntry::Absent => {
-            return false;
-        }
-    }
+    matches!(entry, Some(OverlayEntry::File { .. }))
 }
 
 // Writing inside: 5 for anything but an own file, then 18, where `added` bytes are written from `offset` on. The entry
@@ -129,13 +75,11 @@ pub fn inside_checks(table: &[u8], rec: Record, path: &[u8], offset: u64, added:
     ensures { (l d : Bytes) → length d ≡ added → check_of result ≡ inside_checks (shown_in l table.now rec)
         path.now offset d }
 {
-    let entry = table_entries::get(table, rec, path);
-    let own = is_own(entry);
-    if !own {
-        return Judged::Refused(Refusal::NotFound(0, path.len() as u64));
+    if !is_own(table_entries::get(table, rec, path)) {
+        return Err(Refusal::NotFound(0, path.len() as u64));
     }
     if u64::MAX - added < offset {
-        return Judged::Refused(Refusal::RangeTooLarge);
+        return Err(Refusal::RangeTooLarge);
     }
-    Judged::Pass
+    Ok(())
 }

@@ -1,5 +1,5 @@
 -- 1, 2 and 3, which every call begins with: what is known once they pass.
-use mathlib.Core.Path.{◌≡◌, refl, sym, ap, ◌∙◌}
+use mathlib.Core.Path.{◌≡◌, refl, sym, ap}
 use mathlib.Core.Bool.{Bool, true, false, cond, ◌&&◌}
 use Prim.Native.Nat.{ℕ}
 use lib.Dec.{leb}
@@ -12,8 +12,7 @@ use Rattle.model.specs.Checks.{Check, pass, refuse, ◌then◌, unless, form}
 use Rattle.model.specs.declared.Record.{Record}
 use Rattle.model.proofs.Orders.{bot}
 use Rattle.model.proofs.Invariant.{then_pass, form_is}
-use Rattle.check_judged.specs.declared.Judged.{Judged}
-use Rattle.check_judged.specs.Judged.{check_of, refuses}
+use Rattle.check_judged.specs.Judged.{refuses}
 
 -- t whether the table is one, w whether the work buffer is long enough, l whether the listing is one, p whether the path is one
 abbrev pub firsts : (t w l p : Bool) → Check
@@ -26,11 +25,18 @@ all_four true true false p h = absurd (bot (cc))
 all_four true false l p h = absurd (bot (cc))
 all_four false w l p h = absurd (bot (cc))
 
--- the checks gave j, and b is whether that refuses; n bytes of work buffer
-module _ (listing table : Bytes) (r : Record) (n : ℕ) (path : Path) (j : Judged) (b : Bool)
-    (e : check_of j ≡ firsts (is_table table r) (leb (length table) n) (is_listing listing) (is_path path)) (i : b ≡ refuses (check_of j)) where
-  pub known : b ≡ false → (is_table table r ≡ true) × (leb (length table) n ≡ true) × (is_listing listing ≡ true) × (is_path path ≡ true)
-  known h = all_four (is_table table r) (leb (length table) n) (is_listing listing) (is_path path) (ap refuses (sym e) ∙ sym i ∙ h)
+-- the checks of the table with a work buffer of n bytes, and of the listing
+abbrev pub table_form : Bytes → Record → ℕ → Check
+table_form table r n = unless 1 (is_table table r && leb (length table) n)
+
+abbrev pub listing_form : Bytes → Check
+listing_form listing = unless 2 (is_listing listing)
+
+-- all passed, with a work buffer of n bytes
+module _ (listing table : Bytes) (r : Record) (n : ℕ) (path : Path) where
+  pub known : pass ≡ firsts (is_table table r) (leb (length table) n) (is_listing listing) (is_path path)
+      → (is_table table r ≡ true) × (leb (length table) n ≡ true) × (is_listing listing ≡ true) × (is_path path ≡ true)
+  known e = all_four (is_table table r) (leb (length table) n) (is_listing listing) (is_path path) (sym (ap refuses e))
 
 -- 3 passed of two paths: both are paths
 pub both_paths : (a b : Path) → (form 0 a then form 1 b) ≡ pass → (is_path a ≡ true) × (is_path b ≡ true)

@@ -17,15 +17,15 @@ pub fn admitted(listing: &[u8], table: &[u8], rec: Record, room: usize) -> Judge
         then unless 2 (is_listing listing.now)) }
 {
     if !table_open::check(table, rec) {
-        return Judged::Refused(Refusal::MalformedTable);
+        return Err(Refusal::MalformedTable);
     }
     if room < table.len() {
-        return Judged::Refused(Refusal::MalformedTable);
+        return Err(Refusal::MalformedTable);
     }
     if !listing_check::check(listing) {
-        return Judged::Refused(Refusal::MalformedListing);
+        return Err(Refusal::MalformedListing);
     }
-    Judged::Pass
+    Ok(())
 }
 
 // 3, for the path `which`.
@@ -33,19 +33,16 @@ pub fn check_path(path: &[u8], which: u64) -> Judged
     ensures { check_of result ≡ form which path.now }
 {
     if base_paths::is_path(path) {
-        return Judged::Pass;
+        return Ok(());
     }
-    Judged::Refused(Refusal::MalformedPath(which))
+    Err(Refusal::MalformedPath(which))
 }
 
 // 3 for a call with two paths, source before destination.
 pub fn check_paths(source: &[u8], destination: &[u8]) -> Judged
     ensures { check_of result ≡ (form 0 source.now then form 1 destination.now) }
 {
-    let from = check_path(source, 0);
-    if check_judged::is_refused(from) {
-        return from;
-    }
+    check_path(source, 0)?;
     check_path(destination, 1)
 }
 
@@ -54,9 +51,6 @@ pub fn ready(listing: &[u8], table: &[u8], rec: Record, room: usize, path: &[u8]
     ensures { check_of result ≡ (unless 1 (is_table table.now rec && leb (length table.now) room)
         then unless 2 (is_listing listing.now) then form 0 path.now) }
 {
-    let admitted = admitted(listing, table, rec, room);
-    if check_judged::is_refused(admitted) {
-        return admitted;
-    }
+    admitted(listing, table, rec, room)?;
     check_path(path, 0)
 }

@@ -6,40 +6,31 @@ use lib.ListN.{length}
 use Rattle.model.specs.Bytes.{Bytes}
 use Rattle.model.specs.Path.{Path}
 use Rattle.model.specs.Map.{lookup}
-use Rattle.model.specs.Tree.{Entry, own, reference, directory, deleted, Table, Tree, shown, nothing, a_directory, a_file}
-use Rattle.model.specs.Listing.{tree_in}
-use Rattle.model.specs.Table.{table_in}
+use Rattle.model.specs.Tree.{Entry, own, reference, directory, deleted, view, Table, Tree, shown, Kind, kind_of}
 use Rattle.model.specs.Checks.{Check, unlink_entry, unlink_checks, rmdir_entry}
-use Rattle.model.specs.Outcome.{shown_in}
-use Rattle.model.specs.declared.Record.{Record}
 use Rattle.table_entries.specs.declared.OverlayEntry.{OverlayEntry}
-use Rattle.table_entries.specs.Said.{Said, said, said_of}
-use Rattle.table_entries.specs.Said as entry
+use Rattle.table_entries.specs.declared.OverlayEntry.TheVariants.{File, RealFileRef, Directory, Deleted}
+use Rattle.table_entries.specs.Said.{said, said_by, no_entry}
+use Rattle.model.proofs.Orders.{bot}
 use Rattle.check_one_path.specs.Change.{target_at, visible_checks, entry_or, entry_checks, change_checks}
 use Rattle.check_one_path.specs.declared.Change.{Change}
 use Rattle.check_one_path.specs.declared.Change.TheVariants.{Unlink, Rmdir}
 
--- by what is said of an entry, for a path of n bytes; c without one
-abbrev said_or : Change → ℕ → Said → Check → Check
-said_or x n (entry.a_file m d) c = target_at x n a_file
-said_or x n (entry.a_reference m z d) c = target_at x n a_file
-said_or x n (entry.a_directory m) c = target_at x n a_directory
-said_or x n entry.is_deleted c = target_at x n nothing
-said_or x n entry.no_entry c = c
+-- an entry y was read where the table has o, v is the kind that it shows, and z what the code gives for it
+pub by_entry : (x : Change) (n : ℕ) (s : Bytes) (o : Option Entry) (y : OverlayEntry) → said_by s y ≡ said o → (v : Kind)
+    → ((e : Entry) → said_by s y ≡ said (some e) → v ≡ kind_of (view e)) → (z c : Check) → z ≡ target_at x n v → z ≡ entry_or x n o c
+by_entry x n s none (File m a k) h v w z c e = absurd (bot (cc))
+by_entry x n s none (RealFileRef m d a k) h v w z c e = absurd (bot (cc))
+by_entry x n s none (Directory m) h v w z c e = absurd (bot (cc))
+by_entry x n s none Deleted h v w z c e = absurd (bot (cc))
+by_entry x n s (some d) y h v w z c e = e ∙ ap (target_at x n) (w d h)
 
-said_entry : (x : Change) (n : ℕ) (e : Option Entry) (c : Check) → said_or x n (said e) c ≡ entry_or x n e c
-said_entry x n none c = refl
-said_entry x n (some (own m d)) c = refl
-said_entry x n (some (reference m z d)) c = refl
-said_entry x n (some (directory m)) c = refl
-said_entry x n (some deleted) c = refl
-
--- g is what was read of p's entry in the table s, y its case, and z what the code gives in that case
-pub by_entry : (x : Change) (l s : Bytes) (r : Record) (p : Path) (g y : OverlayEntry) → said_of s g ≡ said (lookup (table_in s r) p) → g ≡ y
-    → (z : Check) → z ≡ said_or x (length p) (said_of s y) (visible_checks x (shown_in l s r) p) → z ≡ entry_checks x (table_in s r) (tree_in l) p
-by_entry x l s r p g y h i z e =
-    let c = visible_checks x (shown_in l s r) p in
-    e ∙ ap (λ (a : Said). said_or x (length p) a c) (sym (ap (said_of s) i) ∙ h) ∙ said_entry x (length p) (lookup (table_in s r) p) c
+pub by_none : (x : Change) (n : ℕ) (o : Option Entry) → no_entry ≡ said o → (c : Check) → c ≡ entry_or x n o c
+by_none x n none h c = refl
+by_none x n (some (own m d)) h c = absurd (bot (cc))
+by_none x n (some (reference m z d)) h c = absurd (bot (cc))
+by_none x n (some (directory m)) h c = absurd (bot (cc))
+by_none x n (some deleted) h c = absurd (bot (cc))
 
 -- so the definition has it for each of the two
 module _ (t : Table) (l : Tree) (p : Path) (z : Check) where

@@ -15,7 +15,6 @@ ghost use Rattle.check_one_path.specs.Change.{target_at, visible_checks, entry_c
 
 use check_judged::Judged;
 use model::{Record, Refusal};
-use table_entries::OverlayEntry;
 use view_at::Visible;
 
 // The calls that change one entry.
@@ -27,79 +26,49 @@ pub enum Change {
 }
 
 // What a write gives where this is visible at its path of `len` bytes.
-fn reject_directory_target(visible: Visible, len: u64) -> Judged
+fn reject_directory_target(visible: Option<Visible>, len: u64) -> Judged
     ensures { check_of result ≡ write_at len (visible_kind visible) }
 {
     match visible {
-        Visible::Nothing => {
-            return Judged::Pass;
-        }
-        Visible::Directory => {
-            return Judged::Refused(Refusal::IsADirectory(0, len));
-        }
-        Visible::File => {
-            return Judged::Pass;
-        }
-        Visible::Link => {
-            return Judged::Refused(Refusal::LinkOrRoot(0, len));
-        }
+        None => Ok(()),
+        Some(Visible::Directory) => Err(Refusal::IsADirectory(0, len)),
+        Some(Visible::File) => Ok(()),
+        Some(Visible::Link) => Err(Refusal::LinkOrRoot(0, len)),
     }
 }
 
 // What unlink gives where this is visible at its path of `len` bytes.
-fn unlink_target(visible: Visible, len: u64) -> Judged
+fn unlink_target(visible: Option<Visible>, len: u64) -> Judged
     ensures { check_of result ≡ unlink_at len (visible_kind visible) }
 {
     match visible {
-        Visible::Nothing => {
-            return Judged::Refused(Refusal::NotFound(0, len));
-        }
-        Visible::Directory => {
-            return Judged::Refused(Refusal::IsADirectory(0, len));
-        }
-        Visible::File => {
-            return Judged::Pass;
-        }
-        Visible::Link => {
-            return Judged::Refused(Refusal::LinkOrRoot(0, len));
-        }
+        None => Err(Refusal::NotFound(0, len)),
+        Some(Visible::Directory) => Err(Refusal::IsADirectory(0, len)),
+        Some(Visible::File) => Ok(()),
+        Some(Visible::Link) => Err(Refusal::LinkOrRoot(0, len)),
     }
 }
 
 // What a call that asks for a directory gives where this is visible at its path of `len` bytes.
-pub fn check_directory(visible: Visible, len: u64) -> Judged
+pub fn check_directory(visible: Option<Visible>, len: u64) -> Judged
     ensures { check_of result ≡ directory_at len (visible_kind visible) }
 {
     match visible {
-        Visible::Nothing => {
-            return Judged::Refused(Refusal::NotFound(0, len));
-        }
-        Visible::Directory => {
-            return Judged::Pass;
-        }
-        Visible::File => {
-            return Judged::Refused(Refusal::NotADirectory(0, len));
-        }
-        Visible::Link => {
-            return Judged::Refused(Refusal::LinkOrRoot(0, len));
-        }
+        None => Err(Refusal::NotFound(0, len)),
+        Some(Visible::Directory) => Ok(()),
+        Some(Visible::File) => Err(Refusal::NotADirectory(0, len)),
+        Some(Visible::Link) => Err(Refusal::LinkOrRoot(0, len)),
     }
 }
 
 // What the call gives where this is visible at its path of `len` bytes.
-fn check_target(change: Change, visible: Visible, len: u64) -> Judged
+fn check_target(change: Change, visible: Option<Visible>, len: u64) -> Judged
     ensures { check_of result ≡ target_at change len (visible_kind visible) }
 {
     match change {
-        Change::Write => {
-            return reject_directory_target(visible, len);
-        }
-        Change::Unlink => {
-            return unlink_target(visible, len);
-        }
-        Change::Rmdir => {
-            return check_directory(visible, len);
-        }
+        Change::Write => reject_directory_target(visible, len),
+        Change::Unlink => unlink_target(visible, len),
+        Change::Rmdir => check_directory(visible, len),
     }
 }
 
@@ -110,10 +79,7 @@ fn visible_checks(change: Change, listing: &[u8], table: &[u8], rec: Record, pat
     ensures { check_of result ≡ visible_checks change (shown_in listing.now table.now rec)
         path.now }
 {
-    let parents = check_parents::ensure_parent_exists(listing, table, rec, path, 0);
-    if check_judged::is_refused(parents) {
-        return parents;
-    }
+    check_parents::ensure_parent_exists(listing, table, rec, path, 0)?;
     let visible = view_at::visible_at(listing, table, rec, path);
     check_target(change, visible, path.len() as u64)
 }
@@ -125,29 +91,9 @@ fn entry_checks(change: Change, listing: &[u8], table: &[u8], rec: Record, path:
     ensures { check_of result ≡ entry_checks change (table_in table.now rec) (tree_in listing.now)
         path.now }
 {
-    let entry = table_entries::get(table, rec, path);
-    let bytes = path.len() as u64;
-    match entry {
-        OverlayEntry::File { mtime, at, len } => {
-            return check_target(change, Visible::File, bytes);
-        }
-        OverlayEntry::RealFileRef {
-            mtime,
-            size,
-            at,
-            len,
-        } => {
-            return check_target(change, Visible::File, bytes);
-        }
-        OverlayEntry::Directory { mtime } => {
-            return check_target(change, Visible::Directory, bytes);
-        }
-        OverlayEntry::Deleted => {
-            return check_target(change, Visible::Nothing, bytes);
-        }
-        OverlayEntry::Absent => {
-            return visible_checks(change, listing, table, rec, path);
-        }
+    match table_entries::get(table, rec, path) {
+        Some(entry) => check_target(change, view_at::of_entry(entry), path.len() as u64),
+        None => visible_checks(change, listing, table, rec, path),
     }
 }
 
@@ -158,9 +104,9 @@ pub fn check_empty(listing: &[u8], table: &[u8], rec: Record, path: &[u8], which
         path.now }
 {
     if view_children::has_visible_children(listing, table, rec, path) {
-        return Judged::Refused(Refusal::NotEmpty(which, path.len() as u64));
+        return Err(Refusal::NotEmpty(which, path.len() as u64));
     }
-    Judged::Pass
+    Ok(())
 }
 
 // rmdir: root 4; its entry (file 7, deleted 5), else parents, link 4, 5 or 7; 9.
@@ -171,12 +117,9 @@ fn rmdir_checks(listing: &[u8], table: &[u8], rec: Record, path: &[u8]) -> Judge
         path.now }
 {
     if path.len() == 0 {
-        return Judged::Refused(Refusal::LinkOrRoot(0, 0));
+        return Err(Refusal::LinkOrRoot(0, 0));
     }
-    let entry = entry_checks(Change::Rmdir, listing, table, rec, path);
-    if check_judged::is_refused(entry) {
-        return entry;
-    }
+    entry_checks(Change::Rmdir, listing, table, rec, path)?;
     check_empty(listing, table, rec, path, 0)
 }
 
@@ -195,14 +138,8 @@ pub fn change_checks(
         path.now }
 {
     match change {
-        Change::Write => {
-            return visible_checks(Change::Write, listing, table, rec, path);
-        }
-        Change::Unlink => {
-            return entry_checks(Change::Unlink, listing, table, rec, path);
-        }
-        Change::Rmdir => {
-            return rmdir_checks(listing, table, rec, path);
-        }
+        Change::Write => visible_checks(change, listing, table, rec, path),
+        Change::Unlink => entry_checks(change, listing, table, rec, path),
+        Change::Rmdir => rmdir_checks(listing, table, rec, path),
     }
 }

@@ -22,7 +22,7 @@ use Rattle.base_paths.specs.Dirs.{climbs}
 use Rattle.check_parents.specs.Missing.{missing_ends}
 use Rattle.check_judged.proofs.Checked.{refused_stops, passed_on}
 use Rattle.check_parents.proofs.Checked.{passed_nothing}
-use Rattle.base_paths.proofs.Ends.{climbs_front, climbs_step}
+use Rattle.base_paths.proofs.Ends.{climbs_step}
 use Rattle.check_parents.proofs.Parents.{proper}
 
 -- a path has one ancestor less than components
@@ -83,9 +83,6 @@ module _ (g : Path → Kind) (p : Path) where
           omega arith,
           ap (λ (m : ℕ). climbs 0 (length p) (es ++ (m ∷ []))) (sym z) ∙ v.climb,
         )
-
-    pub going_climbed : climbs 0 (length p) es ≡ true
-    going_climbed = climbs_front (length p) k 0 es v.climb
 
     pub going_room : k ≡ next_slash p k → k < length p → n < 31
     going_room a h =

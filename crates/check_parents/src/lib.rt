@@ -3,7 +3,7 @@
 // repository's crates call. Both go from the top down once: all looks together read table and listing once.
 #![tactic(auto)]
 
-ghost use Rattle.std.specs.Prelude.{◌≡◌, true, not, ◌++◌, [], ◌+◌, ◌≤◌, ◌<◌, length};
+ghost use Rattle.std.specs.Prelude.{◌≡◌, true, not, ◌++◌, [], ◌+◌, ◌≤◌, ◌<◌, length, IfOk};
 ghost use Rattle.model.specs.Bytes.{cons_if};
 ghost use Rattle.model.specs.Path.{is_path, ancestors};
 ghost use Rattle.model.specs.Tree.{shown, kind, is_directory};
@@ -17,31 +17,18 @@ ghost use Rattle.check_parents.specs.Missing.{missing_ends};
 
 use base_paths::Dirs;
 use check_judged::Judged;
+use model::Refusal;
 use view_at::Visible;
 
-#[derive(Clone, Copy)]
-pub struct ToCreate {
-    pub judged: Judged,
-    pub dirs: Dirs,
-}
-
 // What a parent that shows this gives, for the path `which` of `len` bytes.
-fn check_parent(visible: Visible, which: u64, len: u64) -> Judged
+fn check_parent(visible: Option<Visible>, which: u64, len: u64) -> Judged
     ensures { check_of result ≡ parent_at which len (visible_kind visible) }
 {
     match visible {
-        Visible::Nothing => {
-            return Judged::Refused(model::Refusal::NotFound(which, len));
-        }
-        Visible::Directory => {
-            return Judged::Pass;
-        }
-        Visible::File => {
-            return Judged::Refused(model::Refusal::NotFound(which, len));
-        }
-        Visible::Link => {
-            return Judged::Refused(model::Refusal::LinkOrRoot(which, len));
-        }
+        None => Err(Refusal::NotFound(which, len)),
+        Some(Visible::Directory) => Ok(()),
+        Some(Visible::File) => Err(Refusal::NotFound(which, len)),
+        Some(Visible::Link) => Err(Refusal::LinkOrRoot(which, len)),
     }
 }
 
@@ -62,38 +49,27 @@ pub fn ensure_parent_exists(
     let mut at = base_paths::next_ancestor(path, 0);
     while at < path.len() {
         let seen = view_at::look(sight, listing, table, rec, path, at);
-        let visible = seen.visible;
-        if !view_at::is_directory(visible) {
-            return check_parent(visible, which, path.len() as u64);
-        }
+        check_parent(seen.visible, which, path.len() as u64)?;
         sight = seen.sight;
         at = base_paths::next_ancestor(path, at + 1);
     }
-    Judged::Pass
+    Ok(())
 }
 
 // What an ancestor of `end` bytes that shows this gives mkdir with parents, for a path of `len` bytes.
-fn check_ancestor(visible: Visible, end: u64, len: u64) -> Judged
+fn check_ancestor(visible: Option<Visible>, end: u64, len: u64) -> Judged
     ensures { check_of result ≡ ancestor_at end len (visible_kind visible) }
 {
     match visible {
-        Visible::Nothing => {
-            return Judged::Pass;
-        }
-        Visible::Directory => {
-            return Judged::Pass;
-        }
-        Visible::File => {
-            return Judged::Refused(model::Refusal::NotADirectory(0, end));
-        }
-        Visible::Link => {
-            return Judged::Refused(model::Refusal::LinkOrRoot(0, len));
-        }
+        None => Ok(()),
+        Some(Visible::Directory) => Ok(()),
+        Some(Visible::File) => Err(Refusal::NotADirectory(0, end)),
+        Some(Visible::Link) => Err(Refusal::LinkOrRoot(0, len)),
     }
 }
 
 // Those directories, and an ancestor that shows this and does not refuse: it is to be made unless it is a directory.
-fn with_ancestor(dirs: Dirs, visible: Visible, end: usize) -> Dirs
+fn with_ancestor(dirs: Dirs, visible: Option<Visible>, end: usize) -> Dirs
     requires { dirs.count < 32 }
     ensures result_value { ends_of result ≡ ends_of dirs ++ cons_if (not (is_directory (visible_kind visible))) end [] }
     ensures count_bound { result.count ≤ dirs.count + 1 }
@@ -111,21 +87,19 @@ pub fn overlay_dirs_to_create(
     table: &[u8],
     rec: model::Record,
     path: &[u8],
-) -> ToCreate
+) -> Result<Dirs, Refusal>
     requires listing_value { is_listing listing.now ≡ true }
     requires rec_value { is_table table.now rec ≡ true }
     requires path_value { (is_path path.now ≡ true) × (0 < length path.now) }
-    ensures judged_value { check_of result.judged ≡ ancestors_in (length path.now)
+    ensures judged_value { check_of result ≡ ancestors_in (length path.now)
         (kind (shown (table_in table.now rec) (tree_in listing.now))) (ancestors
         path.now) }
-    ensures dirs_value { check_of result.judged ≡ pass → ends_of result.dirs
-        ≡ missing_ends (kind (shown (table_in table.now rec) (tree_in listing.now)))
-        path.now }
-    ensures count_bound { (result.dirs.count ≤ 32) × (climbs 0 (length path.now) (ends_of result.dirs) ≡ true) }
+    ensures dirs_value { IfOk result (λ dirs. ends_of dirs ≡ missing_ends (kind (shown (table_in table.now rec)
+        (tree_in listing.now))) path.now) }
+    ensures count_bound { IfOk result (λ dirs. (dirs.count ≤ 32) × (climbs 0 (length path.now) (ends_of dirs) ≡ true)) }
 {
-    let none: [usize; model::DEPTH_MAX] = [0; model::DEPTH_MAX];
     let mut dirs = Dirs {
-        ends: none,
+        ends: [0; model::DEPTH_MAX],
         count: 0,
     };
     let mut sight = view_at::begin(listing, table, rec);
@@ -133,19 +107,10 @@ pub fn overlay_dirs_to_create(
     while end < path.len() {
         let seen = view_at::look(sight, listing, table, rec, path, end);
         let visible = seen.visible;
-        let judged = check_ancestor(visible, end as u64, path.len() as u64);
-        if check_judged::is_refused(judged) {
-            return ToCreate {
-                judged: judged,
-                dirs: dirs,
-            };
-        }
+        check_ancestor(visible, end as u64, path.len() as u64)?;
         dirs = with_ancestor(dirs, visible, end);
         sight = seen.sight;
         end = base_paths::next_ancestor(path, end + 1);
     }
-    ToCreate {
-        judged: Judged::Pass,
-        dirs: base_paths::with_end(dirs, path.len()),
-    }
+    Ok(base_paths::with_end(dirs, path.len()))
 }

@@ -148,8 +148,8 @@ module _ (listing table : Bytes) (rec : Record) (l : is_listing listing ≡ true
         well_formed = n.1;
       }
 
-  pub kept_read_lem : IsBytes table → SameRead listing table rec buffer
-  kept_read_lem b = kept_read_words (words_read table b rec.count 0)
+  pub kept_read : IsBytes table → SameRead listing table rec buffer
+  kept_read b = kept_read_words (words_read table b rec.count 0)
 
   -- #107: "Older kept files read with the new sums." Whatever charge the record had when the file was written, it has
   -- the table's now.
@@ -160,7 +160,7 @@ module _ (listing table : Bytes) (rec : Record) (l : is_listing listing ≡ true
         content = some (record { listing_start = 9; listing_len = length listing; «record» = rec });
         table = padded (length buffer) (encode (table_in table rec));
       }
-  older_read b c = (kept_read_lem b).answer
+  older_read b c = (kept_read b).answer
 
 -- "each accepted file is what the writer makes of its reading"
 pub record SameWritten (file buffer : Bytes) : Type 0 where
@@ -178,9 +178,9 @@ read_by_lem : (c : Check) (file buffer : Bytes) (v : ℕ) → (read_by c file bu
 read_by_lem pass file buffer v h = refl
 read_by_lem (refuse x y z) file buffer v h = cc
 
-pub kept_written_lem : (file : Bytes) → IsBytes file → (buffer : Bytes) (v : ℕ) → (read_back file buffer).reply ≡ accepted v
+pub kept_written : (file : Bytes) → IsBytes file → (buffer : Bytes) (v : ℕ) → (read_back file buffer).reply ≡ accepted v
     → SameWritten file buffer
-kept_written_lem file b buffer v h =
+kept_written file b buffer v h =
     let part : Bytes = entries_in file in
     let rec : Record = summed 40 part in
     let t : Table = table_in part rec in

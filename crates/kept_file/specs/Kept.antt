@@ -1,6 +1,7 @@
 -- Change request #101, "Kept overlay file, writer and reader": the file's bytes, and what the writer and the reader
 -- answer and leave, for every input.
 use Rattle.std.specs.Prelude.{Bool, cond, ◌&&◌, [], ◌∷◌, ◌++◌, ℕ, zero, suc, ◌+◌, leb, eqb, length, take, drop}
+use Rattle.std.specs.Prelude.{Result, Ok, Err}
 use Rattle.std.proofs.Math.Option.{Option, none, some}
 use Rattle.model.specs.Bytes.{Bytes, number_at, bytes, same}
 use Rattle.model.specs.Tree.{Table}
@@ -11,10 +12,10 @@ use Rattle.model.specs.Answer.{Reply, accepted, refused}
 use Rattle.model.specs.Output.{Written, written_by}
 use Rattle.model.specs.declared.Record.{Record}
 use Rattle.kept_file.specs.declared.Content.{Content}
-use Rattle.kept_file.specs.declared.Writing.{Writing}
-use Rattle.kept_file.specs.declared.Writing.TheVariants as writing
-use Rattle.kept_file.specs.declared.Reading.{Reading}
-use Rattle.kept_file.specs.declared.Reading.TheVariants as reading
+use Rattle.kept_file.specs.declared.WriteError.{WriteError}
+use Rattle.kept_file.specs.declared.WriteError.TheVariants as write_error
+use Rattle.kept_file.specs.declared.ReadError.{ReadError}
+use Rattle.kept_file.specs.declared.ReadError.TheVariants as read_error
 
 -- "Mark `OVT`, a 16-bit version 1": what a file of a version begins with
 abbrev pub head : ℕ → Bytes
@@ -123,23 +124,20 @@ read_back file buffer = read_by (may_read file buffer) file buffer
 
 -- What the declared answers say: "Numbers from 14 up … join demand 1's and 01's table, return 0, 0 and leave all
 -- unchanged."
-abbrev pub told_writing : Writing → Reply
-told_writing (writing.Done n) = accepted n
-told_writing writing.MalformedTable = refused 1 0 0
-told_writing writing.MalformedListing = refused 2 0 0
-told_writing writing.OtherEntrySize = refused 16 0 0
-told_writing writing.NoRoom = refused 13 0 0
+abbrev pub told_writing : Result ℕ WriteError → Reply
+told_writing (Ok n) = accepted n
+told_writing (Err write_error.MalformedTable) = refused 1 0 0
+told_writing (Err write_error.MalformedListing) = refused 2 0 0
+told_writing (Err write_error.OtherEntrySize) = refused 16 0 0
+told_writing (Err write_error.NoRoom) = refused 13 0 0
 
-abbrev pub told_reading : Reading → Reply
-told_reading (reading.Done c) = accepted 0
-told_reading reading.LongTable = refused 1 0 0
-told_reading reading.NotKept = refused 14 0 0
-told_reading reading.Damaged = refused 15 0 0
-told_reading reading.NoRoom = refused 13 0 0
+abbrev pub told_reading : Result Content ReadError → Reply
+told_reading (Ok c) = accepted 0
+told_reading (Err read_error.LongTable) = refused 1 0 0
+told_reading (Err read_error.NotKept) = refused 14 0 0
+told_reading (Err read_error.Damaged) = refused 15 0 0
+told_reading (Err read_error.NoRoom) = refused 13 0 0
 
-abbrev pub told_content : Reading → Option Content
-told_content (reading.Done c) = some c
-told_content reading.LongTable = none
-told_content reading.NotKept = none
-told_content reading.Damaged = none
-told_content reading.NoRoom = none
+abbrev pub told_content : Result Content ReadError → Option Content
+told_content (Ok c) = some c
+told_content (Err e) = none

@@ -1,5 +1,5 @@
 // What the writer and the reader of kept overlay files answer, and the numbers of the file, as declared types and
-// constants. No function stands here: what each case of an answer says is defined in specs/Kept.antt.
+// constants. No function stands here: what each answer says is defined in specs/Kept.antt.
 #![tactic(auto)]
 
 use model::Record;
@@ -12,20 +12,18 @@ pub struct Content {
     pub record: Record,
 }
 
-// What the writer answers: the file's length, or why nothing is written.
-#[derive(Clone, Copy)]
-pub enum Writing {
-    Done(u64),
+// Why nothing is written. A writing that is done answers the file's length.
+#[derive(Clone, Copy, Debug, PartialEq, Eq)]
+pub enum WriteError {
     MalformedTable,
     MalformedListing,
     OtherEntrySize,
     NoRoom,
 }
 
-// What the reader answers: what the file holds, or why nothing is read.
-#[derive(Clone, Copy)]
-pub enum Reading {
-    Done(Content),
+// Why nothing is read. A reading that is done answers what the file holds.
+#[derive(Clone, Copy, Debug, PartialEq, Eq)]
+pub enum ReadError {
     LongTable,
     NotKept,
     Damaged,

@@ -18,12 +18,12 @@ use Rattle.model.proofs.Words.{IsBytes}
 use Rattle.base_fields.specs.Write.{overwritten}
 use Rattle.base_fields.proofs.Zeros.{zeroed_behind}
 use Rattle.kept_file.specs.declared.Content.{Content}
-use Rattle.kept_file.specs.declared.Reading.{Reading}
+use Rattle.kept_file.specs.declared.ReadError.{ReadError}
 use Rattle.kept_file.specs.Kept.{listing_in, entries_in, marked, undamaged, content_of, may_read, read_by, read_back}
-use Rattle.kept_file.specs.Kept.{told_reading, told_content}
+use Rattle.kept_file.specs.Kept.{told_content}
 use Rattle.kept_file.proofs.RoundTrip.{all_passed}
-use Rattle.kept_read.specs.declared.Summed.{Summed}
-use Rattle.kept_read.specs.declared.Summed.TheVariants.{Whole, Damaged}
+use Rattle.std.specs.Prelude as core
+use Rattle.std.specs.Prelude.{Result, Ok, Err, Some, None}
 use Rattle.kept_read.specs.Heads.{record_in}
 use Rattle.kept_read.specs.Frame.{framed}
 use Rattle.kept_read.proofs.Sums.{no_record, own_sum}
@@ -74,17 +74,17 @@ module _ (s : Bytes) (len : ℕ) where
           pub no_listing : not g ≡ true → Tells s len (refused 15 0 0) none
           no_listing h = damaged (rw (sym listed ∙ not-true g h))
 
-          module _ (hg : not g ≡ false) {e : Bytes} (ee : e ≡ entries_in s) {r : Summed} (er : r ≡ record_in 40 e) where
+          module _ (hg : not g ≡ false) {e : Bytes} (ee : e ≡ entries_in s) {r : core.Option Record} (er : r ≡ record_in 40 e) where
             listing : is_listing (listing_in s) ≡ true
             listing = sym listed ∙ not-false g hg
 
             summed_in : r ≡ record_in 40 (entries_in s)
             summed_in = er ∙ ap (record_in 40) ee
 
-            pub no_entries : r ≡ Damaged → Tells s len (refused 15 0 0) none
+            pub no_entries : r ≡ None → Tells s len (refused 15 0 0) none
             no_entries h = damaged (rw (listing, no_record 40 (entries_in s) (sym h ∙ summed_in)))
 
-            module _ (rec : Record) (w : r ≡ Whole rec) (bs : IsBytes s) where
+            module _ (rec : Record) (w : r ≡ Some rec) (bs : IsBytes s) where
               whole : undamaged s ≡ true
               whole = is_undamaged s mark listing bs frame (own_sum 40 (entries_in s) rec (sym w ∙ summed_in)).0
 
@@ -125,25 +125,14 @@ content_pass : (s t : Bytes) (x : Content) (c : Check) → some x ≡ (read_by c
 content_pass s t x pass h = refl
 content_pass s t x (refuse n w k) h = absurd (bot (cc))
 
--- an answer x, with w left in the buffer, is what reading gives
-abbrev Reads : Bytes → Bytes → Reading → Bytes → Type 0
-Reads s t x w =
-    (told_reading x ≡ (read_back s t).reply) × ((told_content x ≡ (read_back s t).content) × (w ≡ (read_back s t).table))
+-- r is what the judge answered
+module _ (s t : Bytes) {r : Result Content ReadError} (content : told_content r ≡ (read_back s t).content) where
+  pub unchanged : {e : ReadError} → r ≡ Err e → t ≡ (read_back s t).table
+  unchanged d = kept_as s t (may_read s t) (sym (ap told_content d) ∙ content)
 
--- the judge's answer r, taken for the case x
-module _ (s t : Bytes) {r x : Reading} (e : r ≡ x) (h : Tells s (length t) (told_reading r) (told_content r)) where
-  reply : told_reading x ≡ (read_back s t).reply
-  reply = sym (ap told_reading e) ∙ h.0 t refl
-
-  content : told_content x ≡ (read_back s t).content
-  content = sym (ap told_content e) ∙ h.1 t refl
-
-  pub unchanged : none ≡ told_content x → Reads s t x t
-  unchanged n = (reply, (content, kept_as s t (may_read s t) (n ∙ content)))
-
-  module _ {y : Content} (d : some y ≡ told_content x) where
+  module _ {y : Content} (d : r ≡ Ok y) where
     passes : may_read s t ≡ pass
-    passes = content_pass s t y (may_read s t) (d ∙ content)
+    passes = content_pass s t y (may_read s t) (sym (ap told_content d) ∙ content)
 
     passed : (marked s ≡ true) × (undamaged s ≡ true) × (length (entries_in s) ≤ length t)
     passed =
@@ -158,7 +147,5 @@ module _ (s t : Bytes) {r x : Reading} (e : r ≡ x) (h : Tells s (length t) (to
       pub done_fits : length p ≤ length t
       done_fits = rw ep passed.2
 
-      pub done : {w : Bytes} → w ≡ padded (length t) p → Reads s t x w
-      done ew =
-          let z = ew ∙ ap (padded (length t)) ep ∙ ap (λ (c : Check). (read_by c s t).table) (sym passes) in
-          (reply, (content, z))
+      pub done : {w : Bytes} → w ≡ padded (length t) p → w ≡ (read_back s t).table
+      done ew = ew ∙ ap (padded (length t)) ep ∙ ap (λ (c : Check). (read_by c s t).table) (sym passes)

@@ -8,13 +8,13 @@ use Rattle.model.specs.Bytes.{Bytes}
 use Rattle.model.specs.declared.Record.{Record}
 use Rattle.table_open.specs.Pass.{fits}
 use Rattle.kept_file.specs.Kept.{summed, is_entries}
-use Rattle.kept_read.specs.declared.Summed.TheVariants.{Whole}
+use Rattle.std.specs.Prelude.{Some}
 use Rattle.kept_read.specs.Heads.{heads}
 
 abbrev entry : Bytes
 entry = 0 ∷ 0 ∷ 3 ∷ 0 ∷ 1 ∷ 0 ∷ 0 ∷ 0 ∷ (replicate 16 0 ++ (7 ∷ []))
 
-by_heads : heads 40 entry ≡ Whole (record { used = 25; count = 1; charge = 312; entry_size = 40 })
+by_heads : heads 40 entry ≡ Some (record { used = 25; count = 1; charge = 312; entry_size = 40 })
 unfolding fits
 by_heads = refl
 

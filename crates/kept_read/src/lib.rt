@@ -10,21 +10,15 @@ ghost use Rattle.kept_file.specs.Kept.{marked, listing_in, entries_in, read_back
 ghost use Rattle.kept_read.specs.Heads.{heads, record_in};
 ghost use Rattle.kept_read.specs.Frame.{listing_end, framed};
 
-use kept_file::{Content, Reading};
-
-// The record of entries, or that they are none.
-#[derive(Clone, Copy)]
-enum Summed {
-    Whole(model::Record),
-    Damaged,
-}
+use kept_file::{Content, ReadError};
+use model::Record;
 
 // Where the listing begins.
 const LISTING: usize = kept_file::HEAD + kept_file::LENGTH;
 
-// Count and charge of the entries by their heads, one after the other. An entry that does not end within the bytes
-// stops it.
-fn sum_entries(entries: &[u8], entry_size: u64) -> Summed
+// The record of entries by their heads, one after the other: their count and charge. An entry that does not end within
+// the bytes stops it, and there is none.
+fn sum_entries(entries: &[u8], entry_size: u64) -> Option<Record>
     requires { (entry_size ≤ 4096) × (length entries.now ≤ 16777216) }
     ensures { result ≡ heads entry_size entries.now }
 {
@@ -33,42 +27,41 @@ fn sum_entries(entries: &[u8], entry_size: u64) -> Summed
     let mut charge: u64 = 0;
     while at < entries.len() {
         if entries.len() < at + model::ENTRY_HEAD {
-            return Summed::Damaged;
+            return None;
         }
         let n = base_fields::le16(entries, at);
         let m = base_fields::le32(entries, at + 4);
         let end = at + model::ENTRY_HEAD + n as usize + m as usize;
         if entries.len() < end {
-            return Summed::Damaged;
+            return None;
         }
         charge += table_charge::entry_memory_usage(entry_size, n, m);
         count += 1;
         at = end;
     }
-    Summed::Whole(model::Record {
+    Some(Record {
         used: entries.len() as u64,
-        count: count,
-        charge: charge,
-        entry_size: entry_size,
+        count,
+        charge,
+        entry_size,
     })
 }
 
 // The record of bytes that are a table's entries and nothing else. Heads can name lengths that their entries' kinds do
 // not have, and so the record of the heads is checked.
-fn record_in(entries: &[u8], entry_size: u64) -> Summed
+fn record_in(entries: &[u8], entry_size: u64) -> Option<Record>
     requires { entry_size ≤ 4096 }
     ensures { result ≡ record_in entry_size entries.now }
 {
     if model::MAX_BUFFER < entries.len() {
-        return Summed::Damaged;
+        return None;
     }
-    let Summed::Whole(rec) = sum_entries(entries, entry_size) else {
-        return Summed::Damaged;
-    };
-    if table_open::check(entries, rec) {
-        return Summed::Whole(rec);
+    let record = sum_entries(entries, entry_size)?;
+    if table_open::check(entries, record) {
+        Some(record)
+    } else {
+        None
     }
-    Summed::Damaged
 }
 
 // Whether the file begins with mark and version.
@@ -130,34 +123,34 @@ fn entries_part(file: &[u8]) -> &[u8]
 }
 
 // What reading into a table buffer of this length answers: 1, 14, 15 and 13, in this order.
-fn judge(file: &[u8], len: usize) -> Reading
+fn judge(file: &[u8], len: usize) -> Result<Content, ReadError>
     ensures result_value { (t : Bytes) → length t ≡ len → told_reading result ≡ (read_back file.now t).reply }
     ensures result_value_2 { (t : Bytes) → length t ≡ len → told_content result ≡ (read_back file.now t).content }
 {
     if model::MAX_BUFFER < len {
-        return Reading::LongTable;
+        return Err(ReadError::LongTable);
     }
     if !is_marked(file) {
-        return Reading::NotKept;
+        return Err(ReadError::NotKept);
     }
     if !is_framed(file) {
-        return Reading::Damaged;
+        return Err(ReadError::Damaged);
     }
     let listing = listing_part(file);
     if !listing_check::check(listing) {
-        return Reading::Damaged;
+        return Err(ReadError::Damaged);
     }
     let entries = entries_part(file);
-    let Summed::Whole(rec) = record_in(entries, kept_file::ENTRY_SIZE) else {
-        return Reading::Damaged;
+    let Some(record) = record_in(entries, kept_file::ENTRY_SIZE) else {
+        return Err(ReadError::Damaged);
     };
     if len < entries.len() {
-        return Reading::NoRoom;
+        return Err(ReadError::NoRoom);
     }
-    Reading::Done(Content {
+    Ok(Content {
         listing_start: LISTING,
         listing_len: listing.len(),
-        record: rec,
+        record,
     })
 }
 
@@ -171,27 +164,12 @@ fn fill(table: &mut [u8], entries: &[u8])
 }
 
 // Reads the file into the table buffer, whose old bytes do not matter. Where it is refused nothing changes.
-pub fn read(file: &[u8], table: &mut [u8]) -> Reading
+pub fn read(file: &[u8], table: &mut [u8]) -> Result<Content, ReadError>
     ensures result_value { told_reading result ≡ (read_back file.now table.old).reply }
     ensures result_value_2 { told_content result ≡ (read_back file.now table.old).content }
     ensures table_after { table.new ≡ (read_back file.now table.old).table }
 {
-    match judge(file, table.len()) {
-        Reading::Done(content) => {
-            fill(table, entries_part(file));
-            return Reading::Done(content);
-        }
-        Reading::LongTable => {
-            return Reading::LongTable;
-        }
-        Reading::NotKept => {
-            return Reading::NotKept;
-        }
-        Reading::Damaged => {
-            return Reading::Damaged;
-        }
-        Reading::NoRoom => {
-            return Reading::NoRoom;
-        }
-    }
+    let content = judge(file, table.len())?;
+    fill(table, entries_part(file));
+    Ok(content)
 }

@@ -1,28 +1,25 @@
 -- What the writer answers and leaves: a law for each exit of its checks, and what it says that they pass.
 use mathlib.Core.Path.{◌≡◌, ap, sym, subst⁻¹, ◌∙◌}
-use mathlib.Core.List.{[], ◌∷◌}
 use mathlib.Core.Bool.{Bool, true, false}
 use Prim.Native.Nat.{ℕ, ◌+◌, ◌≤◌, ◌<◌}
 use native.Mathlib.Omega.{arith}
 use lib.Dec.{leb, eqb}
 use lib.ListN.{length, take}
-use borrow.Author.Tests.{leb-true, le-leb, lt-leb, eq-eqb, ne_eqb}
-use denote.Enum.Declared.{tag_of}
-use types.Run.{OneOf, miss}
+use borrow.Author.Tests.{leb-true, lt-leb, eq-eqb}
+use Rattle.std.specs.Prelude.{Result, Ok, Err}
 use Rattle.model.specs.Bytes.{Bytes}
 use Rattle.model.specs.Listing.{is_listing}
 use Rattle.model.specs.Table.{encode, padded, table_in, is_table}
 use Rattle.model.specs.Checks.{Check, pass, ◌then◌, unless}
-use Rattle.model.specs.Answer.{Reply, accepted, refused}
+use Rattle.model.specs.Answer.{Reply, refused}
 use Rattle.model.specs.Output.{written_by}
 use Rattle.model.specs.declared.Record.{Record}
 use Rattle.model.proofs.Codec.{decoded}
 use Rattle.model.proofs.Outputs.{writing_accepted, writing_refused}
 use Rattle.model.proofs.Listings.{checked}
 use Rattle.kept_file.specs.Kept.{kept, file_of, may_write, written, told_writing}
-use Rattle.kept_file.specs.declared.Writing.{Writing}
-use Rattle.kept_file.specs.declared.Writing.TheVariants as writing
-use Rattle.kept_file.specs.contracts.Writing.{the_type}
+use Rattle.kept_file.specs.declared.WriteError.{WriteError}
+use Rattle.kept_file.specs.declared.WriteError.TheVariants as write_error
 use Rattle.kept_file.proofs.Files.{kept_size}
 use Rattle.kept_file.proofs.RoundTrip.{all_passed}
 use Rattle.kept_write.proofs.Files.{used_is, used_bytes, used_within}
@@ -49,10 +46,6 @@ module _ (l s : Bytes) (r : Record) (o : Bytes) where
   pub no_listing : is_table s r ≡ true → is_listing l ≡ false → refused 2 0 0 ≡ (written l s r o).reply
   no_listing t g = sym (λ i. answer (t i) (g i) (eqb r.entry_size 40) room)
 
-  pub other_size : is_table s r ≡ true → is_listing l ≡ true → (r.entry_size ≡ 40 → ⊥)
-      → refused 16 0 0 ≡ (written l s r o).reply
-  other_size t g d = let e = ne_eqb r.entry_size 40 d in sym (λ i. answer (t i) (g i) (e i) room)
-
   module _ (t : is_table s r ≡ true) (g : is_listing l ≡ true) (d : r.entry_size ≡ 40) where
     size : eqb r.entry_size 40 ≡ true
     size = eq-eqb r.entry_size 40 d
@@ -66,31 +59,22 @@ module _ (l s : Bytes) (r : Record) (o : Bytes) where
         let f : room ≡ false = lt-leb (length (file_of l s r)) (length o) (omega arith) in
         sym (λ i. answer (t i) (g i) (size i) (f i))
 
-    pub has_room : 9 + length l + 4 + r.used ≤ length o → accepted (9 + length l + 4 + r.used) ≡ (written l s r o).reply
-    has_room h =
-        let n = file_length in
-        let f : room ≡ true = le-leb (length (file_of l s r)) (length o) (omega arith) in
-        ap accepted (sym n) ∙ sym (λ i. answer (t i) (g i) (size i) (f i))
-
 -- a refusal leaves the output as it was
 refused_as_was : (c : Check) (f o : Bytes) (n w k : ℕ) → refused n w k ≡ (written_by c f o).reply → o ≡ (written_by c f o).output
 refused_as_was c f o n w k h = sym (writing_refused c f o n w k (sym h)).1
 
--- the answers behind Done, the first of them, are refusals
-others_as_was : (a : Writing) → OneOf (1 ∷ 2 ∷ 3 ∷ 4 ∷ []) (tag_of the_type a)
-    → (c : Check) (f o : Bytes) → told_writing a ≡ (written_by c f o).reply → o ≡ (written_by c f o).output
-others_as_was (writing.Done n) x c f o h = absurd (miss (1 ∷ 2 ∷ 3 ∷ 4 ∷ []) 0 tt x)
-others_as_was writing.MalformedTable x c f o h = refused_as_was c f o 1 0 0 h
-others_as_was writing.MalformedListing x c f o h = refused_as_was c f o 2 0 0 h
-others_as_was writing.OtherEntrySize x c f o h = refused_as_was c f o 16 0 0 h
-others_as_was writing.NoRoom x c f o h = refused_as_was c f o 13 0 0 h
-
 -- a is what `judge` answered
-module _ (l s : Bytes) (r : Record) (o : Bytes) (a : Writing) (h : told_writing a ≡ (written l s r o).reply) where
-  pub not_done : OneOf (1 ∷ 2 ∷ 3 ∷ 4 ∷ []) (tag_of the_type a) → o ≡ (written l s r o).output
-  not_done x = others_as_was a x (may_write l s r o) (file_of l s r) o h
+module _ (l s : Bytes) (r : Record) (o : Bytes) (a : Result ℕ WriteError) (h : told_writing a ≡ (written l s r o).reply) where
+  pub not_done : (e : WriteError) → a ≡ Err e → o ≡ (written l s r o).output
+  not_done e d = as_was e (sym (ap told_writing d) ∙ h)
+    where
+      as_was : (e : WriteError) → told_writing (Err e) ≡ (written l s r o).reply → o ≡ (written l s r o).output
+      as_was write_error.MalformedTable = refused_as_was (may_write l s r o) (file_of l s r) o 1 0 0
+      as_was write_error.MalformedListing = refused_as_was (may_write l s r o) (file_of l s r) o 2 0 0
+      as_was write_error.OtherEntrySize = refused_as_was (may_write l s r o) (file_of l s r) o 16 0 0
+      as_was write_error.NoRoom = refused_as_was (may_write l s r o) (file_of l s r) o 13 0 0
 
-  module _ (n : ℕ) (d : a ≡ writing.Done n) where
+  module _ (n : ℕ) (d : a ≡ Ok n) where
     passes : may_write l s r o ≡ pass
     passes = (writing_accepted (may_write l s r o) (file_of l s r) o n (sym h ∙ ap told_writing d)).0
 

@@ -9,7 +9,7 @@ ghost use Rattle.model.specs.Table.{padded};
 ghost use Rattle.base_fields.specs.Write.{overwritten};
 ghost use Rattle.kept_file.specs.Kept.{head, kept, written, told_writing};
 
-use kept_file::Writing;
+use kept_file::WriteError;
 use model::Record;
 
 // Mark and version, from the start on; gives where they end.
@@ -49,18 +49,18 @@ fn put_file(listing: &[u8], entries: &[u8], output: &mut [u8])
 
 // What the writer answers, before anything is written: 1, 2, 16 and 13 in this order, or the file's length. Of the
 // output only the length counts.
-fn judge(listing: &[u8], table: &[u8], rec: Record, output: &[u8]) -> Writing
+fn judge(listing: &[u8], table: &[u8], rec: Record, output: &[u8]) -> Result<u64, WriteError>
     ensures { told_writing result ≡ (written listing.now table.now rec output.now
         ).reply }
 {
     if !table_open::check(table, rec) {
-        return Writing::MalformedTable;
+        return Err(WriteError::MalformedTable);
     }
     if !listing_check::check(listing) {
-        return Writing::MalformedListing;
+        return Err(WriteError::MalformedListing);
     }
     if rec.entry_size != kept_file::ENTRY_SIZE {
-        return Writing::OtherEntrySize;
+        return Err(WriteError::OtherEntrySize);
     }
     let len = kept_file::HEAD
         + kept_file::LENGTH
@@ -68,25 +68,27 @@ fn judge(listing: &[u8], table: &[u8], rec: Record, output: &[u8]) -> Writing
         + kept_file::LENGTH
         + rec.used as usize;
     if output.len() < len {
-        return Writing::NoRoom;
+        return Err(WriteError::NoRoom);
     }
-    Writing::Done(len as u64)
+    Ok(len as u64)
 }
 
 // Writes the kept file of a listing and a table, and zeros behind it, and answers the file's length; refused, it leaves
 // the output as it was. It is one pass over each of listing and table to check them and, if all passes, one to copy
 // them; then the bytes behind the file are written once.
-pub fn write(listing: &[u8], table: &[u8], rec: Record, output: &mut [u8]) -> Writing
+pub fn write(
+    listing: &[u8],
+    table: &[u8],
+    rec: Record,
+    output: &mut [u8],
+) -> Result<u64, WriteError>
     ensures result_value { told_writing result ≡ (written listing.now table.now rec output.old
         ).reply }
     ensures output_after { output.new ≡ (written listing.now table.now rec
         output.old).output }
 {
-    let judged = judge(listing, table, rec, output);
-    let Writing::Done(_) = judged else {
-        return judged;
-    };
+    let len = judge(listing, table, rec, output)?;
     let used = rec.used as usize;
     put_file(listing, &table[..used], output);
-    judged
+    Ok(len)
 }

@@ -1,6 +1,6 @@
 -- What plan and walk need of the limit: the walk is one sum, whatever its order, and none of the sums is large.
 -- Assumes a listing in form, of bytes.
-use mathlib.Core.Path.{◌≡◌, refl, ap, ap₂, sym, ◌∙◌, subst, subst⁻¹}
+use mathlib.Core.Path.{◌≡◌, refl, ap, ap₂, sym, ◌∙◌}
 use mathlib.Core.Bool.{Bool, true, false, cond}
 use mathlib.Core.Option.{none}
 use Prim.Native.Nat.{ℕ, zero, suc, ◌+◌, ◌*◌, ◌≤◌, ◌<◌}
@@ -11,11 +11,11 @@ use borrow.Author.Tests.{lt-ltb, le-ltb, ne_eqb}
 use Rattle.model.specs.Bytes.{Bytes}
 use Rattle.model.specs.Path.{Path}
 use Rattle.model.specs.Map.{lookup}
-use Rattle.model.specs.Tree.{Table, Tree, shown, Kind, a_directory, a_file, kind, is_directory}
+use Rattle.model.specs.Tree.{Table, Tree, Kind, kind, is_directory}
 use Rattle.model.specs.Listing.{is_listing, tree_in}
 use Rattle.model.specs.Table.{charge, is_table, table_in}
 use Rattle.model.specs.Checks.{Check, pass, unlimited}
-use Rattle.model.specs.Rename.{Stop, at_link, Walk, stopped, walk_from, walked, planned, if_directory, plan_and_walk, directory_memory}
+use Rattle.model.specs.Rename.{Stop, at_link, Walk, stopped, walk_from, walked, planned, if_directory, plan_and_walk}
 use Rattle.model.specs.declared.Record.{Record}
 use Rattle.model.proofs.Orders.{bot, yea, nay, test, eqb_eq}
 use Rattle.model.proofs.Codec.{decoded, bounds, charge_is}
@@ -23,10 +23,9 @@ use Rattle.model.proofs.Formed.{Listing, listing_fine}
 use Rattle.base_fields.proofs.Pieces.{bytes_of}
 use Rattle.least_walk.specs.Total.{costs, any_stops, reached}
 use Rattle.least_walk.proofs.Sums.{walk_total, walk_stops_at}
-use Rattle.least_need.specs.Need.{walk_need, listed_need, directory_need}
-use Rattle.least_rename.specs.declared.Needed.{Needed}
-use Rattle.least_rename.specs.declared.Needed.TheVariants.{Stopped, Limit}
-use Rattle.least_rename.specs.Reports.{NeededFor, AtMost}
+use Rattle.least_need.specs.Need.{walk_need, listed_need}
+use Rattle.std.specs.Prelude as code
+use Rattle.least_rename.specs.Reports.{NeededFor}
 
 -- the walk's sum n, from a start on, where nothing was added and where something was
 pub sum_none : (start n : ℕ) → n ≡ 0 → 0 ≡ cond (eqb n 0) 0 (start + n)
@@ -42,9 +41,6 @@ charge_small s r h =
     let b = bounds r.entry_size (table_in s r) d.size_most in
     omega (arith, b.1, d.fits, d.length_most, charge_is s r h)
 
-pub at_most : (n : ℕ) (w : Needed) → AtMost n w → (m : ℕ) → w ≡ Limit m → m ≤ n
-at_most n w h m e = subst (AtMost n) e h
-
 -- a listing, of bytes
 pub tree_fine : (s : Bytes) → ((i : ℕ) → get_or s i 0 < 256) → is_listing s ≡ true → Listing (tree_in s)
 tree_fine s b h = listing_fine s (bytes_of s b) h
@@ -57,10 +53,10 @@ module _ (t : Table) (l : Tree) (a : Path) (f : Listing l) (k : Kind) where
   abbrev without : Walk
   without = walk_from t l none a
 
-  abbrev WalkNeeds : Needed → Type 0
+  abbrev WalkNeeds : code.Option ℕ → Type 0
   WalkNeeds r = NeededFor (if_directory k (walked (length a) without)) (cond (is_directory k) (walk_need start without) 0) r
 
-  pub walk_stopped : (d : Bool) → d ≡ is_directory k → d ≡ true → (b : Bool) → b ≡ any_stops (reached t l a) → b ≡ true → WalkNeeds Stopped
+  pub walk_stopped : (d : Bool) → d ≡ is_directory k → d ≡ true → (b : Bool) → b ≡ any_stops (reached t l a) → b ≡ true → WalkNeeds code.None
   walk_stopped d e h b g j p =
       let w = walk_stops_at t l a f.sorted f.closed (sym g ∙ j) in
       no_pass w.0 w.1 (sym (ap (walked (length a)) w.2) ∙ sym (ap (λ (x : Bool). cond x (walked (length a) without) pass) (sym e ∙ h)) ∙ p)
@@ -69,7 +65,7 @@ module _ (t : Table) (l : Tree) (a : Path) (f : Listing l) (k : Kind) where
       no_pass at_link n g = bot (cc)
 
   pub walk_sums : (d : Bool) → d ≡ is_directory k → d ≡ true → (b : Bool) → b ≡ any_stops (reached t l a) → b ≡ false
-      → (n : ℕ) → n ≡ costs (reached t l a) → (m : ℕ) → m ≡ cond (eqb n 0) 0 (start + n) → WalkNeeds (Limit m)
+      → (n : ℕ) → n ≡ costs (reached t l a) → (m : ℕ) → m ≡ cond (eqb n 0) 0 (start + n) → WalkNeeds (code.Some m)
   walk_sums d e h b g j n i m v =
       let w = walk_total t l a f.sorted f.closed (sym g ∙ j) in
       let o = sym e ∙ h in (
@@ -88,34 +84,14 @@ module _ (t : Table) (l : Tree) (a : Path) (f : Listing l) (k : Kind) where
           positive zero u = absurd (bot (cc))
           positive (suc x) u = omega arith
 
-  pub walk_not : (d : Bool) → d ≡ is_directory k → d ≡ false → WalkNeeds (Limit 0)
-  walk_not d e h = let o = sym e ∙ h in (
-    ap (λ (x : Bool). cond x (walked (length a) without) pass) o,
-    sym (ap (λ (x : Bool). cond x (walk_need start without) 0) o),
-  )
-
 -- the plan beside it, and what a directory needs
 module _ (E : ℕ) (t : Table) (l : Tree) (a b : Path) where
   abbrev walk_check : Check
   walk_check = if_directory (kind (lookup l) a) (walked (length a) (walk_from t l none a))
 
-  abbrev PlanNeeds : Needed → Type 0
+  abbrev PlanNeeds : code.Option ℕ → Type 0
   PlanNeeds r = NeededFor (plan_and_walk unlimited t l a b) (charge E t + planned a b t + listed_need t l a) r
 
-  pub plan_stopped : (w : Needed) → NeededFor walk_check (listed_need t l a) w → w ≡ Stopped → PlanNeeds Stopped
-  plan_stopped w h e = subst (NeededFor walk_check (listed_need t l a)) e h
-
-  pub plan_sums : (w : Needed) → NeededFor walk_check (listed_need t l a) w → (n : ℕ) → w ≡ Limit n → (c p m : ℕ) → c ≡ charge E t → p ≡ planned a b t
-      → m ≡ c + p + n → PlanNeeds (Limit m)
-  plan_sums w h n e c p m i j k =
-      let x = subst (NeededFor walk_check (listed_need t l a)) e h in
-      (x.0, k ∙ ap₂ (λ (u v : ℕ). u + v + n) i j ∙ ap (λ (u : ℕ). charge E t + planned a b t + u) x.1)
-
-  abbrev DirectoryNeeds : Needed → Type 0
-  DirectoryNeeds r = NeededFor (directory_memory unlimited t l a b) (directory_need E t l a b) r
-
-  pub whole_needs : kind (shown t l) a ≡ a_directory → (r : Needed) → PlanNeeds r → DirectoryNeeds r
-  whole_needs k r h = subst⁻¹ (λ (x : Kind). NeededFor (if_directory x (plan_and_walk unlimited t l a b)) (cond (is_directory x) (charge E t + planned a b t + listed_need t l a) 0) r) k h
-
-  pub file_needs : kind (shown t l) a ≡ a_file → DirectoryNeeds (Limit 0)
-  file_needs k = subst⁻¹ (λ (x : Kind). NeededFor (if_directory x (plan_and_walk unlimited t l a b)) (cond (is_directory x) (charge E t + planned a b t + listed_need t l a) 0) (Limit 0)) k (refl, refl)
+  pub plan_sums : (n : ℕ) → (walk_check ≡ pass) × (n ≡ listed_need t l a) → (c p m : ℕ) → c ≡ charge E t → p ≡ planned a b t
+      → m ≡ c + p + n → PlanNeeds (code.Some m)
+  plan_sums n x c p m i j k = (x.0, k ∙ ap₂ (λ (u v : ℕ). u + v + n) i j ∙ ap (λ (u : ℕ). charge E t + planned a b t + u) x.1)

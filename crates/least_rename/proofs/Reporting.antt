@@ -2,11 +2,11 @@
 use mathlib.Core.Path.{◌≡◌, refl, ap, sym, ◌∙◌, subst, subst⁻¹}
 use mathlib.Core.Bool.{Bool, true, false, cond, ◌&&◌}
 use mathlib.Core.Option.{some}
-use Prim.Native.Nat.{ℕ, ◌≤◌, ◌<◌, max}
+use Prim.Native.Nat.{ℕ, ◌≤◌, max}
 use native.Mathlib.Omega.{arith}
 use lib.Dec.{leb}
 use lib.ListN.{length}
-use borrow.Author.Tests.{leb-true, leb-false, le-leb, lt-leb}
+use borrow.Author.Tests.{leb-true, leb-false, le-leb}
 use Rattle.model.specs.Bytes.{Bytes, every}
 use Rattle.model.specs.Path.{Path, short}
 use Rattle.model.specs.Map.{keys, rekey}
@@ -25,10 +25,9 @@ use Rattle.model.proofs.Words.{IsBytes}
 use Rattle.model.proofs.Invariant.{then_pass, unless_pass}
 use Rattle.model.proofs.Passed.{two_elsewhere, elsewhere_two, types_passed}
 use Rattle.model.proofs.Codec.{bounds}
-use Rattle.check_judged.specs.declared.Judged.{Judged}
-use Rattle.check_judged.specs.declared.Judged.TheVariants as judge
-use Rattle.check_judged.specs.Judged.{as_check, check_of, refuses}
-use Rattle.check_judged.proofs.Checked.{refused_stops, refusal_refuses, not_refused_passes, refused_not_passed}
+use Rattle.check_judged.specs.Judged.{as_check}
+use Rattle.check_judged.proofs.Checked.{refusal_refuses, refused_not_passed}
+use Rattle.check_judged.proofs.Thens.{stops}
 use Rattle.rename_checks.specs.Early.{EarlyPassed}
 use Rattle.rename_measure.specs.declared.Projected.{Projected}
 use Rattle.rename_measure.specs.Tallies.{Foretold}
@@ -36,22 +35,9 @@ use Rattle.call_answer.specs.Meets.{stored}
 use Rattle.least_need.specs.Need.{behind, directory_need, need, other_rules}
 use Rattle.least_need.specs.Least.{IsReport, report_checks}
 use Rattle.least_need.proofs.Leasts.{report_both, report_none}
-use Rattle.least_rename.specs.declared.Needed.{Needed}
-use Rattle.least_rename.specs.declared.Needed.TheVariants.{Stopped, Limit}
-use Rattle.least_rename.specs.declared.Report.{Report}
-use Rattle.least_rename.specs.declared.Report.TheVariants.{Both, Neither, Refused}
-use Rattle.least_rename.specs.Reports.{Reports, NeededFor, AtMost, report_of, used_after, Known}
-
--- what is reported by what was measured, exit by exit
-pub too_long : (m : ℕ) (p : Projected) (used : ℕ) → p.long ≡ true → Neither ≡ report_of m p used
-too_long m p used h = rw h refl
-
-pub too_large : (m : ℕ) (p : Projected) (used : ℕ) → p.long ≡ false → 16777216 < p.rec.used → Neither ≡ report_of m p used
-too_large m p used h g = rw (h, lt-leb p.rec.used 16777216 g) refl
-
-pub both_fit : (m : ℕ) (p : Projected) (used x y : ℕ) → p.long ≡ false → p.rec.used ≤ 16777216 → x ≡ max m p.charge → y ≡ max used p.rec.used
-    → Both x y ≡ report_of m p used
-both_fit m p used x y h g e f = rw (h, le-leb p.rec.used 16777216 g) (λ i. Both (e i) (f i))
+use Rattle.std.specs.Prelude as code
+use Rattle.least_rename.specs.declared.Least.{Least}
+use Rattle.least_rename.specs.Reports.{Reports, report_of, used_after, Known}
 
 -- a rename of the path a to b, with `used` bytes used before
 module _ (E : ℕ) (t : Table) (l : Tree) (a b : Path) (used : ℕ) where
@@ -61,7 +47,7 @@ module _ (E : ℕ) (t : Table) (l : Tree) (a b : Path) (used : ℕ) where
   abbrev fitting : Check
   fitting = keys_fit (limited 0 0) (rekey a b (carried t l a))
 
-  abbrev Knows : Report → Type 0
+  abbrev Knows : code.Option Least → Type 0
   Knows r = Known E t l a b used r
 
   -- the rules without a limit passed: so did each part of them
@@ -76,29 +62,22 @@ module _ (E : ℕ) (t : Table) (l : Tree) (a b : Path) (used : ℕ) where
       let f = (then_pass (rename_paths t l a b) _ e.0).1 in
       (then_pass (rename_types t l a b) _ (subst (λ (x : Bool). cond x pass (rename_types t l a b then rename_memory unlimited t l a b) ≡ pass) n f)).0
 
-  pub paths_refused : (j : Check) → j ≡ rename_paths t l a b → (y : Bool) → y ≡ refuses j → y ≡ true → Knows Neither
-  paths_refused j e y i h p q = refused_not_passed j (sym i ∙ h) (e ∙ passed_paths p)
-
-  pub types_refused : (x : Bool) → x ≡ onto_itself (shown t l) a b → x ≡ false → (j : Check) → j ≡ rename_types t l a b → (y : Bool) → y ≡ refuses j → y ≡ true → Knows Neither
-  types_refused x n g j e y i h p q = refused_not_passed j (sym i ∙ h) (e ∙ passed_types (sym n ∙ g) p)
+  pub paths_refused : (x : Refusal) → as_check (told_refusal x) ≡ rename_paths t l a b → Knows code.None
+  paths_refused x e p q = refused_not_passed (as_check (told_refusal x)) (refusal_refuses x) (e ∙ passed_paths p)
 
   -- all that stands before the plan has passed
-  pub both_passed : (x : Bool) → x ≡ onto_itself (shown t l) a b → x ≡ false → (j k : Check) → j ≡ rename_paths t l a b → k ≡ rename_types t l a b
-      → (y z : Bool) → y ≡ refuses j → y ≡ false → z ≡ refuses k → z ≡ false → EarlyPassed t l a b
-  both_passed x n g j k d e y z f h i m =
-      let types : rename_types t l a b ≡ pass = sym e ∙ not_refused_passes k (sym i ∙ m) in
-      record {
-        two = elsewhere_two (shown t l) a b (length a) (sym n ∙ g) (types_passed t l a b types).source_present;
-        paths = sym d ∙ not_refused_passes j (sym f ∙ h);
-        types = types;
-      }
+  pub both_passed : onto_itself (shown t l) a b ≡ false → pass ≡ rename_paths t l a b → pass ≡ rename_types t l a b → EarlyPassed t l a b
+  both_passed n d e = record {
+    two = elsewhere_two (shown t l) a b (length a) n (types_passed t l a b (sym e)).source_present;
+    paths = sym d;
+    types = sym e;
+  }
 
   -- onto itself: nothing is needed but the bytes used
-  pub itself_known : (x : Bool) → x ≡ onto_itself (shown t l) a b → x ≡ true → (j : Check) → j ≡ rename_paths t l a b → (y : Bool) → y ≡ refuses j → y ≡ false
-      → used ≡ length (encode t) → used ≤ 16777216 → Knows (Both 0 used)
-  itself_known x n g j d y f h u v =
-      let o : onto_itself (shown t l) a b ≡ true = sym n ∙ g in
-      let p : rename_paths t l a b ≡ pass = sym d ∙ not_refused_passes j (sym f ∙ h) in
+  pub itself_known : onto_itself (shown t l) a b ≡ true → pass ≡ rename_paths t l a b → used ≡ length (encode t) → used ≤ 16777216
+      → Knows (code.Some (record { limit = 0; len = used }))
+  itself_known o d u v =
+      let p : rename_paths t l a b ≡ pass = sym d in
       let w : used_after t l a b ≡ length (encode t) = ap (λ (z : Bool). length (encode (cond z t (moved t l a b)))) o in (
         rw (p, o) refl,
         omega arith,
@@ -125,12 +104,12 @@ module _ (E : ℕ) (t : Table) (l : Tree) (a b : Path) (used : ℕ) where
     need_is : directories ≡ pass → need E t l (rename a b) ≡ max (directory_need E t l a b) (charge E (moved t l a b))
     need_is d = rw (early.paths, elsewhere, early.types) (ap (λ (x : Check). max (directory_need E t l a b) (behind x (charge E (moved t l a b)))) d)
 
-    pub move_stopped : (w : Needed) → NeededFor directories (directory_need E t l a b) w → w ≡ Stopped → Knows Neither
-    move_stopped w h e p q = subst (NeededFor directories (directory_need E t l a b)) e h (then_pass directories fitting (sym other_is ∙ p)).0
+    pub move_stopped : (directories ≡ pass → ⊥) → Knows code.None
+    move_stopped h p q = h (then_pass directories fitting (sym other_is ∙ p)).0
 
-    pub move_known : E ≤ 4096 → (w : Needed) → NeededFor directories (directory_need E t l a b) w → AtMost 0x2_0000_0000_0000 w → (m : ℕ) → w ≡ Limit m
-        → (p : Projected) → Foretold E t l a b p → (r : Report) → r ≡ report_of m p used → Knows r
-    move_known s w h n m e p f r i = subst⁻¹ Knows i (by p.long refl (leb p.rec.used 16777216) refl)
+    pub move_known : E ≤ 4096 → (m : ℕ) → (directories ≡ pass) × (m ≡ directory_need E t l a b) → m ≤ 0x2_0000_0000_0000
+        → (p : Projected) → Foretold E t l a b p → (r : code.Option Least) → r ≡ report_of m p used → Knows r
+    move_known s m x v p f r i = subst⁻¹ Knows i (by p.long refl (leb p.rec.used 16777216) refl)
       where
         ks : Bool
         ks = every short (keys (rekey a b (carried t l a)))
@@ -139,7 +118,7 @@ module _ (E : ℕ) (t : Table) (l : Tree) (a b : Path) (used : ℕ) where
         all_short g = elim (test ks) [ yea u ↦ u | nay u ↦ absurd (bot (cc f.long)) ]
 
         by : (x : Bool) → p.long ≡ x → (y : Bool) → leb p.rec.used 16777216 ≡ y
-            → Knows (cond x Neither (cond y (Both (max m p.charge) (max used p.rec.used)) Neither))
+            → Knows (cond x code.None (cond y (code.Some (record { limit = max m p.charge; len = max used p.rec.used })) code.None))
         by true g y k = λ u v.
             let z = unless_pass 12 ks (then_pass directories fitting (sym other_is ∙ u)).1 in
             bot (cc f.long)
@@ -148,11 +127,9 @@ module _ (E : ℕ) (t : Table) (l : Tree) (a b : Path) (used : ℕ) where
             let o = leb-false p.rec.used 16777216 k in
             omega (arith, after_is)
         by false g true k =
-            let x = subst (NeededFor directories (directory_need E t l a b)) e h in
             let z = ap (λ (x : Record). x.used) (f.rec g) in
             let o = leb-true p.rec.used 16777216 k in
-            let c = (bounds E (moved t l a b) s).1 in
-            let v = subst (AtMost 0x2_0000_0000_0000) e n in (
+            let c = (bounds E (moved t l a b) s).1 in (
               other_is ∙ ap (λ (y : Check). y then fitting) x.0 ∙ ap (unless 12) (all_short g),
               omega (arith, after_is),
               (λ i. max (x.1 i) (f.charge i)) ∙ sym (need_is x.0),
@@ -181,44 +158,43 @@ module _ (l s : Bytes) (r : Record) (a b : Path) where
       go true false = refl
       go false y = refl
 
-  -- j is what 1 and 2 gave
-  module _ (j : Judged) (e : check_of j ≡ (unless 1 (is_table s r && leb (length s) (length s)) then unless 2 (is_listing l))) where
-    pub not_admitted : (x : Refusal) → j ≡ judge.Refused x → Reports l (stored s r) (rename a b) (Refused x)
-    not_admitted x h =
-        all_checks
-        ∙ ap (λ (c : Check). c then forms (rename a b)) (sym first_is ∙ sym e ∙ ap check_of h)
-        ∙ refused_stops (as_check (told_refusal x)) (forms (rename a b)) (refusal_refuses x)
+  -- 1 and 2
+  abbrev pub lent : Check
+  lent = unless 1 (is_table s r && leb (length s) (length s)) then unless 2 (is_listing l)
 
-    pub admitted : j ≡ judge.Pass → Given l s r
-    admitted h =
-        let c = then_pass (unless 1 (is_table s r)) (unless 2 (is_listing l)) (sym first_is ∙ sym e ∙ ap check_of h) in
-        record { listing_is = unless_pass 2 (is_listing l) c.1; table_is = unless_pass 1 (is_table s r) c.0 }
+  pub not_admitted : (x : Refusal) → as_check (told_refusal x) ≡ lent → Reports l (stored s r) (rename a b) (code.Err x)
+  not_admitted x e = all_checks ∙ sym (stops first (forms (rename a b)) x (e ∙ first_is))
 
-    -- k is what 3 gave
-    module _ (h : j ≡ judge.Pass) (k : Judged) (f : check_of k ≡ forms (rename a b)) where
-      checks_are : report_checks l (stored s r) (rename a b) ≡ check_of k
-      checks_are = all_checks ∙ ap (λ (c : Check). c then forms (rename a b)) (sym first_is ∙ sym e ∙ ap check_of h) ∙ sym f
+  pub admitted : pass ≡ lent → Given l s r
+  admitted h =
+      let c = then_pass (unless 1 (is_table s r)) (unless 2 (is_listing l)) (sym (h ∙ first_is)) in
+      record { listing_is = unless_pass 2 (is_listing l) c.1; table_is = unless_pass 1 (is_table s r) c.0 }
 
-      pub not_formed : (x : Refusal) → k ≡ judge.Refused x → Reports l (stored s r) (rename a b) (Refused x)
-      not_formed x g = checks_are ∙ ap check_of g
+  -- they passed
+  module _ (h : pass ≡ lent) where
+    checks_are : report_checks l (stored s r) (rename a b) ≡ forms (rename a b)
+    checks_are = all_checks ∙ ap (λ (c : Check). c then forms (rename a b)) (sym (h ∙ first_is))
 
-      pub reported : k ≡ judge.Pass → IsBytes s → (x : Report) → Known r.entry_size (table_in s r) (tree_in l) a b r.used x → Reports l (stored s r) (rename a b) x
-      reported g bytes x y = go x y
-        where
-          given : Given l s r
-          given = admitted h
+    pub not_formed : (x : Refusal) → as_check (told_refusal x) ≡ forms (rename a b) → Reports l (stored s r) (rename a b) (code.Err x)
+    not_formed x g = checks_are ∙ sym g
 
-          formed : forms (rename a b) ≡ pass
-          formed = sym f ∙ ap check_of g
+    pub reported : pass ≡ forms (rename a b) → IsBytes s → (x : code.Option Least) → Known r.entry_size (table_in s r) (tree_in l) a b r.used x
+        → Reports l (stored s r) (rename a b) (code.Ok x)
+    reported g bytes x y = go x y
+      where
+        given : Given l s r
+        given = admitted h
 
-          go : (x : Report) → Known r.entry_size (table_in s r) (tree_in l) a b r.used x → Reports l (stored s r) (rename a b) x
-          go (Both m n) y = (
-            checks_are ∙ ap check_of g,
-            subst⁻¹ (λ (z : ℕ × ℕ). IsReport l (stored s r) (rename a b) (some z)) (λ i. (y.2 i, y.3 i))
-                (report_both l (stored s r) (rename a b) given.listing_is given.table_is bytes formed y.0 y.1 (subst (λ (z : ℕ). z ≤ 0xFFFF_FFFF_FFFF_FFFF) y.2 y.4)),
-          )
-          go Neither y = (
-            checks_are ∙ ap check_of g,
-            report_none l (stored s r) (rename a b) given.listing_is given.table_is bytes formed y,
-          )
-          go (Refused z) y = absurd y
+        formed : forms (rename a b) ≡ pass
+        formed = sym g
+
+        go : (x : code.Option Least) → Known r.entry_size (table_in s r) (tree_in l) a b r.used x → Reports l (stored s r) (rename a b) (code.Ok x)
+        go (code.Some x) y = (
+          checks_are ∙ formed,
+          subst⁻¹ (λ (z : ℕ × ℕ). IsReport l (stored s r) (rename a b) (some z)) (λ i. (y.2 i, y.3 i))
+              (report_both l (stored s r) (rename a b) given.listing_is given.table_is bytes formed y.0 y.1 (subst (λ (z : ℕ). z ≤ 0xFFFF_FFFF_FFFF_FFFF) y.2 y.4)),
+        )
+        go code.None y = (
+          checks_are ∙ formed,
+          report_none l (stored s r) (rename a b) given.listing_is given.table_is bytes formed y,
+        )

@@ -21,38 +21,19 @@ ghost use Rattle.call_answer.specs.Meets.{stored};
 ghost use Rattle.least_need.specs.Need.{listed_need, directory_need};
 ghost use Rattle.least_rename.specs.Reports.{Reports, NeededFor, AtMost, report_of, Known};
 
-use check_judged::Judged;
 use model::{Record, Refusal};
 use rename_measure::Projected;
 
-// What plan and walk need of the limit, unless a node stops the walk.
-#[derive(Clone, Copy)]
-pub enum Needed {
-    Stopped,
-    Limit(u64),
+// The least limit and the least length of the table buffer with which a rename is let through.
+#[derive(Clone, Copy, Debug, PartialEq, Eq)]
+pub struct Least {
+    pub limit: u64,
+    pub len: u64,
 }
 
-// The least limit and the least length; neither, where no limit and no length lets the call through; or why there is no
-// answer.
-#[derive(Clone, Copy)]
-pub enum Report {
-    Both(u64, u64),
-    Neither,
-    Refused(Refusal),
-}
-
-// The larger of two numbers.
-fn larger(a: u64, b: u64) -> u64
-    ensures { result ≡ max a b }
-{
-    if a < b {
-        return b;
-    }
-    a
-}
-
-// What the walk needs, where the source is listed as a directory. Its start alone is never compared with the budget.
-fn walk_need(listing: &[u8], table: &[u8], rec: Record, source: &[u8]) -> Needed
+// What the walk needs of the limit, where the source is listed as a directory; None where a node stops it. Its start
+// alone is never compared with the budget.
+fn walk_need(listing: &[u8], table: &[u8], rec: Record, source: &[u8]) -> Option<u64>
     requires given { Given listing.now table.now rec }
     requires source_value { is_path source.now ≡ true }
     ensures needed_for { NeededFor (if_directory (kind (lookup (tree_in listing.now)) source.now)
@@ -61,21 +42,27 @@ fn walk_need(listing: &[u8], table: &[u8], rec: Record, source: &[u8]) -> Needed
         (tree_in listing.now) source.now) result }
     ensures at_most { AtMost 0x1_0000_0000_0000 result }
 {
-    if rename_plan::is_listed_directory(listing, source) {
-        let total = least_walk::reached_total(listing, table, rec, source);
-        if total.stops {
-            return Needed::Stopped;
-        }
-        if total.sum == 0 {
-            return Needed::Limit(0);
-        }
-        return Needed::Limit(2 * source.len() as u64 + 1 + total.sum);
+    if !rename_plan::is_listed_directory(listing, source) {
+        return Some(0);
     }
-    Needed::Limit(0)
+    let total = least_walk::reached_total(listing, table, rec, source);
+    if total.stops {
+        return None;
+    }
+    if total.sum == 0 {
+        return Some(0);
+    }
+    Some(2 * source.len() as u64 + 1 + total.sum)
 }
 
 // What plan and walk need beside the charge as it is.
-fn plan_need(listing: &[u8], table: &[u8], rec: Record, source: &[u8], destination: &[u8]) -> Needed
+fn plan_need(
+    listing: &[u8],
+    table: &[u8],
+    rec: Record,
+    source: &[u8],
+    destination: &[u8],
+) -> Option<u64>
     requires given { Given listing.now table.now rec }
     requires source_value { (is_path source.now ≡ true) × (is_path destination.now ≡ true) }
     ensures needed_for { NeededFor (plan_and_walk unlimited (table_in table.now rec) (tree_in listing.now)
@@ -84,16 +71,9 @@ fn plan_need(listing: &[u8], table: &[u8], rec: Record, source: &[u8], destinati
         + listed_need (table_in table.now rec) (tree_in listing.now) source.now) result }
     ensures at_most { AtMost 0x2_0000_0000_0000 result }
 {
-    let walk = walk_need(listing, table, rec, source);
-    match walk {
-        Needed::Stopped => {
-            return Needed::Stopped;
-        }
-        Needed::Limit(more) => {
-            let sum = rename_plan::planned_sum(table, rec, source, destination);
-            return Needed::Limit(rec.charge + sum + more);
-        }
-    }
+    let more = walk_need(listing, table, rec, source)?;
+    let sum = rename_plan::planned_sum(table, rec, source, destination);
+    Some(rec.charge + sum + more)
 }
 
 // The same, where a directory is moved; a file needs neither plan nor walk.
@@ -104,7 +84,7 @@ fn directory_need(
     source: &[u8],
     destination: &[u8],
     whole: bool,
-) -> Needed
+) -> Option<u64>
     requires given { Given listing.now table.now rec }
     requires source_value { (is_path source.now ≡ true) × (is_path destination.now ≡ true) }
     requires source_value_2 { kind (shown_in listing.now table.now rec) source.now ≡ cond whole a_directory a_file }
@@ -117,24 +97,22 @@ fn directory_need(
     if whole {
         return plan_need(listing, table, rec, source, destination);
     }
-    Needed::Limit(0)
+    Some(0)
 }
 
-// The two numbers, by what plan and walk need and by what the call leaves; neither, where a moved key does not fit or
-// the entries do not fit the longest table.
-fn report_of(need: u64, projected: Projected, used: u64) -> Report
+// The two numbers, by what plan and walk need and by what the call leaves; none, where a moved key does not fit or the
+// entries do not fit the longest table.
+fn report_of(need: u64, projected: Projected, used: u64) -> Option<Least>
     ensures { result ≡ report_of need projected used }
 {
-    let after = projected.rec;
-    if projected.long {
-        return Report::Neither;
+    let after = projected.rec.used;
+    if projected.long || (model::MAX_BUFFER as u64) < after {
+        return None;
     }
-    if (model::MAX_BUFFER as u64) < after.used {
-        return Report::Neither;
-    }
-    let limit = larger(need, projected.charge);
-    let len = larger(used, after.used);
-    Report::Both(limit, len)
+    Some(Least {
+        limit: need.max(projected.charge),
+        len: used.max(after),
+    })
 }
 
 // A move to another path, once all checks before its plan passed.
@@ -144,7 +122,7 @@ fn report_move<'a>(
     rec: Record,
     source: &[u8],
     destination: &[u8],
-) -> Report
+) -> Option<Least>
     requires given { Given listing.now table.now rec }
     requires source_value { (is_path source.now ≡ true) × (is_path destination.now ≡ true) }
     requires early_passed { EarlyPassed (table_in table.now rec) (tree_in listing.now) source.now destination.now }
@@ -153,23 +131,9 @@ fn report_move<'a>(
 {
     let visible = view_at::visible_at(listing, table, rec, source);
     let whole = view_at::is_directory(visible);
-    let needed = directory_need(listing, table, rec, source, destination, whole);
-    match needed {
-        Needed::Stopped => {
-            return Report::Neither;
-        }
-        Needed::Limit(need) => {
-            let projected = rename_settle::foretell(
-                listing,
-                table,
-                rec,
-                source,
-                destination,
-                whole,
-            );
-            return report_of(need, projected, rec.used);
-        }
-    }
+    let need = directory_need(listing, table, rec, source, destination, whole)?;
+    let projected = rename_settle::foretell(listing, table, rec, source, destination, whole);
+    report_of(need, projected, rec.used)
 }
 
 // Behind 1, 2 and 3: a path that is refused by itself or beside the other is refused with every limit, and a move onto
@@ -180,53 +144,41 @@ fn report_admitted<'a>(
     rec: Record,
     source: &[u8],
     destination: &[u8],
-) -> Report
+) -> Option<Least>
     requires given { Given listing.now table.now rec }
     requires source_value { (is_path source.now ≡ true) × (is_path destination.now ≡ true) }
     ensures { Known rec.entry_size (table_in table.now rec) (tree_in listing.now)
         source.now destination.now rec.used result }
 {
-    let paths = rename_checks::check_paths(listing, table, rec, source, destination);
-    if check_judged::is_refused(paths) {
-        return Report::Neither;
-    }
+    let Ok(()) = rename_checks::check_paths(listing, table, rec, source, destination) else {
+        return None;
+    };
     if rename_checks::is_onto_itself(listing, table, rec, source, destination) {
-        return Report::Both(0, rec.used);
+        return Some(Least {
+            limit: 0,
+            len: rec.used,
+        });
     }
-    let types = rename_checks::check_types(listing, table, rec, source, destination);
-    if check_judged::is_refused(types) {
-        return Report::Neither;
-    }
+    let Ok(()) = rename_checks::check_types(listing, table, rec, source, destination) else {
+        return None;
+    };
     report_move(listing, table, rec, source, destination)
 }
 
 // The least limit with which the rename is accepted when table and work buffer have 16 MiB, and the least length of the
-// table buffer with which it is accepted at the largest limit and with a work buffer as long.
+// table buffer with which it is accepted at the largest limit and with a work buffer as long; None, where no limit and
+// no length lets the call through; or why there is no answer.
 pub fn report_rename<'a>(
     listing: &'a [u8],
     table: &'a [u8],
     rec: Record,
     source: &[u8],
     destination: &[u8],
-) -> Report
+) -> Result<Option<Least>, Refusal>
     ensures { Reports listing.now (stored table.now rec) (rename source.now
         destination.now) result }
 {
-    let admitted = check_lent::admitted(listing, table, rec, table.len());
-    match admitted {
-        Judged::Refused(refusal) => {
-            return Report::Refused(refusal);
-        }
-        Judged::Pass => {
-            let forms = check_lent::check_paths(source, destination);
-            match forms {
-                Judged::Refused(refusal) => {
-                    return Report::Refused(refusal);
-                }
-                Judged::Pass => {
-                    return report_admitted(listing, table, rec, source, destination);
-                }
-            }
-        }
-    }
+    check_lent::admitted(listing, table, rec, table.len())?;
+    check_lent::check_paths(source, destination)?;
+    Ok(report_admitted(listing, table, rec, source, destination))
 }

@@ -2,47 +2,20 @@
 use mathlib.Core.Path.{◌≡◌, refl, ap, sym, ◌∙◌}
 use mathlib.Core.List.{List, ◌∷◌}
 use mathlib.Core.Bool.{Bool, true, false, ◌||◌}
-use mathlib.Core.Option.{some}
 use Prim.Native.Nat.{ℕ, ◌+◌, ◌*◌, ◌-◌, ◌<◌, ◌≤◌}
 use native.Mathlib.Omega.{arith}
-use lib.ListN.{length}
 use Rattle.model.specs.Bytes.{Bytes}
 use Rattle.model.specs.Path.{Path}
 use Rattle.model.specs.Map.{only}
-use Rattle.model.specs.Tree.{Node, dir, file, link, Table, Tree}
+use Rattle.model.specs.Tree.{Node, Table, Tree}
 use Rattle.model.specs.Listing.{record_at, record_end, node_of}
 use Rattle.model.specs.Rename.{stops, uncovered}
-use Rattle.model.proofs.Orders.{bot}
-use Rattle.listing_records.specs.Found.{found_of}
-use Rattle.listing_records.specs.declared.Found.TheVariants as found
 use Rattle.rename_uncovered.specs.Ahead.{PartBelow, to_come, ReadyAt, AheadAt}
 use Rattle.rename_uncovered.specs.declared.Cursor.{Cursor}
 use Rattle.rename_uncovered.proofs.Belows.{few_records}
 use Rattle.rename_uncovered.proofs.Passes.{none_to_come, first_to_come}
 use Rattle.least_walk.specs.Total.{cost, costs, any_stops}
 use Rattle.least_walk.specs.declared.Total.{Total}
-
--- one node, by what the listing's answer tells of it
-module _ (n : ℕ) (p : Path) (e : n ≡ length p) where
-  pub at_dir : (x : Node) (m : ℕ) → found.Directory m ≡ found_of (some x) → (3 * n + 512 ≡ cost p x) × (false ≡ stops x)
-  at_dir (dir k) m h = (omega arith, refl)
-  at_dir (file k z c) m h = absurd (bot (cc))
-  at_dir link m h = absurd (bot (cc))
-
-  pub at_file : (x : Node) (m z : ℕ) → found.File m z ≡ found_of (some x) → (2 * n + 512 ≡ cost p x) × (false ≡ stops x)
-  at_file (dir k) m z h = absurd (bot (cc))
-  at_file (file k y c) m z h = (omega arith, refl)
-  at_file link m z h = absurd (bot (cc))
-
-pub at_link_lem : (p : Path) (x : Node) → found.Link ≡ found_of (some x) → (0 ≡ cost p x) × (true ≡ stops x)
-at_link_lem p (dir k) h = absurd (bot (cc))
-at_link_lem p (file k z c) h = absurd (bot (cc))
-at_link_lem p link h = (refl, refl)
-
-pub never_absent : (x : Node) → found.Absent ≡ found_of (some x) → ⊥
-never_absent (dir k) h = bot (cc)
-never_absent (file k z c) h = bot (cc)
-never_absent link h = bot (cc)
 
 -- the sum n and the answer b, with what is to come at `here`, are those of what was to come at `from`
 pub record Sums (p s : Bytes) (a : Path) (from : Cursor) (f : List Bool) (n : ℕ) (b : Bool) (here : Cursor)

@@ -19,7 +19,7 @@ use Rattle.model.specs.Rename.{walk, depth, walk_from, uncovered}
 use Rattle.model.proofs.Orders.{bot, yea, nay, test, and_true, split, Split, mem, mem_ancestors, same_refl}
 use Rattle.model.proofs.Orders.{below_trans, below_rest, inside_both}
 use Rattle.model.proofs.Maps.{Ascending, lookup_low, lookup_only, ascending_only}
-use Rattle.model.proofs.Invariant.{Closed, kind_at, node_at, no_node, a_dir, a_file_lem, a_link_lem}
+use Rattle.model.proofs.Invariant.{Closed, kind_at, node_at, no_node, a_dir, file_node, link_node}
 use Rattle.model.proofs.Formed.{every_mem}
 use Rattle.model.proofs.Rules.{child_below, child_root, way}
 use Rattle.model.proofs.Walks.{level, child_level, below_level, depth_le, free_is, walk_stops, walk_budget}
@@ -329,8 +329,8 @@ module _ (t : Table) (l : Tree) where
         let o = child_root d p c in
         elim (node_at (lookup l p)) [
           | no_node v ↦ absurd (bot (cc (kind_at (lookup l) p none v o)))
-          | a_file_lem m a r v ↦ absurd (bot (cc (kind_at (lookup l) p (some (file m a r)) v o)))
-          | a_link_lem v ↦ absurd (bot (cc (kind_at (lookup l) p (some link) v o)))
+          | file_node m a r v ↦ absurd (bot (cc (kind_at (lookup l) p (some (file m a r)) v o)))
+          | link_node v ↦ absurd (bot (cc (kind_at (lookup l) p (some link) v o)))
           | a_dir m v ↦ (m, v)
         ]
 

@@ -4,13 +4,12 @@
 #![tactic(auto)]
 
 ghost use Rattle.std.specs.Prelude.{◌≡◌, true, ◌≤◌, length};
-ghost use Rattle.std.proofs.Math.Option.{some};
 ghost use Rattle.model.specs.Path.{Path};
 ghost use Rattle.model.specs.Tree.{Node};
 ghost use Rattle.model.specs.Listing.{tree_in, is_listing};
 ghost use Rattle.model.specs.Table.{table_in, is_table};
 ghost use Rattle.model.specs.Rename as rename;
-ghost use Rattle.listing_records.specs.Found.{found_of};
+ghost use Rattle.listing_records.specs.Found.{found_as};
 ghost use Rattle.rename_uncovered.specs.Ahead.{PartBelow, to_come};
 ghost use Rattle.least_walk.specs.Total.{cost, costs, any_stops, reached};
 
@@ -21,38 +20,26 @@ pub struct Total {
     pub stops: bool,
 }
 
-// The same of one node at a path of `len` bytes. A listed node is never absent.
+// The same of one node at a path of `len` bytes.
 fn node_total(found: listing_records::Found, len: u64) -> Total
     requires { len ≤ 512 }
     ensures sum_bound { result.sum ≤ 2048 }
-    ensures sum_value { (p : Path) (n : Node) → found ≡ found_of (some n) → len ≡ length p → (result.sum ≡ cost p n)
+    ensures sum_value { (p : Path) (n : Node) → found ≡ found_as n → len ≡ length p → (result.sum ≡ cost p n)
         × (result.stops ≡ rename.stops n) }
 {
     match found {
-        listing_records::Found::Directory(_) => {
-            return Total {
-                sum: 3 * len + model::REAL_DESCENDANT_MEMORY_USAGE,
-                stops: false,
-            };
-        }
-        listing_records::Found::File(_, _) => {
-            return Total {
-                sum: 2 * len + model::REAL_DESCENDANT_MEMORY_USAGE,
-                stops: false,
-            };
-        }
-        listing_records::Found::Link => {
-            return Total {
-                sum: 0,
-                stops: true,
-            };
-        }
-        listing_records::Found::Absent => {
-            return Total {
-                sum: 0,
-                stops: false,
-            };
-        }
+        listing_records::Found::Directory(_) => Total {
+            sum: 3 * len + model::REAL_DESCENDANT_MEMORY_USAGE,
+            stops: false,
+        },
+        listing_records::Found::File(_, _) => Total {
+            sum: 2 * len + model::REAL_DESCENDANT_MEMORY_USAGE,
+            stops: false,
+        },
+        listing_records::Found::Link => Total {
+            sum: 0,
+            stops: true,
+        },
     }
 }
 
@@ -90,10 +77,7 @@ fn total_of(
         stops = stops | one.stops;
         here = rename_uncovered::next_uncovered(flags, part, table, here, source);
     }
-    Total {
-        sum: sum,
-        stops: stops,
-    }
+    Total { sum, stops }
 }
 
 // The same of all that the walk comes to below `source`. A listing has at most 16,777,216 records, and each adds at
@@ -109,8 +93,6 @@ pub fn reached_total(listing: &[u8], table: &[u8], rec: model::Record, source: &
 {
     let mut flags: [bool; 513] = [false; 513];
     let listed = listing_records::below(listing, source);
-    let start = listed.from;
-    let end = listed.to;
-    let part = &listing[start..end];
+    let part = &listing[listed.from..listed.to];
     total_of(&mut flags, part, listed.count, table, rec, source)
 }

@@ -1,16 +1,14 @@
 -- The flags of the one pass: at k, whether the first k bytes of the path just read are listed as a directory.
 use mathlib.Core.Path.{◌≡◌, refl, sym, ap, ◌∙◌}
-use mathlib.Core.Bool.{Bool, true, false, ◌&&◌, not, true≢false}
+use mathlib.Core.Bool.{Bool, false}
 use mathlib.Core.List.{List, [], ◌∷◌}
 use mathlib.Core.Option.{none}
-use Prim.Native.Nat.{ℕ, ◌+◌, ◌<◌, ◌≤◌}
+use Prim.Native.Nat.{ℕ, ◌<◌, ◌≤◌}
 use native.Mathlib.Omega.{arith}
-use native.Mathlib.Numerals.{add-one, lt_of_le_of_ne}
 use lib.Dec.{ltb, leb, eqb}
-use lib.ListN.{length, get_or, take, set, length-set, drop_of_length-le}
-use lib.Seq.{take-length, drop-cons, get_or-set_same, get_or-set_other}
-use borrow.Author.Tests.{ltb-true, ltb-false, leb-true, leb-false, eqb-true, eqb-false}
-use Rattle.model.specs.Bytes.{every}
+use lib.ListN.{length, get_or, take}
+use lib.Seq.{take-length}
+use borrow.Author.Tests.{ltb-true, ltb-false, leb-true, leb-false}
 use Rattle.model.specs.Path.{Path}
 use Rattle.model.specs.Map.{lookup}
 use Rattle.model.specs.Tree.{Tree}
@@ -18,7 +16,6 @@ use Rattle.model.specs.Listing.{ListingRecord}
 use Rattle.model.proofs.Orders.{Lt, Lt-≢, same_no, same_refl, yea, nay, Tested, test}
 use Rattle.base_fields.specs.Read.{common}
 use Rattle.base_fields.proofs.Common.{common_first, take_common, Lt-take, Lt_front}
-use Rattle.base_paths.specs.Ancestors.{ancestors_from}
 use Rattle.listing_check.specs.Turn.{Marked}
 use Rattle.listing_check.proofs.Pass.{directory_at, noted, Behind, behind_more, directory_same}
 
@@ -77,54 +74,3 @@ module _ (f e : List Bool) (p : Path) (seen : Tree) (r : ListingRecord) (w : Fla
     behind = behind_more p seen w.behind r o;
     flag = λ k h. flagged k h (test (leb k (common p r.path))) (test (ltb k (length r.path)));
   }
-
--- the walk over a path's slashes
-module _ (f : Path → Bool) (p : Path) (i : ℕ) (t : Bool) (h : i < length p) (a : t ≡ f (take i p)) where
-  pub stopped : (eqb (get_or p i 0) 47 && not t) ≡ true → every f (ancestors_from p i) ≡ false
-  stopped e = elim (test (eqb (get_or p i 0) 47)) [
-    | yea q ↦ elim (test t) [
-      | yea z ↦ absurd (true≢false (sym e ∙ rw (q, z)))
-      | nay z ↦ rw (drop-cons p i 0 h, q, ← a, z)
-    ]
-    | nay q ↦ absurd (true≢false (sym e ∙ rw q))
-  ]
-
-  pub passed : (eqb (get_or p i 0) 47 && not t) ≡ false → every f (ancestors_from p i) ≡ every f (ancestors_from p (i + 1))
-  passed e = elim (test (eqb (get_or p i 0) 47)) [
-    | yea q ↦ elim (test t) [
-      | yea z ↦ rw (drop-cons p i 0 h, q, ← a, z, add-one i)
-      | nay z ↦ absurd (true≢false (sym (rw (q, z)) ∙ e))
-    ]
-    | nay q ↦ rw (drop-cons p i 0 h, q, add-one i)
-  ]
-
-pub walked : (f : Path → Bool) (p : Path) (i : ℕ) → length p ≤ i → every f (ancestors_from p i) ≡ true
-walked f p i h = rw (drop_of_length-le p h)
-
--- the marking, up to i
-pub record Marking (f e : List Bool) (n i : ℕ) : Type 0 where
-  pub size : length e ≡ length f
-  pub stay : (k : ℕ) → k ≤ n → get_or e k false ≡ get_or f k false
-  pub clear : (k : ℕ) → n < k → k < i → get_or e k false ≡ false
-
-pub unmarked : (f : List Bool) (n : ℕ) → Marking f f n (n + 1)
-unmarked f n = record { size = refl; stay = λ k l. refl; clear = λ k l o. absurd (omega arith) }
-
-module _ (f e : List Bool) (n i : ℕ) (h : n < i) (k : i < length e) (m : Marking f e n i) where
-  pub cleared : Marking f (set e i false) n (i + 1)
-  cleared = record {
-    size = length-set e i false ∙ m.size;
-    stay = λ j l. get_or-set_other e i j false false (λ z. omega arith) ∙ m.stay j l;
-    clear = λ j l o. elim (test (eqb j i)) [
-      | yea z ↦ rw (eqb-true j i z) (get_or-set_same e i false false k)
-      | nay z ↦ get_or-set_other e i j false false (eqb-false j i z) ∙ m.clear j l (lt_of_le_of_ne (omega arith) (eqb-false j i z))
-    ];
-  }
-
-  pub closed : (d : Bool) (l : ℕ) → i ≡ l → Marked f (set e i d) n l d
-  closed d l q = rw (sym q) (record {
-    size = length-set e i d ∙ m.size;
-    stay = λ j l. get_or-set_other e i j d false (λ z. omega arith) ∙ m.stay j l;
-    clear = λ j l o. get_or-set_other e i j d false (λ z. omega arith) ∙ m.clear j l o;
-    own = get_or-set_same e i d false k;
-  })

@@ -1,4 +1,3 @@
-pub mod Heads
 pub mod Pass
 pub mod Flags
 pub mod Turns

@@ -12,7 +12,7 @@ use Rattle.model.specs.Map.{lookup, ascends}
 use Rattle.model.specs.Tree.{Node, Tree, kind, is_directory}
 use Rattle.model.specs.Listing.{ListingRecord, record_at, record_end, record_count, filled, records_from, headed, ruled, node_of}
 use Rattle.model.specs.Listing.{tree_from, tree_in, placed, formed_record, is_listing}
-use Rattle.model.proofs.Orders.{Lt, Lt_trans, Lt-≢, same_no, same_refl, Split, split, is_none_lem, is_some, opt}
+use Rattle.model.proofs.Orders.{Lt, Lt_trans, Lt-≢, same_no, same_refl, Split, split, has_none, is_some, opt}
 use Rattle.model.proofs.Orders.{mem, mem_ancestors, below_Lt}
 use Rattle.model.proofs.Maps.{above_trans, lookup_low, or_else, ascends_is}
 use Rattle.base_fields.proofs.Common.{before_Lt}
@@ -62,7 +62,7 @@ sorted true true true true true false true v false y n c d = refl
 sorted true true true true true true true v x y n c d = ap₂ ◌&&◌ (d refl refl) (c refl)
 
 or_none : {A : Type 0} (a : Option A) → or_else a none ≡ a
-or_none a = elim (opt a) [ is_none_lem e ↦ cc | is_some b e ↦ cc ]
+or_none a = elim (opt a) [ has_none e ↦ cc | is_some b e ↦ cc ]
 
 -- tests that agree on a list's elements
 every_same : (f g : Path → Bool) (qs : List Path) → ((q : Path) → mem q qs ≡ true → f q ≡ g q) → every f qs ≡ every g qs

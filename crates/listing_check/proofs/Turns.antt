@@ -1,6 +1,6 @@
 -- One turn of the pass: what holds before a record is read, what each refusal gives, and what holds after it.
 use mathlib.Core.Path.{◌≡◌, refl, sym, ap, ap₂, ◌∙◌}
-use mathlib.Core.Bool.{Bool, true, false, not, ◌&&◌, true≢false}
+use mathlib.Core.Bool.{Bool, true, false, ◌&&◌, true≢false}
 use mathlib.Core.List.{List, [], ◌∷◌}
 use Prim.Native.Nat.{ℕ, zero, suc, ◌+◌, ◌-◌, ◌<◌, ◌≤◌}
 use native.Mathlib.Omega.{arith}
@@ -8,7 +8,7 @@ use native.Mathlib.Nat.{add-sub_cancel_left}
 use lib.Dec.{leb, eqb}
 use lib.ListN.{length, get_or, take, drop, length-drop, replicate, length-replicate}
 use lib.Seq.{length-take-le}
-use borrow.Author.Tests.{leb-true, not-true, not-false}
+use borrow.Author.Tests.{leb-true}
 use Rattle.model.specs.Bytes.{Bytes, every, same, number_at, before}
 use Rattle.model.specs.Path.{Path, is_path, ancestors}
 use Rattle.model.specs.Tree.{Tree}
@@ -84,13 +84,13 @@ module _ {s : Bytes} {f : List Bool} {left from at : ℕ} (k : Kept s f left fro
   opened = sym (turned s left at (part s from at) k.seen h) ∙ k.rest
 
   module _ {b : Bool} (e : b ≡ (fits s at && formed_alone (record_at s at))) where
-    pub no_record : not b ≡ true → false ≡ is_listing s
+    pub no_record : b ≡ false → false ≡ is_listing s
     no_record z =
         let a : Bool = fits s at && formed_alone (record_at s at) in
-        stop a (read_on s left at (part s from at) k.seen) (is_listing s) opened (sym e ∙ not-true b z)
+        stop a (read_on s left at (part s from at) k.seen) (is_listing s) opened (sym e ∙ z)
 
-    pub in_record : not b ≡ false → {n : ℕ} → n ≡ number_at s at 2 → Read s f left from at n
-    in_record z g = record { kept = k; more = h; alone = sym e ∙ not-false b z; size = g }
+    pub in_record : b ≡ true → {n : ℕ} → n ≡ number_at s at 2 → Read s f left from at n
+    in_record z g = record { kept = k; more = h; alone = sym e ∙ z; size = g }
 
 module _ {s : Bytes} {f : List Bool} {left from at n : ℕ} (t : Read s f left from at n) where
   pub head : at + 19 ≤ length s
@@ -123,14 +123,14 @@ module _ {s : Bytes} {f : List Bool} {left from at n : ℕ} (t : Read s f left f
       (opened t.kept t.more) t.alone
 
   module _ {b : Bool} (y : b ≡ before (part s from at) (part s (at + 19) (at + 19 + n))) where
-    pub no_order : not b ≡ true → false ≡ is_listing s
+    pub no_order : b ≡ false → false ≡ is_listing s
     no_order z =
         stop (before (part s from at) (record_at s at).path) (ordered_on s left at (part s from at) t.kept.seen) (is_listing s)
-        read (rw (← path_is) (sym y ∙ not-true b z))
+        read (rw (← path_is) (sym y ∙ z))
 
-    pub in_order : not b ≡ false → {m : ℕ} → m ≡ common (part s from at) (part s (at + 19) (at + 19 + n))
+    pub in_order : b ≡ true → {m : ℕ} → m ≡ common (part s from at) (part s (at + 19) (at + 19 + n))
         → Ordered s f left from at n m
-    in_order z e = record { read = t; order = rw (← path_is) (sym y ∙ not-false b z); shared = e ∙ rw path_is }
+    in_order z e = record { read = t; order = rw (← path_is) (sym y ∙ z); shared = e ∙ rw path_is }
 
 module _ {s : Bytes} {f : List Bool} {left from at n m : ℕ} (t : Ordered s f left from at n m) where
   abbrev p : Path
@@ -162,11 +162,11 @@ module _ {s : Bytes} {f : List Bool} {left from at n m : ℕ} (t : Ordered s f l
       placed_is : b ≡ placed (noted r ∷ seen) r
       placed_is = (rw (path_is t.read) at v) (directory_at (noted r ∷ seen)) (λ k o. flags.flag k (omega arith))
 
-      pub no_place : not b ≡ true → false ≡ is_listing s
-      no_place z = stop (placed (noted r ∷ seen) r) (after s left at p seen) (is_listing s) ordered (sym placed_is ∙ not-true b z)
+      pub no_place : b ≡ false → false ≡ is_listing s
+      no_place z = stop (placed (noted r ∷ seen) r) (after s left at p seen) (is_listing s) ordered (sym placed_is ∙ z)
 
-      pub kept_on : not b ≡ false → Kept s e (left - 1) (at + 19) (at + 19 + n)
-      kept_on z = record {
+      pub kept_on : {fewer : ℕ} → fewer ≡ left - 1 → b ≡ true → Kept s e fewer (at + 19) (at + 19 + n)
+      kept_on d z = rw d (record {
         small = t.read.kept.small;
         size = w.size ∙ t.read.kept.size;
         behind = omega arith;
@@ -175,8 +175,8 @@ module _ {s : Bytes} {f : List Bool} {left from at n m : ℕ} (t : Ordered s f l
         flagged = rw (path_is t.read) flags;
         rest =
             ap₂ (λ (x : ℕ) (q : Path). run s (left - 1) x q (noted r ∷ seen)) (ap (λ (x : ℕ). at + 19 + x) t.read.size) (path_is t.read)
-            ∙ on (placed (noted r ∷ seen) r) (after s left at p seen) (is_listing s) ordered (sym placed_is ∙ not-false b z);
-      }
+            ∙ on (placed (noted r ∷ seen) r) (after s left at p seen) (is_listing s) ordered (sym placed_is ∙ z);
+      })
 
 pub started : (s : Bytes) (n : ℕ) → headed s ≡ true → n ≡ record_count s → Kept s (replicate 513 true) n 9 9
 started s n h e = record {
@@ -192,6 +192,5 @@ started s n h e = record {
     only : (k : ℕ) → k ≡ 0 → get_or (replicate 513 true) k false ≡ directory_at [] (take k (part s 9 9))
     only k z = rw z
 
-pub finished : {s : Bytes} {f : List Bool} {left from at : ℕ} → Kept s f left from at → left ≤ 0 → eqb at (length s) ≡ is_listing s
-finished {left = zero} k h = k.rest
-finished {left = suc left} k h = absurd (omega arith)
+pub finished : {s : Bytes} {f : List Bool} {left from at : ℕ} → Kept s f left from at → left ≡ 0 → eqb at (length s) ≡ is_listing s
+finished {s} {f} {left} {from} {at} k h = (rw h at k).rest

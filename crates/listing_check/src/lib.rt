@@ -2,37 +2,21 @@
 // All bytes are taken.
 #![tactic(auto)]
 
-ghost use Rattle.std.specs.Prelude.{◌≡◌, Bool, ◌&&◌, [], ◌∷◌, ◌+◌, ◌≤◌, ◌<◌, length, take};
-ghost use Rattle.model.specs.Bytes.{every, same, before};
+ghost use Rattle.std.specs.Prelude.{◌≡◌, Bool, ◌&&◌, ◌+◌, ◌≤◌, ◌<◌, length};
+ghost use Rattle.model.specs.Bytes.{every, before};
 ghost use Rattle.model.specs.Path.{Path, ancestors};
 ghost use Rattle.model.specs.Listing.{record_at, ruled, headed, is_listing};
 ghost use Rattle.base_fields.specs.Read.{common};
 ghost use Rattle.listing_check.specs.Turn.{fits, formed_alone, Agree, Marked};
 
-// Whether the bytes begin with the mark RDL.
-fn is_marked(s: &[u8]) -> bool
-    requires { 3 ≤ length s.now }
-    ensures { result ≡ same (take 3 s.now) (82 ∷ 68 ∷ 76 ∷ []) }
-{
-    let a = s[0];
-    let b = s[1];
-    let c = s[2];
-    (a == b'R') & ((b == b'D') & (c == b'L'))
-}
-
+// Whether the bytes begin with the mark RDL and the version, and are no more than a buffer holds.
 fn is_headed(s: &[u8]) -> bool
     ensures { result ≡ headed s.now }
 {
-    if s.len() < model::LISTING_HEAD {
-        return false;
-    }
-    if model::MAX_BUFFER < s.len() {
-        return false;
-    }
-    if is_marked(s) {
-        return base_fields::le16(s, 3) == model::LISTING_VERSION;
-    }
-    false
+    model::LISTING_HEAD <= s.len()
+        && s.len() <= model::MAX_BUFFER
+        && s.starts_with(b"RDL")
+        && base_fields::le16(s, 3) == model::LISTING_VERSION
 }
 
 // Whether kind, mtime and size of the record at `at` go together.
@@ -56,17 +40,12 @@ fn is_record(s: &[u8], at: usize) -> bool
     if s.len() < at + model::RECORD_HEAD {
         return false;
     }
-    let n = base_fields::le16(s, at) as usize;
     let from = at + model::RECORD_HEAD;
-    let to = from + n;
+    let to = from + base_fields::le16(s, at) as usize;
     if s.len() < to {
         return false;
     }
-    let part = &s[from..to];
-    if base_paths::is_path(part) {
-        return is_ruled(s, at);
-    }
-    false
+    base_paths::is_path(&s[from..to]) && is_ruled(s, at)
 }
 
 // Whether a is before b, where they have n bytes in common.
@@ -74,15 +53,11 @@ fn is_before(a: &[u8], b: &[u8], n: usize) -> bool
     requires { n ≡ common a.now b.now }
     ensures { result ≡ before a.now b.now }
 {
-    if n < a.len() {
-        if n < b.len() {
-            let x = a[n];
-            let y = b[n];
-            return x < y;
-        }
-        return false;
+    if n < a.len() && n < b.len() {
+        a[n] < b[n]
+    } else {
+        n < b.len()
     }
-    n < b.len()
 }
 
 // Sets the flags for a path of `len` bytes that has its first n in common with the path before it: what is shorter
@@ -91,12 +66,8 @@ fn mark(flags: &mut [bool; 513], n: usize, len: usize, directory: bool)
     requires { (n < len) × (len ≤ 512) × (length flags.old ≡ 513) }
     ensures { Marked flags.old flags.new n len directory }
 {
-    let mut i = n + 1;
-    while i < len {
-        flags[i] = false;
-        i += 1;
-    }
-    flags[i] = directory;
+    flags[n + 1..len].fill(false);
+    flags[len] = directory;
 }
 
 // Whether the flag is set at each slash.
@@ -105,12 +76,10 @@ fn is_placed(flags: &[bool; 513], path: &[u8]) -> bool
     ensures { (f : Path → Bool) → Agree flags.now path.now f
         → result ≡ every f (ancestors path.now) }
 {
-    let mut i = 0;
-    while i < path.len() {
-        if (path[i] == b'/') & !flags[i] {
+    for (i, &byte) in path.iter().enumerate() {
+        if byte == b'/' && !flags[i] {
             return false;
         }
-        i += 1;
     }
     true
 }
@@ -125,10 +94,10 @@ pub fn check(listing: &[u8]) -> bool
         return false;
     }
     let mut flags = [true; 513];
-    let mut left = base_fields::le32(listing, model::LISTING_COUNT);
+    let count = base_fields::le32(listing, model::LISTING_COUNT);
     let mut from: usize = model::LISTING_HEAD;
     let mut at: usize = model::LISTING_HEAD;
-    while 0 < left {
+    for _ in 0..count {
         if !is_record(listing, at) {
             return false;
         }
@@ -151,7 +120,6 @@ pub fn check(listing: &[u8]) -> bool
         }
         from = start;
         at = to;
-        left -= 1;
     }
     at == listing.len()
 }

@@ -1,7 +1,7 @@
 // Dir of overlay.rs: a reader that holds the lent listing and its count, with thin functions that give kind and record
-// at a path. The work is done by `kind_in` and listing_records' `find_in`, on the slice and the number; `kind_of` and
-// `find`, whose parameters are plain, serve every other caller. Assumes bytes that are a listing: only the crates of
-// this repository call, after a check.
+// at a path. The work is done by listing_records' `find_in`, on the slice and the number; `kind_of` and `find`, whose
+// parameters are plain, serve every other caller. Assumes bytes that are a listing: only the crates of this repository
+// call, after a check.
 #![tactic(auto)]
 
 ghost use Rattle.std.specs.Prelude.{◌≡◌, true};
@@ -16,27 +16,8 @@ use listing_records::{Found, RealTarget};
 pub struct Dir<'a> {
     pub listing: &'a [u8],
     pub count: u64,
-}
-
-// The count in a listing's head.
-fn count_in(listing: &[u8]) -> u64
-    requires { is_listing listing.now ≡ true }
-    ensures { result ≡ record_count listing.now }
-{
-    let first = listing_records::first_record(listing);
-    first.left
-}
-
-// What kind a listing of `count` records has at a path. The root is always a directory.
-fn kind_in(listing: &[u8], count: u64, path: &[u8]) -> RealTarget
-    requires { (is_listing listing.now ≡ true) × (count ≡ record_count listing.now) }
-    ensures { target_kind result ≡ kind (lookup (tree_in listing.now)) path.now }
-{
-    if path.len() == 0 {
-        return RealTarget::Dir;
-    }
-    let found = listing_records::find_in(listing, count, path);
-    listing_records::classify_target(found)
+    pub ghost checked: { is_listing listing.now ≡ true },
+    pub ghost counted: { count ≡ record_count listing.now },
 }
 
 impl<'a> Dir<'a> {
@@ -45,19 +26,21 @@ impl<'a> Dir<'a> {
         requires { is_listing listing.now ≡ true }
         ensures { (result.listing ≡ listing.entry) × (result.count ≡ record_count listing.now) }
     {
-        let count = count_in(listing);
+        let count = listing_records::first_record(listing).left;
         Dir { listing, count }
     }
 
+    // The root is always a directory.
     pub fn kind_at<'b>(self, path: &'b [u8]) -> RealTarget
-        requires { (is_listing self.listing.now ≡ true) × (self.count ≡ record_count self.listing.now) }
         ensures { target_kind result ≡ kind (lookup (tree_in self.entry.listing.now)) path.now }
     {
-        kind_in(self.listing, self.count, path)
+        if path.is_empty() {
+            return RealTarget::Dir;
+        }
+        listing_records::classify_target(self.record_at(path))
     }
 
-    pub fn record_at<'b>(self, path: &'b [u8]) -> Found
-        requires { (is_listing self.listing.now ≡ true) × (self.count ≡ record_count self.listing.now) }
+    pub fn record_at<'b>(self, path: &'b [u8]) -> Option<Found>
         ensures { result ≡ found_of (lookup (tree_in self.entry.listing.now) path.now) }
     {
         listing_records::find_in(self.listing, self.count, path)
@@ -73,7 +56,7 @@ pub fn kind_of(listing: &[u8], path: &[u8]) -> RealTarget
 }
 
 // What the listing has at a path.
-pub fn find(listing: &[u8], path: &[u8]) -> Found
+pub fn find(listing: &[u8], path: &[u8]) -> Option<Found>
     requires { is_listing listing.now ≡ true }
     ensures { result ≡ found_of (lookup (tree_in listing.now) path.now) }
 {

@@ -15,14 +15,14 @@ use Rattle.model.specs.Utf8.{utf8}
 use Rattle.model.specs.Path.{Path, short, component, components, is_path, below}
 use Rattle.model.specs.Map.{only}
 use Rattle.model.specs.Tree.{Tree}
-use Rattle.model.specs.Listing.{ListingRecord, ruled, placed, formed_record, record_at, record_end, record_count, records_from, records, filled, tree_from, tree_in, is_listing}
+use Rattle.model.specs.Listing.{ListingRecord, ruled, placed, formed_record, record_at, record_end, records_from, records, filled, tree_from, tree_in, is_listing}
 use Rattle.model.proofs.Orders.{Lt, Lt_trans, yea, nay, test, bot, and_true}
-use Rattle.model.proofs.Maps.{Above, Ascending, ascends_is}
+use Rattle.model.proofs.Maps.{Above, Ascending}
 use Rattle.base_fields.specs.Read.{part}
 use Rattle.listing_records.specs.Place.{tree_at, Standing}
 use Rattle.listing_records.specs.Parts.{records_below, PartOf}
 use Rattle.model.proofs.Listings.{checked}
-use Rattle.listing_records.proofs.Places.{standing_all, stands, first_record, climbs, path_here}
+use Rattle.listing_records.proofs.Places.{stands, first_record, climbs, path_here}
 
 -- every path between two that are below d is below d
 closed : (x y z : ℕ) (a b c : Path) → Lt (x ∷ a) (y ∷ b) → Lt (y ∷ b) (z ∷ c) → x ≡ z → (x ≡ y) × (Lt a b × Lt b c)
@@ -157,20 +157,6 @@ pub record Gathered (s : Bytes) (d : Path) (left from at n : ℕ) : Type 0 where
   pub under : 0 < n → below d last ≡ true
   pub are : records_from s n from ++ records_below d (records_from s left at) ≡ records_below d (records s)
 
-pub begin : (s : Bytes) (d : Path) (n : ℕ) → is_listing s ≡ true → n ≡ record_count s → n < 4294967296 → Gathered s d n 9 9 0
-begin s d n h e k =
-    let g = standing_all s n h e in
-    record {
-      stand = g;
-      ends = refl;
-      inside = (checked s h).long;
-      few = omega arith;
-      last = [];
-      up = (ascends_is [] (tree_at s n 9) g.up).0;
-      under = λ z. absurd (omega arith);
-      are = rw e;
-    }
-
 -- the part from `from` up to `at`, where nothing behind it is below d
 whole : (s : Bytes) (d : Path) (left from at n : ℕ) → Gathered s d left from at n → records_below d (records_from s left at) ≡ [] → PartOf s d from at n
 whole s d left from at n k z =
@@ -180,12 +166,11 @@ whole s d left from at n k z =
     let w = sym (append-nil (records_from s n from)) ∙ ap (λ (rs : List ListingRecord). records_from s n from ++ rs) (sym z) ∙ k.are in
     record { start = r; end = i; full = m.full; are = m.are ∙ w; there = w }
 
-pub done : (s : Bytes) (d : Path) (left from at n : ℕ) → Gathered s d left from at n → left ≤ 0 → PartOf s d from at n
-done s d zero from at n k h = whole s d zero from at n k refl
-done s d (suc left) from at n k h = absurd (omega arith)
+pub done : {s : Bytes} {d : Path} {left from at n : ℕ} → Gathered s d left from at n → left ≡ 0 → PartOf s d from at n
+done {s} {d} {left} {from} {at} {n} k h = whole s d left from at n k (rw h)
 
-module _ (s : Bytes) (d : Path) (left from at n : ℕ) (k : Gathered s d left from at n) (h : 0 < left) (m : ℕ) (e : m ≡ number_at s at 2)
-    (t : Bool) (b : t ≡ below d (take (at + 19 + m - (at + 19)) (drop (at + 19) s))) where
+module _ {s : Bytes} {d : Path} {left from at n : ℕ} (k : Gathered s d left from at n) (h : 0 < left) {m : ℕ} (e : m ≡ number_at s at 2)
+    {t : Bool} (b : t ≡ below d (take (at + 19 + m - (at + 19)) (drop (at + 19) s))) where
   abbrev path : Path
   path = (record_at s at).path
 
@@ -204,11 +189,11 @@ module _ (s : Bytes) (d : Path) (left from at n : ℕ) (k : Gathered s d left fr
   are : records_from s n from ++ records_below d (record_at s at ∷ behind) ≡ records_below d (records s)
   are = rw (first_record s left at h) at k.are
 
-  pub yes : t ≡ true → Gathered s d (left - 1) from (at + 19 + m) (n + 1)
-  yes z =
+  pub yes : {fewer : ℕ} → fewer ≡ left - 1 → t ≡ true → Gathered s d fewer from (at + 19 + m) (n + 1)
+  yes f z =
       let w = longer s n from at k.ends in
       let st = stands s left at h k.stand in
-      rw (e, add-one n) (record {
+      rw (f, e, add-one n) (record {
         stand = st.more;
         ends = w.ends;
         inside = st.end;
@@ -227,12 +212,11 @@ module _ (s : Bytes) (d : Path) (left from at n : ℕ) (k : Gathered s d left fr
   ended z o = whole s d left from at n k (ap (records_below d) (first_record s left at h) ∙ off z
       ∙ none_after d k.last path behind (k.under o) after (tested ∙ z) climb.0 climb.1)
 
-  pub no : t ≡ false → n ≤ 0 → Gathered s d (left - 1) (at + 19 + m) (at + 19 + m) n
-  no z o =
+  pub no : {fewer : ℕ} → fewer ≡ left - 1 → t ≡ false → n ≡ 0 → Gathered s d fewer (at + 19 + m) (at + 19 + m) n
+  no f z q =
       let st = stands s left at h k.stand in
-      let q : n ≡ 0 = omega arith in
       let c : records_below d (record_at s at ∷ behind) ≡ records_below d (records s) = rw q at are in
-      rw (e, q) (record {
+      rw (f, e, q) (record {
         stand = st.more;
         ends = eq-eqb (record_end s at) (record_end s at) refl;
         inside = st.end;

@@ -1,27 +1,26 @@
 -- Places in a checked listing: what stands there, and what a search forward finds.
-use mathlib.Core.Path.{◌≡◌, refl, sym, ap, ◌∙◌}
-use mathlib.Core.Bool.{Bool, true, false, cond, ◌&&◌}
+use mathlib.Core.Path.{◌≡◌, sym, ap, ◌∙◌}
+use mathlib.Core.Bool.{Bool, true, false, ◌&&◌}
 use mathlib.Core.List.{[], ◌∷◌}
-use mathlib.Core.Option.{none, some}
 use Prim.Native.Nat.{ℕ, zero, suc, ◌+◌, ◌-◌, ◌<◌, ◌≤◌}
 use native.Mathlib.Omega.{arith}
 use lib.Dec.{leb}
 use native.Mathlib.Nat.{add-sub_cancel_left}
-use lib.ListN.{length, take, drop, get_or}
-use borrow.Author.Tests.{leb-true, eq-eqb, ne_eqb}
-use Rattle.model.specs.Bytes.{Bytes, number_at, same, before}
+use lib.ListN.{length, take, drop}
+use borrow.Author.Tests.{leb-true}
+use Rattle.model.specs.Bytes.{Bytes, number_at, before}
 use Rattle.model.specs.Path.{Path}
 use Rattle.model.specs.Map.{lookup}
 use Rattle.model.specs.Tree.{Tree}
-use Rattle.model.specs.Listing.{record_at, record_end, record_count, records_from, filled, node_of, tree_from, tree_in, is_listing}
+use Rattle.model.specs.Listing.{record_at, record_end, record_count, records_from, filled, tree_from, tree_in, is_listing}
 use Rattle.model.proofs.Orders.{Lt, Cmp, cmp, yea, nay, test, and_true}
 use Rattle.model.proofs.Listings.{checked}
 use Rattle.model.proofs.Maps.{Above, Ascending, ascends_is, is_ascends, above_trans, lookup_low}
 use Rattle.listing_records.specs.Place.{tree_at, Standing, seek_from, node_if}
+use Rattle.std.specs.Prelude.{Option}
 use Rattle.listing_records.specs.Found.{found_of}
 use Rattle.listing_records.specs.declared.Place.{Place}
 use Rattle.listing_records.specs.declared.Found.{Found}
-use Rattle.listing_records.specs.declared.Found.TheVariants as found
 
 -- all records stand from the first on
 pub standing_all : (s : Bytes) (n : ℕ) → is_listing s ≡ true → n ≡ record_count s → Standing s n 9
@@ -83,10 +82,6 @@ module _ (s : Bytes) (p : Path) where
   seek_stop zero at h b = absurd (omega arith)
   seek_stop (suc m) at h b = rw b
 
-  pub seek_end : (n at : ℕ) → n ≤ 0 → record { at = at; left = n } ≡ seek_from s p n at
-  seek_end zero at h = refl
-  seek_end (suc m) at h = absurd (omega arith)
-
   -- it finds what the records from its start on have at p
   pub found_first : (n at : ℕ) → Ascending (tree_at s n at) → (q : Place) → q ≡ seek_from s p n at
       → node_if s p q.left q.at ≡ lookup (tree_at s n at) p
@@ -103,22 +98,19 @@ pub record Sought (s : Bytes) (p : Path) (n at left here : ℕ) : Type 0 where
   pub stand : Standing s left here
   pub rest : seek_from s p left here ≡ seek_from s p n at
 
-module _ (s : Bytes) (p : Path) (n at left here m : ℕ) (k : Sought s p n at left here) (h : 0 < left) (e : m ≡ number_at s here 2)
-    (b : Bool) (c : b ≡ before (take (here + 19 + m - (here + 19)) (drop (here + 19) s)) p) where
+module _ {s : Bytes} {p : Path} {n at left here : ℕ} (k : Sought s p n at left here) (h : 0 < left) {m : ℕ} (e : m ≡ number_at s here 2)
+    {b : Bool} (c : b ≡ before (take (here + 19 + m - (here + 19)) (drop (here + 19) s)) p) where
   tested : before (record_at s here).path p ≡ b
   tested = sym (c ∙ ap (λ (q : Path). before q p) (path_here s here m e))
 
-  pub sought_on : b ≡ true → Sought s p n at (left - 1) (here + 19 + m)
-  sought_on z = rw e (record {
+  pub sought_on : {fewer : ℕ} → fewer ≡ left - 1 → b ≡ true → Sought s p n at fewer (here + 19 + m)
+  sought_on f z = rw (f, e) (record {
     stand = (stands s left here h k.stand).more;
     rest = sym (seek_on s p left here h (tested ∙ z)) ∙ k.rest;
   })
 
   pub sought_stop : b ≡ false → record { at = here; left = left } ≡ seek_from s p n at
   sought_stop z = seek_stop s p left here h (tested ∙ z) ∙ k.rest
-
-pub sought_end : (s : Bytes) (p : Path) (n at left here : ℕ) → Sought s p n at left here → left ≤ 0 → record { at = here; left = left } ≡ seek_from s p n at
-sought_end s p n at left here k h = seek_end s p left here h ∙ k.rest
 
 -- the place that it ends at
 pub seek_stands : (s : Bytes) (p : Path) (n at : ℕ) → Standing s n at → (q : Place) → q ≡ seek_from s p n at → Standing s q.left q.at
@@ -128,37 +120,9 @@ seek_stands s p (suc n) at w q e = elim (test (before (record_at s at).path p)) 
   | nay z ↦ (let f : q ≡ (record { at = at; left = suc n }) = e ∙ rw z in rw f w)
 ]
 
--- the node of a record, by its kind
-module _ (s : Bytes) (at : ℕ) where
-  pub node_dir : (m : ℕ) → get_or s (at + 2) 0 ≡ 1 → m ≡ number_at s (at + 3) 8 → found.Directory m ≡ found_of (some (node_of (record_at s at)))
-  node_dir m k e = rw (e, eq-eqb (get_or s (at + 2) 0) 1 k)
-
-  pub node_file : (m z : ℕ) → get_or s (at + 2) 0 ≡ 2 → m ≡ number_at s (at + 3) 8 → z ≡ number_at s (at + 11) 8
-      → found.File m z ≡ found_of (some (node_of (record_at s at)))
-  node_file m z k e f = rw (e, f, ne_eqb (get_or s (at + 2) 0) 1 (λ g. omega arith), eq-eqb (get_or s (at + 2) 0) 2 k)
-
-  pub node_link : (get_or s (at + 2) 0 ≡ 1 → ⊥) → (get_or s (at + 2) 0 ≡ 2 → ⊥) → found.Link ≡ found_of (some (node_of (record_at s at)))
-  node_link k l = rw (ne_eqb (get_or s (at + 2) 0) 1 k, ne_eqb (get_or s (at + 2) 0) 2 l)
-
--- the first record, by its path
-module _ (s : Bytes) (p : Path) (n at : ℕ) where
-  pub first_none : n ≡ 0 → found.Absent ≡ found_of (node_if s p n at)
-  first_none e = rw e
-
-  module _ (h : n ≡ 0 → ⊥) (m : ℕ) (e : m ≡ number_at s at 2) (b : Bool) (c : b ≡ same (take (at + 19 + m - (at + 19)) (drop (at + 19) s)) p) where
-    opened : (k : ℕ) → k ≡ n → node_if s p k at ≡ cond b (some (node_of (record_at s at))) none
-    opened zero f = absurd (h (sym f))
-    opened (suc k) f = rw (c, path_here s at m e)
-
-    pub first_here : b ≡ true → found_of (some (node_of (record_at s at))) ≡ found_of (node_if s p n at)
-    first_here z = rw (opened n refl, z)
-
-    pub first_other : b ≡ false → found.Absent ≡ found_of (node_if s p n at)
-    first_other z = rw (opened n refl, z)
-
 -- the search from the first record on
 pub found_all : (s : Bytes) (p : Path) (n : ℕ) (q : Place) → is_listing s ≡ true → n ≡ record_count s → q ≡ seek_from s p n 9
-    → (d : Found) → d ≡ found_of (node_if s p q.left q.at) → d ≡ found_of (lookup (tree_in s) p)
+    → (d : Option Found) → d ≡ found_of (node_if s p q.left q.at) → d ≡ found_of (lookup (tree_in s) p)
 found_all s p n q h e f d g =
     let w : node_if s p q.left q.at ≡ lookup (tree_in s) p = found_first s p n 9 (ascends_is [] (tree_at s n 9) (standing_all s n h e).up).1 q f ∙ rw e in
     g ∙ ap found_of w

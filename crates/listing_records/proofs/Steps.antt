@@ -3,6 +3,7 @@ use mathlib.Core.Path.{◌≡◌, refl, sym, ap, ◌∙◌}
 use mathlib.Core.Bool.{Bool, true, false, not, ◌&&◌}
 use mathlib.Core.List.{List, [], ◌∷◌}
 use mathlib.Core.Option.{Option, none, some}
+use Rattle.std.specs.Prelude as core
 use Prim.Native.Nat.{ℕ, zero, suc, ◌+◌, ◌<◌, ◌≤◌}
 use native.Mathlib.Omega.{arith}
 use lib.Dec.{ltb}
@@ -12,7 +13,7 @@ use Rattle.model.specs.Bytes.{Bytes, every, before}
 use Rattle.model.specs.Path.{Path, is_path, ancestors, below, ends_here}
 use Rattle.model.specs.Map.{lookup}
 use Rattle.model.specs.Tree.{Node, dir, file, link, Tree, View, Kind, kind, kind_of, is_directory}
-use Rattle.model.specs.Listing.{ListingRecord, record_at, record_end, record_count, records, ruled, tree_from, tree_in, placed, formed_record, is_listing}
+use Rattle.model.specs.Listing.{ListingRecord, record_at, record_end, records, ruled, tree_from, tree_in, placed, formed_record, is_listing}
 use Rattle.model.proofs.Orders.{Lt, Lt_trans, Lt-≢, fronts_ascend, same_no, Split, split, mem, mem_ancestors, yea, nay, test, bot, and_true}
 use Rattle.model.proofs.Maps.{ascends_is}
 use Rattle.model.proofs.Formed.{every_mem}
@@ -27,7 +28,7 @@ use Rattle.listing_records.specs.declared.Found.{Found}
 use Rattle.listing_records.specs.declared.RealTarget.{RealTarget}
 use Rattle.listing_records.specs.declared.ComponentWalk.{ComponentWalk}
 use Rattle.model.proofs.Listings.{checked}
-use Rattle.listing_records.proofs.Places.{standing_all, seek_stands, found_first}
+use Rattle.listing_records.proofs.Places.{seek_stands, found_first}
 
 pub found_kind_lem : (n : Option Node) → found_kind (found_of n) ≡ kind_of n
 found_kind_lem none = refl
@@ -88,13 +89,6 @@ ends_next p i r e = elim (test (ltb r (length p))) [
   | nay z ↦ ends_whole p r (ltb-false r (length p) z)
 ]
 
-pub walks_new : (s : Bytes) (n : ℕ) → is_listing s ≡ true → n ≡ record_count s → (p : Path) → Walks s p (record { at = 9; left = n; exhausted = false }) 0
-walks_new s n h e p = record {
-  stand = standing_all s n h e;
-  ahead = λ j a b. rw e;
-  gone = λ z. absurd (bot (cc));
-}
-
 -- a walk that is good from k bytes on is so from more on
 pub walks_on : (s : Bytes) (p : Path) (w : ComponentWalk) (k m : ℕ) → k ≤ m → Walks s p w k → Walks s p w m
 walks_on s p w k m h v = record {
@@ -111,7 +105,7 @@ module _ (s : Bytes) (p : Path) (w : ComponentWalk) (k : ℕ) (v : Walks s p w k
     here : node_if s (take k p) q.left q.at ≡ lookup (tree_in s) (take k p)
     here = found_first s (take k p) w.left w.at (ascends_is [] (tree_at s w.left w.at) v.stand.up).1 q f ∙ sym (v.ahead k (omega arith) l)
 
-    pub step_kind_lem : (d : Found) (t : RealTarget) → d ≡ found_of (node_if s (take k p) q.left q.at) → target_kind t ≡ found_kind d
+    pub step_kind_lem : (d : core.Option Found) (t : RealTarget) → d ≡ found_of (node_if s (take k p) q.left q.at) → target_kind t ≡ found_kind d
         → target_kind t ≡ kind (lookup (tree_in s)) (take k p)
     step_kind_lem d t x y = y ∙ ap found_kind x ∙ found_kind_lem (node_if s (take k p) q.left q.at) ∙ ap kind_of here ∙ sym (kind_front (lookup (tree_in s)) p k o l)
 

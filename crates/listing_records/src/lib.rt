@@ -4,12 +4,11 @@
 #![tactic(auto)]
 
 ghost use Rattle.std.specs.Prelude.{◌≡◌, true, not, ◌+◌, ◌-◌, ◌≤◌, ◌<◌, length, take, drop};
-ghost use Rattle.std.proofs.Math.Option.{some};
 ghost use Rattle.model.specs.Path.{Path, ends_here};
 ghost use Rattle.model.specs.Map.{lookup};
 ghost use Rattle.model.specs.Tree.{kind, is_directory};
 ghost use Rattle.model.specs.Listing.{record_at, record_end, record_count, node_of, tree_in, is_listing};
-ghost use Rattle.listing_records.specs.Found.{found_of, found_kind, target_kind};
+ghost use Rattle.listing_records.specs.Found.{found_as, found_of, found_kind, target_kind};
 ghost use Rattle.listing_records.specs.Place.{Standing, seek_from, node_if};
 ghost use Rattle.listing_records.specs.Parts.{PartOf};
 ghost use Rattle.listing_records.specs.Walk.{Walks};
@@ -24,12 +23,11 @@ pub enum RealTarget {
 }
 
 // A listed node: a directory with its mtime bits, a file with its mtime bits and its size, or a link.
-#[derive(Clone, Copy)]
+#[derive(Clone, Copy, Debug, PartialEq, Eq)]
 pub enum Found {
     Directory(u64),
     File(u64, u64),
     Link,
-    Absent,
 }
 
 // A place in a listing: `left` records stand from `at` on up to the end.
@@ -45,12 +43,9 @@ pub fn first_record(listing: &[u8]) -> Place
     ensures value { result ≡ record { at = 9; left = record_count listing.now } }
     ensures standing { Standing listing.now result.left result.at }
 {
-    let count = base_fields::le32(listing, model::LISTING_COUNT);
     let at = model::LISTING_HEAD;
-    Place {
-        at: at,
-        left: count,
-    }
+    let left = base_fields::le32(listing, model::LISTING_COUNT);
+    Place { at, left }
 }
 
 pub fn next_record(listing: &[u8], place: Place) -> Place
@@ -59,13 +54,9 @@ pub fn next_record(listing: &[u8], place: Place) -> Place
     ensures value { result ≡ record { at = record_end listing.now place.at; left = place.left - 1 } }
     ensures standing_2 { Standing listing.now result.left result.at }
 {
-    let at = place.at;
-    let left = place.left;
-    let to = at + model::RECORD_HEAD + base_fields::le16(listing, at) as usize;
-    Place {
-        at: to,
-        left: left - 1,
-    }
+    let at = place.at + model::RECORD_HEAD + base_fields::le16(listing, place.at) as usize;
+    let left = place.left - 1;
+    Place { at, left }
 }
 
 pub fn record_path(listing: &[u8], place: Place) -> &[u8]
@@ -73,9 +64,8 @@ pub fn record_path(listing: &[u8], place: Place) -> &[u8]
     requires left_nonzero { 0 < place.left }
     ensures { result.now ≡ (record_at listing.now place.at).path }
 {
-    let at = place.at;
-    let start = at + model::RECORD_HEAD;
-    let to = start + base_fields::le16(listing, at) as usize;
+    let start = place.at + model::RECORD_HEAD;
+    let to = start + base_fields::le16(listing, place.at) as usize;
     &listing[start..to]
 }
 
@@ -84,63 +74,52 @@ fn seek(listing: &[u8], path: &[u8], from: usize, count: u64) -> Place
     requires { Standing listing.now count from }
     ensures { result ≡ seek_from listing.now path.now count from }
 {
-    let mut left = count;
     let mut at = from;
-    while 0 < left {
+    for i in 0..count {
         let start = at + model::RECORD_HEAD;
         let to = start + base_fields::le16(listing, at) as usize;
         let part = &listing[start..to];
-        if base_fields::is_before(part, path) {
-            at = to;
-            left -= 1;
-        } else {
-            return Place { at: at, left: left };
+        if !base_fields::is_before(part, path) {
+            let left = count - i;
+            return Place { at, left };
         }
+        at = to;
     }
-    Place { at: at, left: left }
+    Place { at, left: 0 }
 }
 
 // The node of the record at `at`.
 pub fn node_at(listing: &[u8], at: usize) -> Found
     requires { (at + 19 ≤ length listing.now) × (length listing.now ≤ 16777216) }
-    ensures { result ≡ found_of (some (node_of (record_at listing.now at))) }
+    ensures { result ≡ found_as (node_of (record_at listing.now at)) }
 {
-    let kind = listing[at + 2];
     let mtime = base_fields::le64(listing, at + 3);
-    if kind == model::LISTED_DIRECTORY {
-        return Found::Directory(mtime);
+    match listing[at + 2] {
+        model::LISTED_DIRECTORY => Found::Directory(mtime),
+        model::LISTED_FILE => Found::File(mtime, base_fields::le64(listing, at + 11)),
+        _ => Found::Link,
     }
-    if kind == model::LISTED_FILE {
-        let size = base_fields::le64(listing, at + 11);
-        return Found::File(mtime, size);
-    }
-    Found::Link
 }
 
-// The node of the first of the `left` records from `at` on, if that has this path.
-fn found_at(listing: &[u8], path: &[u8], at: usize, left: u64) -> Found
-    requires { Standing listing.now left at }
-    ensures { result ≡ found_of (node_if listing.now path.now left at) }
+// The node of the first of the records from a place on, if that has this path.
+fn found_at(listing: &[u8], path: &[u8], place: Place) -> Option<Found>
+    requires { Standing listing.now place.left place.at }
+    ensures { result ≡ found_of (node_if listing.now path.now place.left place.at) }
 {
-    if left == 0 {
-        return Found::Absent;
+    if 0 < place.left && base_fields::is_same(record_path(listing, place), path) {
+        Some(node_at(listing, place.at))
+    } else {
+        None
     }
-    let start = at + model::RECORD_HEAD;
-    let to = start + base_fields::le16(listing, at) as usize;
-    let part = &listing[start..to];
-    if base_fields::is_same(part, path) {
-        return node_at(listing, at);
-    }
-    Found::Absent
 }
 
 // What a listing of `count` records has at a path.
-pub fn find_in(listing: &[u8], count: u64, path: &[u8]) -> Found
+pub fn find_in(listing: &[u8], count: u64, path: &[u8]) -> Option<Found>
     requires { (is_listing listing.now ≡ true) × (count ≡ record_count listing.now) }
     ensures { result ≡ found_of (lookup (tree_in listing.now) path.now) }
 {
     let place = seek(listing, path, model::LISTING_HEAD, count);
-    found_at(listing, path, place.at, place.left)
+    found_at(listing, path, place)
 }
 
 // A part in the middle of a listing: `count` records in the bytes from `from` up to `to`.
@@ -157,54 +136,39 @@ pub fn below(listing: &[u8], dir: &[u8]) -> Part
     requires { is_listing listing.now ≡ true }
     ensures { PartOf listing.now dir.now result.from result.to result.count }
 {
-    let mut left = base_fields::le32(listing, model::LISTING_COUNT);
+    let count = base_fields::le32(listing, model::LISTING_COUNT);
     let mut from: usize = model::LISTING_HEAD;
     let mut at: usize = model::LISTING_HEAD;
     let mut n: u64 = 0;
-    while 0 < left {
+    for _ in 0..count {
         let start = at + model::RECORD_HEAD;
         let to = start + base_fields::le16(listing, at) as usize;
         let part = &listing[start..to];
-        left -= 1;
         if base_paths::is_below(dir, part) {
-            at = to;
             n += 1;
-        } else {
-            if 0 < n {
-                return Part {
-                    from: from,
-                    to: at,
-                    count: n,
-                };
-            }
+        } else if n == 0 {
             from = to;
-            at = to;
+        } else {
+            break;
         }
+        at = to;
     }
     Part {
-        from: from,
+        from,
         to: at,
         count: n,
     }
 }
 
-// The case that says a node's kind.
-pub fn classify_target(found: Found) -> RealTarget
+// The case that says the kind of what was found.
+pub fn classify_target(found: Option<Found>) -> RealTarget
     ensures { target_kind result ≡ found_kind found }
 {
     match found {
-        Found::Directory(_) => {
-            return RealTarget::Dir;
-        }
-        Found::File(_, _) => {
-            return RealTarget::File;
-        }
-        Found::Link => {
-            return RealTarget::Symlink;
-        }
-        Found::Absent => {
-            return RealTarget::Absent;
-        }
+        Some(Found::Directory(_)) => RealTarget::Dir,
+        Some(Found::File(_, _)) => RealTarget::File,
+        Some(Found::Link) => RealTarget::Symlink,
+        None => RealTarget::Absent,
     }
 }
 
@@ -212,20 +176,7 @@ pub fn classify_target(found: Found) -> RealTarget
 pub fn is_dir(target: RealTarget) -> bool
     ensures { result ≡ is_directory (target_kind target) }
 {
-    match target {
-        RealTarget::Dir => {
-            return true;
-        }
-        RealTarget::File => {
-            return false;
-        }
-        RealTarget::Symlink => {
-            return false;
-        }
-        RealTarget::Absent => {
-            return false;
-        }
-    }
+    matches!(target, RealTarget::Dir)
 }
 
 // A walk down a path, a component a step: `left` records stand from `at` on, and all before them are before every
@@ -251,7 +202,7 @@ impl ComponentWalk {
         let left = base_fields::le32(listing, model::LISTING_COUNT);
         ComponentWalk {
             at: model::LISTING_HEAD,
-            left: left,
+            left,
             exhausted: false,
         }
     }
@@ -270,18 +221,15 @@ impl ComponentWalk {
         ensures walk_value { self.exhausted ≡ true → result.walk ≡ self }
         ensures walks_2 { Walks listing.now path.now result.walk (end + 1) }
     {
-        let at = self.at;
-        let left = self.left;
-        let exhausted = self.exhausted;
-        if exhausted {
+        if self.exhausted {
             return Stepped {
                 walk: self,
                 target: RealTarget::Absent,
             };
         }
         let prefix = &path[..end];
-        let place = seek(listing, prefix, at, left);
-        let found = found_at(listing, prefix, place.at, place.left);
+        let place = seek(listing, prefix, self.at, self.left);
+        let found = found_at(listing, prefix, place);
         let target = classify_target(found);
         let on = is_dir(target);
         Stepped {
@@ -290,7 +238,7 @@ impl ComponentWalk {
                 left: place.left,
                 exhausted: !on,
             },
-            target: target,
+            target,
         }
     }
 }

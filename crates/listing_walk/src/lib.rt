@@ -38,8 +38,5 @@ pub fn step_once(
 {
     let mut lent = walk;
     let target = step(&mut lent, listing, path, end);
-    listing_records::Stepped {
-        walk: lent,
-        target: target,
-    }
+    listing_records::Stepped { walk: lent, target }
 }

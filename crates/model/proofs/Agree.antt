@@ -27,7 +27,7 @@ use Rattle.model.specs.Cause.{MovesDirectory, Exceeds, charge_above, plan_above,
 use Rattle.model.proofs.Orders.{same_refl, bot, yea, nay, test, mem}
 use Rattle.model.proofs.Orders.{rest_self, rest_below, rest_nil, below_rest}
 use Rattle.model.proofs.Maps.{upd, or_else, lookup_put, lookup_del, lookup_puts, lookup_each, Ascending, ascending_put, ascending_del, ascending_puts, ascending_outside}
-use Rattle.model.proofs.Invariant.{kind_is, is_nothing_lem, is_directory_lem, is_file_lem, is_link', entry_at, at_none, at_own, at_reference, at_directory, at_deleted}
+use Rattle.model.proofs.Invariant.{kind_is, nothing_is, directory_is, file_is, link_is, entry_at, at_none, at_own, at_reference, at_directory, at_deleted}
 use Rattle.model.proofs.Invariant.{Closed, closed_above, Inv, shown_put, shown_over, kind_at, kind_entry, then_pass, then_both, parents_dirs, parents_pass, inv_empty}
 use Rattle.model.proofs.Small.{write_inv, unlink_inv, unlink_regular, rmdir_inv, RmdirOk, rmdir_ok, ok_rmdir, met_nothing, met_directory, mkdir_met, makes_missing, makes_none, mkdir_inv, mkdir_up, mkdir_lookup, made_at, childless_empty, empty_childless, root_refused, root_passes}
 use Rattle.model.proofs.Contents.{append_passed, inside_passed, inside_write}
@@ -181,7 +181,7 @@ module _ (t : Table) (l : Tree) (cl : Closed (lookup l)) (i : Inv t l) (a b : Pa
       apart' h e = bot (cc)
 
       dir' : no_clash (length b) (kind (shown t l) a) (kind (shown t l) b) ≡ pass → kind (shown t l) b ≡ a_directory → kind (shown t l) a ≡ a_directory
-      dir' h e = elim (kind_is (kind (shown t l) a)) [ is_directory_lem k ↦ k | is_nothing_lem k ↦ cc | is_file_lem k ↦ cc | is_link' k ↦ cc ]
+      dir' h e = elim (kind_is (kind (shown t l) a)) [ directory_is k ↦ k | nothing_is k ↦ cc | file_is k ↦ cc | link_is k ↦ cc ]
 
       free' : no_clash (length b) (kind (shown t l) a) (kind (shown t l) b) ≡ pass
           → if_directory (kind (shown t l) a) (if_directory (kind (shown t l) b) (no_visible_child 1 t l b)) ≡ pass → (q : Path) (n : Node) → below b q ≡ true → shown t l q ≡ some n → ⊥
@@ -200,7 +200,7 @@ module _ (t : Table) (l : Tree) (cl : Closed (lookup l)) (i : Inv t l) (a b : Pa
 
       file' : no_clash (length b) (kind (shown t l) a) (kind (shown t l) b) ≡ pass → present (length a) (kind (shown t l) a) ≡ pass
           → not_link 0 (length a) (kind (shown t l) a) ≡ pass → kind (shown t l) b ≡ a_file → kind (shown t l) a ≡ a_file
-      file' h g r e = elim (kind_is (kind (shown t l) a)) [ is_directory_lem k ↦ cc | is_nothing_lem k ↦ cc | is_file_lem k ↦ k | is_link' k ↦ cc ]
+      file' h g r e = elim (kind_is (kind (shown t l) a)) [ directory_is k ↦ cc | nothing_is k ↦ cc | file_is k ↦ k | link_is k ↦ cc ]
 
   pub rename_ok : (m : Memory) → rename_checks m t l a b ≡ pass → RenameIs (shown t l) a b
   rename_ok m h = elim (rename_passed m t l a b h) [
@@ -241,20 +241,20 @@ module _ (t : Table) (l : Tree) (cl : Closed (lookup l)) (i : Inv t l) (a b : Pa
       is_a z = o.found (kind_absent t l i a b a o.source z)
 
       link_b : not_link 1 (length b) kb ≡ pass
-      link_b = elim (kind_is kb) [ is_link' z ↦ absurd (no_b z) | is_nothing_lem z ↦ cc | is_file_lem z ↦ cc | is_directory_lem z ↦ cc ]
+      link_b = elim (kind_is kb) [ link_is z ↦ absurd (no_b z) | nothing_is z ↦ cc | file_is z ↦ cc | directory_is z ↦ cc ]
 
       link_a : not_link 0 (length a) ka ≡ pass
-      link_a = elim (kind_is ka) [ is_link' z ↦ absurd (no_a z) | is_nothing_lem z ↦ cc | is_file_lem z ↦ cc | is_directory_lem z ↦ cc ]
+      link_a = elim (kind_is ka) [ link_is z ↦ absurd (no_a z) | nothing_is z ↦ cc | file_is z ↦ cc | directory_is z ↦ cc ]
 
       there : not_deleted (length a) (lookup t a) ≡ pass
       there = elim (entry_at (lookup t a)) [ at_none z ↦ cc | at_own m d z ↦ cc | at_reference m s p z ↦ cc | at_directory m z ↦ cc | at_deleted z ↦ absurd (o.found (cc)) ]
 
       agree : no_clash (length b) ka kb ≡ pass
       agree = elim (kind_is kb) [
-        | is_link' z ↦ cc
-        | is_nothing_lem z ↦ cc
-        | is_directory_lem z ↦ cc (o.over_dir z)
-        | is_file_lem z ↦ cc (o.over_file z)
+        | link_is z ↦ cc
+        | nothing_is z ↦ cc
+        | directory_is z ↦ cc (o.over_dir z)
+        | file_is z ↦ cc (o.over_file z)
       ]
 
       vacant : if_directory ka (if_directory kb (no_visible_child 1 t l b)) ≡ pass
@@ -264,7 +264,7 @@ module _ (t : Table) (l : Tree) (cl : Closed (lookup l)) (i : Inv t l) (a b : Pa
       apart' = elim (test (below a b)) [ yea z ↦ absurd (o.apart z) | nay z ↦ cc ]
 
       found' : present (length a) ka ≡ pass
-      found' = elim (kind_is ka) [ is_nothing_lem z ↦ absurd (is_a z) | is_link' z ↦ cc | is_file_lem z ↦ cc | is_directory_lem z ↦ cc ]
+      found' = elim (kind_is ka) [ nothing_is z ↦ absurd (is_a z) | link_is z ↦ cc | file_is z ↦ cc | directory_is z ↦ cc ]
 
       paths' : PathsPassed t l a b
       paths' = record {

@@ -21,10 +21,10 @@ use Rattle.model.specs.Content.{content_of, appended, spliced}
 use Rattle.model.specs.Calls.{Call, write, append, write_inside, mkdir, unlink, rmdir, rename, changed, rules, exists, says}
 use Rattle.model.specs.Posix.{Prefixed, Empty, make_directory, make_missing, make_directories, rename_file, Posix}
 use Rattle.model.specs.Runs.{touches}
-use Rattle.model.proofs.Orders.{split, Split, same_no, same_refl, below_irrefl, bot, yea, nay, test, is_none_lem, is_some, opt, mem, mem_ancestors}
+use Rattle.model.proofs.Orders.{split, Split, same_no, same_refl, below_irrefl, bot, yea, nay, test, has_none, is_some, opt, mem, mem_ancestors}
 use Rattle.model.proofs.Orders.{rest_below, rest_nil}
 use Rattle.model.proofs.Maps.{or_else, lookup_put, lookup_puts, lookup_each, lookup_rekey, lookup_keys, lookup_only}
-use Rattle.model.proofs.Invariant.{kind_is, is_nothing_lem, is_directory_lem, is_file_lem, is_link', Closed, closed_above, Inv, shown_put, shown_over, kind_at, then_pass, parents_dirs}
+use Rattle.model.proofs.Invariant.{kind_is, nothing_is, directory_is, file_is, link_is, Closed, closed_above, Inv, shown_put, shown_over, kind_at, then_pass, parents_dirs}
 use Rattle.model.proofs.Small.{mkdir_up, mem_absent, met_nothing, met_directory, mkdir_met, makes_missing, makes_none, not_both, mkdir_lookup, made_at, unlink_found, rmdir_ok}
 use Rattle.model.proofs.Contents.{append_passed, inside_passed}
 use Rattle.model.proofs.Moves.{Held, RenameOk, move_view, move_tree}
@@ -241,7 +241,7 @@ module _ (t : Table) (l : Tree) (i : Inv t l) where
   )
 
   none_of : (f : View) (p : Path) → ((q : Path) (n : Node) → below p q ≡ true → f q ≡ some n → ⊥) → Empty f p
-  none_of f p h q b = elim (opt (f q)) [ is_none_lem e ↦ e | is_some n e ↦ absurd (h q n b e) ]
+  none_of f p h q b = elim (opt (f q)) [ has_none e ↦ e | is_some n e ↦ absurd (h q n b e) ]
 
   posix_rmdir : (p : Path) → rmdir_checks t l p ≡ pass → Posix (shown t l) (shown (put p deleted t) l) (rmdir p)
   posix_rmdir p h = let o = rmdir_ok t l i p h in (
@@ -284,7 +284,7 @@ module _ (t : Table) (l : Tree) (i : Inv t l) where
   )
     where
       absent : RenameOk (shown t l) a b → kind (shown t l) a ≡ nothing → ⊥
-      absent o e = elim (opt (shown t l a)) [ is_none_lem x ↦ o.found x | is_some n x ↦ bot (cc (kind_at (shown t l) a (some n) x o.source, visible n)) ]
+      absent o e = elim (opt (shown t l a)) [ has_none x ↦ o.found x | is_some n x ↦ bot (cc (kind_at (shown t l) a (some n) x o.source, visible n)) ]
         where
           visible : (n : Node) → is_nothing (kind_of (some n)) ≡ false
           visible (dir m) = refl
@@ -293,10 +293,10 @@ module _ (t : Table) (l : Tree) (i : Inv t l) where
 
       other : RenameOk (shown t l) a b → kind (shown t l) a ≡ a_directory → (kind (shown t l) b ≡ nothing → ⊥) → kind (shown t l) b ≡ a_directory
       other o d n = elim (kind_is (kind (shown t l) b)) [
-        | is_nothing_lem e ↦ absurd (n e)
-        | is_directory_lem e ↦ e
-        | is_file_lem e ↦ cc (o.over_file e)
-        | is_link' e ↦ absurd (linked b e o.target o.target_link)
+        | nothing_is e ↦ absurd (n e)
+        | directory_is e ↦ e
+        | file_is e ↦ cc (o.over_file e)
+        | link_is e ↦ absurd (linked b e o.target o.target_link)
       ]
         where
           linked : (b : Path) → kind (shown t l) b ≡ a_link → (b ≡ [] → ⊥) → (shown t l b ≡ some link → ⊥) → ⊥

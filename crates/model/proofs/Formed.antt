@@ -25,7 +25,7 @@ use Rattle.model.specs.Checks.{limited, charged}
 use Rattle.model.specs.Rename.{as_entry, uncovered, along, carried, moved}
 use Rattle.model.specs.Content.{content_of, appended, spliced}
 use Rattle.model.specs.Calls.{Call, write, append, write_inside, mkdir, unlink, rmdir, rename, changed, forms, rules}
-use Rattle.model.proofs.Orders.{bot, yea, nay, test, and_true, is_none_lem, is_some, opt, eqb_eq, same_refl, Split, split}
+use Rattle.model.proofs.Orders.{bot, yea, nay, test, and_true, has_none, is_some, opt, eqb_eq, same_refl, Split, split}
 use Rattle.model.proofs.Listings.{parts, checked}
 use Rattle.model.proofs.Orders.{Lt, mem, mem_ancestors, rest_is}
 use Rattle.model.proofs.Maps.{Above, Ascending, lookup_low, ascends_is, is_ascends, ascending_put, ascending_puts}
@@ -276,7 +276,7 @@ fine_puts : (xs t : Table) → FineTable t → ((k : Path) (e : Entry) → looku
 fine_puts xs t f g = record {
   sorted = ascending_puts xs t f.sorted;
   fine = λ q x h. let w = lookup_puts xs t q in elim (opt (lookup xs q)) [
-    | is_none_lem u ↦ f.fine q x (cc)
+    | has_none u ↦ f.fine q x (cc)
     | is_some e u ↦ g q x (cc)
   ];
 }
@@ -314,7 +314,7 @@ write_proper f [] h z = bot (cc)
 write_proper f (c ∷ p) h z = bot (cc)
 
 root_bare : (t : Table) → FineTable t → lookup t [] ≡ none
-root_bare t f = elim (opt (lookup t [])) [ is_none_lem e ↦ e | is_some x e ↦ absurd ((f.fine [] x e).proper refl) ]
+root_bare t f = elim (opt (lookup t [])) [ has_none e ↦ e | is_some x e ↦ absurd ((f.fine [] x e).proper refl) ]
 
 unlink_proper : (t : Table) (l : Tree) → FineTable t → (p : Path) → unlink_checks t l p ≡ pass → p ≡ [] → ⊥
 unlink_proper t l f [] h z = bot (cc (root_bare t f))

@@ -13,14 +13,13 @@ use Rattle.model.specs.Tree.{reference, deleted, Table}
 use Rattle.model.specs.Listing.{is_listing}
 use Rattle.model.specs.Table.{encode, padded, record_of, sized, is_table}
 use Rattle.model.specs.Calls.{Call, unlink, rename, exists}
+use Rattle.std.specs.Prelude.{Ok, Err}
 use Rattle.model.specs.Answer.{Reply, accepted, refused, told, told_finding}
 use Rattle.model.specs.Outcome.{Store, outcome, ask, opened}
 use Rattle.model.specs.declared.Record.{Record}
 use Rattle.model.specs.declared.Refusal.TheVariants.{MalformedTable, MalformedListing, MalformedPath, LinkOrRoot}
 use Rattle.model.specs.declared.Refusal.TheVariants.{NotFound, Exists, NotADirectory, IsADirectory, NotEmpty}
 use Rattle.model.specs.declared.Refusal.TheVariants.{BelowSource, Limit, KeyTooLong, NoRoom}
-use Rattle.model.specs.declared.Answer.TheVariants.{Accepted, Refused}
-use Rattle.model.specs.declared.Finding.TheVariants.{Yes, No, Unanswered}
 use Rattle.model.proofs.Case.{path, typed, dir_at, file_at, link_at, listing_bytes}
 use Rattle.model.proofs.Cases.{L}
 
@@ -248,23 +247,23 @@ openings =
 -- the declared answers, by 01's numbers
 pub answers : List (Reply × Reply)
 answers =
-    (told (Accepted 7), accepted 7)
-    ∷ (told (Refused MalformedTable), refused 1 0 0)
-    ∷ (told (Refused MalformedListing), refused 2 0 0)
-    ∷ (told (Refused (MalformedPath 1)), refused 3 1 0)
-    ∷ (told (Refused (LinkOrRoot 1 9)), refused 4 1 9)
-    ∷ (told (Refused (NotFound 1 9)), refused 5 1 9)
-    ∷ (told (Refused (Exists 1 9)), refused 6 1 9)
-    ∷ (told (Refused (NotADirectory 1 9)), refused 7 1 9)
-    ∷ (told (Refused (IsADirectory 1 9)), refused 8 1 9)
-    ∷ (told (Refused (NotEmpty 1 9)), refused 9 1 9)
-    ∷ (told (Refused (BelowSource 9)), refused 10 0 9)
-    ∷ (told (Refused Limit), refused 11 0 0)
-    ∷ (told (Refused KeyTooLong), refused 12 0 0)
-    ∷ (told (Refused NoRoom), refused 13 0 0)
-    ∷ (told_finding Yes, accepted 1)
-    ∷ (told_finding No, accepted 0)
-    ∷ (told_finding (Unanswered MalformedListing), refused 2 0 0)
+    (told (Ok 7), accepted 7)
+    ∷ (told (Err MalformedTable), refused 1 0 0)
+    ∷ (told (Err MalformedListing), refused 2 0 0)
+    ∷ (told (Err (MalformedPath 1)), refused 3 1 0)
+    ∷ (told (Err (LinkOrRoot 1 9)), refused 4 1 9)
+    ∷ (told (Err (NotFound 1 9)), refused 5 1 9)
+    ∷ (told (Err (Exists 1 9)), refused 6 1 9)
+    ∷ (told (Err (NotADirectory 1 9)), refused 7 1 9)
+    ∷ (told (Err (IsADirectory 1 9)), refused 8 1 9)
+    ∷ (told (Err (NotEmpty 1 9)), refused 9 1 9)
+    ∷ (told (Err (BelowSource 9)), refused 10 0 9)
+    ∷ (told (Err Limit), refused 11 0 0)
+    ∷ (told (Err KeyTooLong), refused 12 0 0)
+    ∷ (told (Err NoRoom), refused 13 0 0)
+    ∷ (told_finding (Ok true), accepted 1)
+    ∷ (told_finding (Ok false), accepted 0)
+    ∷ (told_finding (Err MalformedListing), refused 2 0 0)
     ∷ []
 
 -- E, a table buffer's length, and whether both are allowed: 16 MiB is, a byte more is not

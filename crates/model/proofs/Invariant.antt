@@ -9,32 +9,32 @@ use Rattle.model.specs.Path.{Path, is_path, below, ancestors}
 use Rattle.model.specs.Map.{lookup, put}
 use Rattle.model.specs.Tree.{Body, listed, Node, dir, file, link, Entry, own, reference, directory, deleted, Table, Tree, View, view, over, shown, Kind, nothing, a_directory, a_file, a_link, kind_of, kind}
 use Rattle.model.specs.Checks.{Check, pass, refuse, ◌then◌, unless, form, parent_at, parents_in}
-use Rattle.model.proofs.Orders.{split, Split, below_irrefl, eqb_eq, eqb_true, same_no, and_true, bot, is_none_lem, is_some, opt}
+use Rattle.model.proofs.Orders.{split, Split, below_irrefl, eqb_eq, eqb_true, same_no, and_true, bot, has_none, is_some, opt}
 use Rattle.model.proofs.Maps.{upd, lookup_put, or_else}
 
 pub data NodeAt (o : Option Node) : Type 0 where
   no_node : o ≡ none → NodeAt o
   a_dir : (m : ℕ) → o ≡ some (dir m) → NodeAt o
-  a_file_lem : (m s : ℕ) (d : Body) → o ≡ some (file m s d) → NodeAt o
-  a_link_lem : o ≡ some link → NodeAt o
+  file_node : (m s : ℕ) (d : Body) → o ≡ some (file m s d) → NodeAt o
+  link_node : o ≡ some link → NodeAt o
 
 pub node_at : (o : Option Node) → NodeAt o
 node_at none = no_node refl
 node_at (some (dir m)) = a_dir m refl
-node_at (some (file m s d)) = a_file_lem m s d refl
-node_at (some link) = a_link_lem refl
+node_at (some (file m s d)) = file_node m s d refl
+node_at (some link) = link_node refl
 
 pub data KindIs (k : Kind) : Type 0 where
-  is_nothing_lem : k ≡ nothing → KindIs k
-  is_directory_lem : k ≡ a_directory → KindIs k
-  is_file_lem : k ≡ a_file → KindIs k
-  is_link' : k ≡ a_link → KindIs k
+  nothing_is : k ≡ nothing → KindIs k
+  directory_is : k ≡ a_directory → KindIs k
+  file_is : k ≡ a_file → KindIs k
+  link_is : k ≡ a_link → KindIs k
 
 pub kind_is : (k : Kind) → KindIs k
-kind_is nothing = is_nothing_lem refl
-kind_is a_directory = is_directory_lem refl
-kind_is a_file = is_file_lem refl
-kind_is a_link = is_link' refl
+kind_is nothing = nothing_is refl
+kind_is a_directory = directory_is refl
+kind_is a_file = file_is refl
+kind_is a_link = link_is refl
 
 -- whatever is there stands in directories
 abbrev pub Closed : View → Type 0
@@ -47,7 +47,7 @@ closed_above f c [] h q b = absurd (no_root q b)
     no_root : (q : Path) → below q [] ≡ true → ⊥
     no_root [] b = bot (cc)
     no_root (x ∷ q) b = bot (cc)
-closed_above f c (x ∷ p) h q b = elim (opt (f (x ∷ p))) [ is_none_lem e ↦ absurd (h (cc)) | is_some n e ↦ c q (x ∷ p) n b e ]
+closed_above f c (x ∷ p) h q b = elim (opt (f (x ∷ p))) [ has_none e ↦ absurd (h (cc)) | is_some n e ↦ c q (x ∷ p) n b e ]
 
 -- #112's five rules in the form that the proofs use; specs/Rules.antt has them as written
 pub record Inv (t : Table) (l : Tree) : Type 0 where
@@ -182,10 +182,10 @@ module _ (t t' : Table) (l : Tree) (E : Path → Option Entry) (H : (q : Path) �
   inv_over i c u r d o = record {
     closed = subst⁻¹ Closed shown_over c;
     uncovered = λ k h. cc (H k, u k h, i.uncovered k h);
-    refs = λ k m s p h. elim (opt (E k)) [ is_none_lem e ↦ i.refs k m s p (cc (H k)) | is_some x e ↦ r k m s p (cc (H k)) ];
+    refs = λ k m s p h. elim (opt (E k)) [ has_none e ↦ i.refs k m s p (cc (H k)) | is_some x e ↦ r k m s p (cc (H k)) ];
     dirs = λ k m j q n h g b y z. elim (opt (E q)) [
       | is_some x e ↦ bot (cc (H q))
-      | is_none_lem e ↦ elim (opt (E k)) [ is_none_lem e' ↦ i.dirs k m j q n (cc (H k)) g b y (cc (H q)) | is_some x e' ↦ d k m j q n (cc (H k)) g b y e (cc (H q)) ]
+      | has_none e ↦ elim (opt (E k)) [ has_none e' ↦ i.dirs k m j q n (cc (H k)) g b y (cc (H q)) | is_some x e' ↦ d k m j q n (cc (H k)) g b y e (cc (H q)) ]
     ];
     rootless = cc (H [], o, i.rootless);
   }

@@ -6,7 +6,7 @@ use mathlib.Core.Option.{Option, none, some}
 use Rattle.model.specs.Bytes.{every, same, before}
 use Rattle.model.specs.Path.{Path, rest}
 use Rattle.model.specs.Map.{Map, by_rest, lookup, ascends, put, puts, del, only, each, keys, rekey, outside, mapped}
-use Rattle.model.proofs.Orders.{Lt, Lt_irrefl, Lt_trans, Lt-≢, same_no, same_refl, Split, split, Cmp, cmp, mem, rest_is, rest_app, is_none_lem, is_some, opt, bot, yea, nay, test, and_true}
+use Rattle.model.proofs.Orders.{Lt, Lt_irrefl, Lt_trans, Lt-≢, same_no, same_refl, Split, split, Cmp, cmp, mem, rest_is, rest_app, has_none, is_some, opt, bot, yea, nay, test, and_true}
 
 module _ {A : Type 0} where
   -- what a function is after its value at k was set
@@ -120,35 +120,35 @@ module _ {A : Type 0} where
       either false c o = refl
 
   pub lookup_outside : (a : Path) (xs : Map A) (q : Path) → lookup (outside a xs) q ≡ by_rest (rest a q) (λ s. none) (lookup xs q)
-  lookup_outside a [] q = elim (opt (rest a q)) [ is_none_lem e ↦ cc | is_some s e ↦ cc ]
+  lookup_outside a [] q = elim (opt (rest a q)) [ has_none e ↦ cc | is_some s e ↦ cc ]
   lookup_outside a (x ∷ xs) q =
       let ih = lookup_outside a xs q in
       elim (split x.0 q) [
-        | Split.eq e w ↦ elim (opt (rest a q)) [ is_none_lem f ↦ cc | is_some s f ↦ cc ]
-        | Split.ne e w ↦ elim (opt (rest a x.0)) [ is_none_lem f ↦ elim (opt (rest a q)) [ is_none_lem u ↦ cc | is_some s u ↦ cc ] | is_some s f ↦ cc ]
+        | Split.eq e w ↦ elim (opt (rest a q)) [ has_none f ↦ cc | is_some s f ↦ cc ]
+        | Split.ne e w ↦ elim (opt (rest a x.0)) [ has_none f ↦ elim (opt (rest a q)) [ has_none u ↦ cc | is_some s u ↦ cc ] | is_some s f ↦ cc ]
       ]
 
   above_outside : (a k : Path) (xs : Map A) → Above k xs → Ascending xs → Above k (outside a xs)
   above_outside a k [] h c = tt
-  above_outside a k (x ∷ xs) h c = let ih = above_outside a k xs (above_trans k x.0 xs h c.0) c.1 in elim (opt (rest a x.0)) [ is_none_lem e ↦ rw e h | is_some r e ↦ rw e ih ]
+  above_outside a k (x ∷ xs) h c = let ih = above_outside a k xs (above_trans k x.0 xs h c.0) c.1 in elim (opt (rest a x.0)) [ has_none e ↦ rw e h | is_some r e ↦ rw e ih ]
 
   pub ascending_outside : (a : Path) (xs : Map A) → Ascending xs → Ascending (outside a xs)
   ascending_outside a [] c = tt
-  ascending_outside a (x ∷ xs) c = let ih = ascending_outside a xs c.1 in elim (opt (rest a x.0)) [ is_none_lem e ↦ rw e (above_outside a x.0 xs c.0 c.1, ih) | is_some r e ↦ rw e ih ]
+  ascending_outside a (x ∷ xs) c = let ih = ascending_outside a xs c.1 in elim (opt (rest a x.0)) [ has_none e ↦ rw e (above_outside a x.0 xs c.0 c.1, ih) | is_some r e ↦ rw e ih ]
 
   pub lookup_rekey : (a b : Path) (xs : Map A) (q : Path) → lookup (rekey a b xs) q ≡ by_rest (rest b q) (λ s. lookup xs (a ++ s)) none
-  lookup_rekey a b [] q = elim (opt (rest b q)) [ is_none_lem e ↦ cc | is_some s e ↦ cc ]
+  lookup_rekey a b [] q = elim (opt (rest b q)) [ has_none e ↦ cc | is_some s e ↦ cc ]
   lookup_rekey a b (x ∷ xs) q =
       let ih = lookup_rekey a b xs q in
       elim (opt (rest a x.0)) [
-        | is_none_lem f ↦ elim (opt (rest b q)) [
-          | is_none_lem e ↦ cc
+        | has_none f ↦ elim (opt (rest b q)) [
+          | has_none e ↦ cc
           | is_some s e ↦ cc (same_no x.0 (a ++ s) (λ z. bot (cc (rest_app a s (rest_is b q s e).1))))
         ]
         | is_some r f ↦ let t = rest_is a x.0 r f in let u = rest_app b r t.1 in elim (split (b ++ r) q) [
           | Split.eq z w ↦ cc (t.0, same_refl x.0)
           | Split.ne z w ↦ elim (opt (rest b q)) [
-            | is_none_lem e ↦ cc
+            | has_none e ↦ cc
             | is_some s e ↦ let v = rest_is b q s e in cc (same_no x.0 (a ++ s) (λ y. z (cc (rest_app a s v.1, v.0))))
           ]
         ]

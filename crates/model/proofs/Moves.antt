@@ -12,10 +12,10 @@ use Rattle.model.specs.Tree.{Body, listed, Node, dir, file, link, Entry, own, re
 use Rattle.model.specs.Tree.{Kind, nothing, a_directory, a_file, a_link, kind_of, kind, is_directory}
 use Rattle.model.specs.Rename.{stops, as_entry, uncovered, along, carried, moved}
 use Rattle.model.specs.Plain.{plain_move}
-use Rattle.model.proofs.Orders.{split, Split, same_no, same_refl, bot, yea, nay, test, is_none_lem, is_some, opt, mem, mem_ancestors}
+use Rattle.model.proofs.Orders.{split, Split, same_no, same_refl, bot, yea, nay, test, has_none, is_some, opt, mem, mem_ancestors}
 use Rattle.model.proofs.Orders.{rest_is, rest_app, rest_self, below_rest, rest_below, rest_nil, inside_down, below_split, below_moved}
 use Rattle.model.proofs.Maps.{upd, or_else, map_o, lookup_puts, lookup_rekey, lookup_outside, lookup_del, lookup_keys, lookup_mapped, lookup_only}
-use Rattle.model.proofs.Invariant.{node_at, no_node, a_dir, a_file_lem, a_link_lem}
+use Rattle.model.proofs.Invariant.{node_at, no_node, a_dir, file_node, link_node}
 use Rattle.model.proofs.Invariant.{entry_at, at_none, at_own, at_reference, at_directory, at_deleted, Closed, Inv, shown_over, inv_over, kind_at, kind_entry}
 
 -- the tree after a was moved to b
@@ -42,7 +42,7 @@ append_root (x ∷ a) s h e = bot (cc)
 
 module _ (f : View) (a b : Path) (o : RenameOk f a b) (c : Closed f) where
   not_under : below b a ≡ true → ⊥
-  not_under h = elim (opt (f a)) [ is_none_lem e ↦ o.found e | is_some n e ↦ o.free a n h e ]
+  not_under h = elim (opt (f a)) [ has_none e ↦ o.found e | is_some n e ↦ o.free a n h e ]
 
   move_kind : (q : Path) (x : Option Node) → (q ≡ [] → ⊥) → move_view a b f q ≡ x → kind (move_view a b f) q ≡ kind_of x
   move_kind q x r e = kind_at (move_view a b f) q x e r
@@ -56,19 +56,19 @@ module _ (f : View) (a b : Path) (o : RenameOk f a b) (c : Closed f) where
     | is_some r e ↦ elim (opt (rest b q)) [
       | is_some s d ↦ move_kind q (f (a ++ s)) (λ z. append_root b s o.target (sym (rest_is b q s d).0 ∙ z)) (cc) ∙ sym (kind_at f (a ++ s) (f (a ++ s)) refl (append_root a s o.source))
           ∙ c (a ++ s) (a ++ r) n (below_moved a b q k s r d e h) (cc)
-      | is_none_lem d ↦ let u = below_split b q k r e h d in move_out q d (out q u) ∙ o.up q u
+      | has_none d ↦ let u = below_split b q k r e h d in move_out q d (out q u) ∙ o.up q u
     ]
-    | is_none_lem e ↦ elim (opt (rest a k)) [
+    | has_none e ↦ elim (opt (rest a k)) [
       | is_some r d ↦ cc
-      | is_none_lem d ↦ move_out q (above b e) (above a d) ∙ c q k n h (cc)
+      | has_none d ↦ move_out q (above b e) (above a d) ∙ c q k n h (cc)
     ]
   ]
     where
       above : (p : Path) → rest p k ≡ none → rest p q ≡ none
-      above p e = elim (opt (rest p q)) [ is_none_lem z ↦ z | is_some s z ↦ cc (below_rest p k (inside_down p q k s z h)).1 ]
+      above p e = elim (opt (rest p q)) [ has_none z ↦ z | is_some s z ↦ cc (below_rest p k (inside_down p q k s z h)).1 ]
 
       out : (q : Path) → below q b ≡ true → rest a q ≡ none
-      out q u = elim (opt (rest a q)) [ is_none_lem z ↦ z | is_some s z ↦ absurd (o.apart (inside_down a q b s z u)) ]
+      out q u = elim (opt (rest a q)) [ has_none z ↦ z | is_some s z ↦ absurd (o.apart (inside_down a q b s z u)) ]
 
 -- a listed file is held by its own path
 abbrev pub Held : Tree → Type 0
@@ -80,7 +80,7 @@ gone_in o = map_o (λ x. deleted) o
 -- a listed path without an entry has no entry above it
 pub entry_free : (t : Table) (l : Tree) → Closed (lookup l) → Inv t l → (p q : Path) (n : Node) → below p q ≡ true → lookup l q ≡ some n → lookup t q ≡ none → lookup t p ≡ none
 entry_free t l cl i p q n b h z = elim (opt (lookup t p)) [
-  | is_none_lem e ↦ e
+  | has_none e ↦ e
   | is_some x e ↦ let k = i.closed p q n b (cc) in let c = cl p q n b h in let w = kind_entry t l i p x e in absurd (elim (entry_at (some x)) [
     | at_none u ↦ bot (cc)
     | at_own m d u ↦ bot (cc)
@@ -88,8 +88,8 @@ entry_free t l cl i p q n b h z = elim (opt (lookup t p)) [
     | at_deleted u ↦ bot (cc)
     | at_directory m u ↦ elim (node_at (lookup l p)) [
       | no_node v ↦ bot (cc (kind_at (lookup l) p none v (λ r. bot (cc i.rootless))))
-      | a_file_lem f g j v ↦ bot (cc (kind_at (lookup l) p (some (file f g j)) v (λ r. bot (cc i.rootless))))
-      | a_link_lem v ↦ bot (cc (kind_at (lookup l) p (some link) v (λ r. bot (cc i.rootless))))
+      | file_node f g j v ↦ bot (cc (kind_at (lookup l) p (some (file f g j)) v (λ r. bot (cc i.rootless))))
+      | link_node v ↦ bot (cc (kind_at (lookup l) p (some link) v (λ r. bot (cc i.rootless))))
       | a_dir j v ↦ i.dirs p m j q n (cc) v b h z
     ]
   ])
@@ -166,7 +166,7 @@ module _ (t : Table) (l : Tree) (held' : Held l) (cl : Closed (lookup l)) (i : I
   M_none : (q s : Path) → rest a q ≡ some s → M q ≡ none → shown t l q ≡ none
   M_none q s r h = elim (test (along (kind (shown t l) a) a q)) [
     | yea z ↦ none_from (along (kind (shown t l) a) a q) (lookup t q) (lookup l q) z (sym (M_is q) ∙ h)
-    | nay z ↦ elim (opt (shown t l q)) [ is_none_lem e ↦ e | is_some n e ↦ absurd (left s n r z e) ]
+    | nay z ↦ elim (opt (shown t l q)) [ has_none e ↦ e | is_some n e ↦ absurd (left s n r z e) ]
   ]
     where
       left : (s : Path) (n : Node) → rest a q ≡ some s → along (kind (shown t l) a) a q ≡ false → shown t l q ≡ some n → ⊥
@@ -220,18 +220,18 @@ module _ (t : Table) (l : Tree) (held' : Held l) (cl : Closed (lookup l)) (i : I
   -- nothing else is visible at or below the target
   at_target : (q s : Path) → rest b q ≡ some s → M (a ++ s) ≡ none → shown t l q ≡ none
   at_target q [] h m = absurd (o.found (M_none a [] (rest_self a) (subst (λ (z : Path). M z ≡ none) (append-nil a) m)))
-  at_target q (x ∷ s) h m = elim (opt (shown t l q)) [ is_none_lem e ↦ e | is_some n e ↦ absurd (o.free q n (rest_below b q x s h) e) ]
+  at_target q (x ∷ s) h m = elim (opt (shown t l q)) [ has_none e ↦ e | is_some n e ↦ absurd (o.free q n (rest_below b q x s h) e) ]
 
   move_shown : (q : Path) → over (E q) (shown t l q) ≡ move_view a b (shown t l) q
   unfolding E
   move_shown q = elim (opt (rest b q)) [
     | is_some s e ↦ let v = rest_is b q s e in let r = rest_app a s v.1 in elim (opt (M (a ++ s))) [
       | is_some x d ↦ cc (M_some (a ++ s) s x r d)
-      | is_none_lem d ↦ let z = M_none (a ++ s) s r d in elim (opt (M q)) [ is_none_lem g ↦ cc (at_target q s e d) | is_some y g ↦ cc ]
+      | has_none d ↦ let z = M_none (a ++ s) s r d in elim (opt (M q)) [ has_none g ↦ cc (at_target q s e d) | is_some y g ↦ cc ]
     ]
-    | is_none_lem e ↦ elim (opt (rest a q)) [
-      | is_none_lem r ↦ cc (M_out q r)
-      | is_some u r ↦ elim (opt (M q)) [ is_none_lem d ↦ cc (M_none q u r d) | is_some x d ↦ cc ]
+    | has_none e ↦ elim (opt (rest a q)) [
+      | has_none r ↦ cc (M_out q r)
+      | is_some u r ↦ elim (opt (M q)) [ has_none d ↦ cc (M_none q u r d) | is_some x d ↦ cc ]
     ]
   ]
 
@@ -243,9 +243,9 @@ module _ (t : Table) (l : Tree) (held' : Held l) (cl : Closed (lookup l)) (i : I
   E_some : (q : Path) (x : Entry) → E q ≡ some x → ((s : Path) × (rest b q ≡ some s) × (M (a ++ s) ≡ some x)) ⊎ (x ≡ deleted)
   unfolding E
   E_some q x h = elim (opt (rest b q)) [
-    | is_none_lem e ↦ inr (gone_not (M q) x (cc))
+    | has_none e ↦ inr (gone_not (M q) x (cc))
     | is_some s e ↦ elim (opt (M (a ++ s))) [
-      | is_none_lem d ↦ inr (gone_not (M q) x (cc))
+      | has_none d ↦ inr (gone_not (M q) x (cc))
       | is_some y d ↦ inl (s, e, cc)
     ]
   ]
@@ -255,7 +255,7 @@ module _ (t : Table) (l : Tree) (held' : Held l) (cl : Closed (lookup l)) (i : I
   E_outside q u v = cc (M_out q u)
 
   outside_link : (k : Path) → shown t l k ≡ some link → (rest a k ≡ none) × (rest b k ≡ none)
-  outside_link k h = (elim (opt (rest a k)) [ is_none_lem e ↦ e | is_some s e ↦ absurd (o.unstopped k s link e h refl) ], elim (opt (rest b k)) [ is_none_lem e ↦ e | is_some s e ↦ absurd (no s e) ])
+  outside_link k h = (elim (opt (rest a k)) [ has_none e ↦ e | is_some s e ↦ absurd (o.unstopped k s link e h refl) ], elim (opt (rest b k)) [ has_none e ↦ e | is_some s e ↦ absurd (no s e) ])
     where
       no : (s : Path) → rest b k ≡ some s → ⊥
       no [] e = o.target_link (cc (rest_nil b k e))
@@ -291,7 +291,7 @@ module _ (f : View) (a b : Path) (o : RenameOk f a b) (q : Path) where
 
   bare : (r : Path) → rest b q ≡ some r → (b ≡ q → ⊥) → f q ≡ none
   bare [] d h = absurd (h (rest_nil b q d))
-  bare (x ∷ r) d h = elim (opt (f q)) [ is_none_lem z ↦ z | is_some n z ↦ absurd (o.free q n (rest_below b q x r d) z) ]
+  bare (x ∷ r) d h = elim (opt (f q)) [ has_none z ↦ z | is_some n z ↦ absurd (o.free q n (rest_below b q x r d) z) ]
 
   -- nothing is left at the target or below it
   emptied : (r : Path) → rest b q ≡ some r → upd f b none q ≡ none
@@ -334,14 +334,14 @@ module _ (t : Table) (l : Tree) (i : Inv t l) (a b : Path) where
   kind_link p r h = elim (node_at (shown t l p)) [
     | no_node e ↦ cc (kind_at (shown t l) p none e r)
     | a_dir m e ↦ cc (kind_at (shown t l) p (some (dir m)) e r)
-    | a_file_lem m s d e ↦ cc (kind_at (shown t l) p (some (file m s d)) e r)
-    | a_link_lem e ↦ e
+    | file_node m s d e ↦ cc (kind_at (shown t l) p (some (file m s d)) e r)
+    | link_node e ↦ e
   ]
 
   pub kind_absent : (p : Path) → (p ≡ [] → ⊥) → kind (shown t l) p ≡ nothing → shown t l p ≡ none
   kind_absent p r h = elim (node_at (shown t l p)) [
     | no_node e ↦ e
     | a_dir m e ↦ cc (kind_at (shown t l) p (some (dir m)) e r)
-    | a_file_lem m s d e ↦ cc (kind_at (shown t l) p (some (file m s d)) e r)
-    | a_link_lem e ↦ cc (kind_at (shown t l) p (some link) e r)
+    | file_node m s d e ↦ cc (kind_at (shown t l) p (some (file m s d)) e r)
+    | link_node e ↦ cc (kind_at (shown t l) p (some link) e r)
   ]

@@ -213,11 +213,11 @@ below_trans (x ∷ a) (y ∷ b) (z ∷ c) h k =
     cc (eqb_eq x y e.0, below_trans a b c e.1 f.1)
 
 pub data Opt {A : Type 0} (o : Option A) : Type 0 where
-  is_none_lem : o ≡ none → Opt o
+  has_none : o ≡ none → Opt o
   is_some : (a : A) → o ≡ some a → Opt o
 
 pub opt : {A : Type 0} (o : Option A) → Opt o
-opt none = is_none_lem refl
+opt none = has_none refl
 opt (some a) = is_some a refl
 
 pub rest_is : (a k r : Path) → rest a k ≡ some r → (k ≡ a ++ r) × (ends_here r ≡ true)

@@ -14,9 +14,9 @@ use Rattle.model.specs.Map.{lookup}
 use Rattle.model.specs.Tree.{Node, dir, file, link, Entry, own, reference, directory, deleted, Table, Tree}
 use Rattle.model.specs.Tree.{view, shown, a_directory, kind_of, kind}
 use Rattle.model.specs.Rules.{Rules}
-use Rattle.model.proofs.Orders.{bot, yea, nay, test, is_none_lem, is_some, opt, and_true, eqb_true}
+use Rattle.model.proofs.Orders.{bot, yea, nay, test, has_none, is_some, opt, and_true, eqb_true}
 use Rattle.model.proofs.Invariant.{Closed, Inv, kind_at, entry_at, at_none, at_own, at_reference, at_directory, at_deleted}
-use Rattle.model.proofs.Invariant.{kind_is, is_nothing_lem, is_directory_lem, is_file_lem, is_link', node_at, no_node, a_dir, a_file_lem, a_link_lem}
+use Rattle.model.proofs.Invariant.{kind_is, nothing_is, directory_is, file_is, link_is, node_at, no_node, a_dir, file_node, link_node}
 
 pub below_length : (k q : Path) → below k q ≡ true → length k < length q
 below_length [] [] h = absurd (bot (cc))
@@ -69,11 +69,11 @@ module _ (t : Table) (l : Tree) (c : Closed (lookup l)) (r : Rules t l) (root : 
   rules_closed : Closed (shown t l)
   rules_closed q k n b h = elim (opt (lookup t k)) [
     | is_some e z ↦ r.parents k e n q z (cc) b
-    | is_none_lem z ↦ elim (kind_is (kind (shown t l) q)) [
-      | is_directory_lem y ↦ y
-      | is_nothing_lem y ↦ absurd (r.hidden k n q (cc) b (λ w. bot (cc)) z)
-      | is_file_lem y ↦ absurd (r.hidden k n q (cc) b (λ w. bot (cc)) z)
-      | is_link' y ↦ absurd (r.hidden k n q (cc) b (λ w. bot (cc)) z)
+    | has_none z ↦ elim (kind_is (kind (shown t l) q)) [
+      | directory_is y ↦ y
+      | nothing_is y ↦ absurd (r.hidden k n q (cc) b (λ w. bot (cc)) z)
+      | file_is y ↦ absurd (r.hidden k n q (cc) b (λ w. bot (cc)) z)
+      | link_is y ↦ absurd (r.hidden k n q (cc) b (λ w. bot (cc)) z)
     ]
   ]
 
@@ -97,8 +97,8 @@ module _ (t : Table) (l : Tree) (c : Closed (lookup l)) (r : Rules t l) (root : 
           let x = c d q n p.2 y in
           elim (node_at (lookup l d)) [
             | no_node e ↦ bot (cc (kind_at (lookup l) d none e s))
-            | a_file_lem i v u e ↦ bot (cc (kind_at (lookup l) d (some (file i v u)) e s))
-            | a_link_lem e ↦ bot (cc (kind_at (lookup l) d (some link) e s))
+            | file_node i v u e ↦ bot (cc (kind_at (lookup l) d (some (file i v u)) e s))
+            | link_node e ↦ bot (cc (kind_at (lookup l) d (some link) e s))
             | a_dir i e ↦ elim (entry_at (lookup t d)) [
               | at_none v ↦ r.children k m j d (dir i) h g p.1 e v
               | at_directory v u ↦ ih d v i (omega arith) u e p.2

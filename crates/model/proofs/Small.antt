@@ -13,7 +13,7 @@ use Rattle.model.specs.Tree.{Node, dir, file, link, Entry, own, reference, direc
 use Rattle.model.specs.Tree.{Kind, nothing, a_directory, a_file, a_link, kind_of, kind, is_nothing}
 use Rattle.model.specs.Checks.{Check, pass, ◌then◌, parent_checks, write_at, write_checks, ancestor_at, ancestors_in, mkdir_at, mkdir_parents, missing, makes}
 use Rattle.model.specs.Checks.{unlink_at, unlink_checks, not_root, visible_child, no_visible_child, directory_at, rmdir_entry, rmdir_checks}
-use Rattle.model.proofs.Orders.{split, Split, and_true, bot, yea, nay, test, is_none_lem, is_some, opt, mem, mem_ancestors, below_trans}
+use Rattle.model.proofs.Orders.{split, Split, and_true, bot, yea, nay, test, has_none, is_some, opt, mem, mem_ancestors, below_trans}
 use Rattle.model.proofs.Maps.{or_else, lookup_puts, lookup_each}
 use Rattle.model.proofs.Invariant.{entry_at, at_none, at_own, at_reference, at_directory, at_deleted, Closed, closed_above, Inv, kind_at, kind_entry, then_pass, parents_dirs, parents_pass, inv_put, inv_over}
 use Rattle.model.proofs.Rules.{child_below, child_root, way}
@@ -210,7 +210,7 @@ module _ (t : Table) (l : Tree) (p : Path) (w : ℕ) where
           | yea r' ↦ bot (cc)
           | nay r' ↦ elim (opt (lookup t q)) [
             | is_some e y ↦ visible_none (shown t l) p (keys t) r q (lookup_mem t q e y) c v
-            | is_none_lem y ↦ visible_none (shown t l) p (keys l) r' q (lookup_mem l q x (cc)) c v
+            | has_none y ↦ visible_none (shown t l) p (keys l) r' q (lookup_mem l q x (cc)) c v
           ]
         ]
       ]
@@ -220,14 +220,14 @@ module _ (t : Table) (l : Tree) (p : Path) (w : ℕ) where
     | inl c ↦ childless h q x c g
     | inr z ↦ elim (opt (shown t l z.0)) [
       | is_some y e ↦ childless h z.0 y z.1 e
-      | is_none_lem e ↦ bot (cc (cl z.0 q x z.2 g, kind_at (shown t l) z.0 none e (child_root p z.0 z.1)))
+      | has_none e ↦ bot (cc (cl z.0 q x z.2 g, kind_at (shown t l) z.0 none e (child_root p z.0 z.1)))
     ]
   ]
 
   pub empty_childless : ((q : Path) (x : Node) → below p q ≡ true → shown t l q ≡ some x → ⊥) → no_visible_child w t l p ≡ pass
   empty_childless h =
       let v : (q : Path) → child p q ≡ true → is_nothing (kind (shown t l) q) ≡ true = λ q c. elim (opt (shown t l q)) [
-        | is_none_lem e ↦ cc (kind_at (shown t l) q none e (child_root p q c))
+        | has_none e ↦ cc (kind_at (shown t l) q none e (child_root p q c))
         | is_some x e ↦ absurd (h q x (child_below p q c) e)
       ] in
       cc (none_visible (shown t l) p (keys t) v, none_visible (shown t l) p (keys l) v)

@@ -17,7 +17,7 @@ use Rattle.model.specs.Rename.{Stop, at_link, stops, Walk, sum, over_budget, sto
 use Rattle.model.proofs.Orders.{bot, yea, nay, test, and_true, eqb_eq, split, Split, mem, same_refl, below_trans}
 use Rattle.model.proofs.Maps.{Ascending, lookup_low, lookup_only, ascending_only}
 use Rattle.model.proofs.Texts.{on_first_length}
-use Rattle.model.proofs.Invariant.{Closed, kind_at, node_at, no_node, a_dir, a_file_lem, a_link_lem}
+use Rattle.model.proofs.Invariant.{Closed, kind_at, node_at, no_node, a_dir, file_node, link_node}
 use Rattle.model.proofs.Rules.{child_below, child_root, way}
 
 -- how deep a path stands
@@ -265,8 +265,8 @@ module _ (t : Table) (l : Tree) where
             let o = child_root d p z.1 in
             elim (node_at (lookup l p)) [
               | no_node v ↦ bot (cc (kind_at (lookup l) p none v o))
-              | a_file_lem m a r v ↦ bot (cc (kind_at (lookup l) p (some (file m a r)) v o))
-              | a_link_lem v ↦ bot (cc (kind_at (lookup l) p (some link) v o))
+              | file_node m a r v ↦ bot (cc (kind_at (lookup l) p (some (file m a r)) v o))
+              | link_node v ↦ bot (cc (kind_at (lookup l) p (some link) v o))
               | a_dir m v ↦
                   let a = found_in (children t l d) [] p m (in_children d p (dir m) z.1 (g p i z.2) v) in
                   let r = enter_sum (walk n t l b) (walk_ended n) (last_first (children t l d) []) (visits b w (children t l d)) s h p a in

@@ -1,14 +1,10 @@
 -- What an answer says: document 01's number and values for each case of the declared answer types.
-use Rattle.std.specs.Prelude.{ℕ}
+use Rattle.std.specs.Prelude.{ℕ, Bool, true, false, Result, Ok, Err}
 use Rattle.model.specs.declared.Refusal.{Refusal}
 use Rattle.model.specs.declared.Refusal.TheVariants.{MalformedTable, MalformedListing, MalformedPath, LinkOrRoot}
 use Rattle.model.specs.declared.Refusal.TheVariants.{NotFound, Exists, NotADirectory, IsADirectory, NotEmpty}
 use Rattle.model.specs.declared.Refusal.TheVariants.{BelowSource, Limit, KeyTooLong, NoRoom, LentCount}
 use Rattle.model.specs.declared.Refusal.TheVariants.{RangeTooLarge}
-use Rattle.model.specs.declared.Answer.{Answer}
-use Rattle.model.specs.declared.Answer.TheVariants.{Accepted, Refused}
-use Rattle.model.specs.declared.Finding.{Finding}
-use Rattle.model.specs.declared.Finding.TheVariants.{Yes, No, Unanswered}
 
 -- accepted with a value, or refused with a number, a path and a length
 pub data Reply : Type 0 where
@@ -34,11 +30,11 @@ told_refusal LentCount = refused 17 0 0
 told_refusal RangeTooLarge = refused 18 0 0
 
 -- a changing call's answer; a query's, 1 for yes and 0 for no
-abbrev pub told : Answer → Reply
-told (Accepted v) = accepted v
-told (Refused r) = told_refusal r
+abbrev pub told : Result ℕ Refusal → Reply
+told (Ok v) = accepted v
+told (Err r) = told_refusal r
 
-abbrev pub told_finding : Finding → Reply
-told_finding Yes = accepted 1
-told_finding No = accepted 0
-told_finding (Unanswered r) = told_refusal r
+abbrev pub told_finding : Result Bool Refusal → Reply
+told_finding (Ok true) = accepted 1
+told_finding (Ok false) = accepted 0
+told_finding (Err r) = told_refusal r

@@ -4,7 +4,7 @@
 #![tactic(auto)]
 
 // "The record by value holds bytes used, count, charge and E".
-#[derive(Clone, Copy)]
+#[derive(Clone, Copy, Debug, PartialEq, Eq)]
 pub struct Record {
     pub used: u64,
     pub count: u64,
@@ -14,7 +14,7 @@ pub struct Record {
 
 // Document 01, "Turning a call down", row by row, then 17 and 18 of #103: a path is 0 (only, or source) or 1
 // (destination), and comes before a length.
-#[derive(Clone, Copy)]
+#[derive(Clone, Copy, Debug, PartialEq, Eq)]
 pub enum Refusal {
     MalformedTable,
     MalformedListing,
@@ -35,22 +35,13 @@ pub enum Refusal {
 
 // A changing call's answer: accepted with a value (the data's length for write, append and writing inside,
 // else 0), or refused.
-#[derive(Clone, Copy)]
-pub enum Answer {
-    Accepted(u64),
-    Refused(Refusal),
-}
+pub type Answer = Result<u64, Refusal>;
 
-// A query's answer.
-#[derive(Clone, Copy)]
-pub enum Finding {
-    Yes,
-    No,
-    Unanswered(Refusal),
-}
+// A query's answer: yes or no, or refused.
+pub type Finding = Result<bool, Refusal>;
 
 // A changing call's answer, and the record that it leaves.
-#[derive(Clone, Copy)]
+#[derive(Clone, Copy, Debug, PartialEq, Eq)]
 pub struct Answered {
     pub answer: Answer,
     pub record: Record,

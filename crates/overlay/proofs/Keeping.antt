@@ -17,8 +17,10 @@ use Rattle.model.specs.declared.Record.{Record}
 use Rattle.model.proofs.Codec.{decoded}
 use Rattle.model.proofs.Listings.{checked}
 use Rattle.kept_file.specs.Kept.{file_of, written, ReadBack, read_back, told_writing, told_reading, told_content}
-use Rattle.kept_file.specs.declared.Writing.{Writing}
-use Rattle.kept_file.specs.declared.Reading.{Reading}
+use Rattle.std.specs.Prelude.{Result}
+use Rattle.kept_file.specs.declared.Content.{Content}
+use Rattle.kept_file.specs.declared.WriteError.{WriteError}
+use Rattle.kept_file.specs.declared.ReadError.{ReadError}
 use Rattle.kept_file.proofs.Files.{kept_size}
 use Rattle.kept_file.proofs.RoundTrip.{all_passed}
 use Rattle.overlay_packed.specs.Packed.{packed, Fits, record_in, content_numbers, content_place}
@@ -63,7 +65,7 @@ module _ (l t : Bytes) (n : List ℕ) (o : Bytes) where
   not_written h = not_filled n o (λ r. written l t r o) h
 
   -- the writer answered a, and left o'
-  module _ (h : length n ≡ 4) (r : Record) (e : r ≡ record_in n) (a : Writing) (f : told_writing a ≡ (written l t r o).reply) (o' : Bytes) (g : o' ≡ (written l t r o).output) where
+  module _ (h : length n ≡ 4) (r : Record) (e : r ≡ record_in n) (a : Result ℕ WriteError) (f : told_writing a ≡ (written l t r o).reply) (o' : Bytes) (g : o' ≡ (written l t r o).output) where
     pub writing_fits : Fits (told_writing a)
     writing_fits = subst Fits (sym f) (written_fits l t r o)
 
@@ -91,7 +93,7 @@ module _ (s t : Bytes) (n p : List ℕ) where
   no_place h g = by_lengths true false (is_four_lem n h) (ne_eqb (length p) 2 g)
 
   -- the reader answered a, and left t'
-  pub read_settled : length n ≡ 4 → length p ≡ 2 → (a : Reading) → told_reading a ≡ r.reply → told_content a ≡ r.content → (t' : Bytes) → t' ≡ r.table
+  pub read_settled : length n ≡ 4 → length p ≡ 2 → (a : Result Content ReadError) → told_reading a ≡ r.reply → told_content a ≡ r.content → (t' : Bytes) → t' ≡ r.table
       → (x : ℕ) (m q : List ℕ) → x ≡ packed (told_reading a) → m ≡ content_numbers (told_content a) n → q ≡ content_place (told_content a) p
       → read_left x m q t' ≡ kept_read s t n p
   read_settled h g a f c t' k x m q ex em eq =

@@ -1,6 +1,6 @@
 -- From a call's outcome to what its export answers and leaves; four numbers as a record, and back.
 use mathlib.Core.Path.{◌≡◌, refl, ap, ap₂, sym, ◌∙◌, subst}
-use mathlib.Core.Bool.{Bool, true, false, cond, ◌&&◌}
+use mathlib.Core.Bool.{Bool, true, false, cond}
 use mathlib.Core.List.{List, [], ◌∷◌}
 use Prim.Native.Nat.{ℕ}
 use native.Mathlib.Omega.{arith}
@@ -8,7 +8,7 @@ use lib.ListN.{length, replicate}
 use borrow.Author.Tests.{eq-eqb, ne_eqb}
 use Rattle.model.specs.Bytes.{Bytes}
 use Rattle.model.specs.Path.{Path}
-use Rattle.model.specs.Table.{is_table, sized}
+use Rattle.model.specs.Table.{sized}
 use Rattle.model.specs.Calls.{Query}
 use Rattle.model.specs.Answer.{Reply, accepted, refused, told}
 use Rattle.model.specs.Outcome.{Store, Request, Outcome, outcome, ask, opened}
@@ -41,9 +41,6 @@ chosen {A} s x y h = sym (ap (λ (b : Bool). cond b x y) (is_four_lem s h))
 
 pub otherwise : {A : Type 0} (s : List ℕ) (x y : A) → (length s ≡ 4 → ⊥) → y ≡ cond (is_four s) x y
 otherwise {A} s x y h = sym (ap (λ (b : Bool). cond b x y) (not_four s h))
-
-pub both_tests : (s : List ℕ) (t : Bytes) (r : Record) (b : Bool) → length s ≡ 4 → r ≡ record_in s → b ≡ is_table t r → b ≡ (is_four s && is_table t (record_in s))
-both_tests s t r b h e f = f ∙ ap (is_table t) e ∙ sym (ap (λ (x : Bool). x && is_table t (record_in s)) (is_four_lem s h))
 
 -- a changing call on the table t with the record n
 module _ (l : Bytes) (q : Request) (t : Bytes) (n : List ℕ) where

@@ -18,8 +18,9 @@ use Rattle.model.proofs.Orders.{bot}
 use Rattle.check_judged.specs.Judged.{as_check}
 use Rattle.call_answer.specs.Meets.{stored}
 use Rattle.call_answer.proofs.Settles.{told_as}
-use Rattle.least_rename.specs.declared.Report.{Report}
-use Rattle.least_rename.specs.declared.Report.TheVariants.{Both, Neither, Refused}
+use Rattle.std.specs.Prelude.{Result, Ok, Err, Option, Some, None}
+use Rattle.model.specs.declared.Refusal.{Refusal}
+use Rattle.least_rename.specs.declared.Least.{Least}
 use Rattle.least_rename.specs.Reports.{Reports, told_report}
 use Rattle.overlay_packed.specs.Packed.{packed, Fits, record_in, report_numbers}
 use Rattle.overlay.specs.Exported.{is_two, LeastLeft, not_numbers, reported}
@@ -42,14 +43,14 @@ module _ (l t : Bytes) (n s : List ℕ) (a b : Path) where
   no_least h g = not_numbers (ap₂ (λ (x y : Bool). x && y) (eq-eqb (length n) 4 h) (ne_eqb (length s) 2 g))
 
   -- r is the record that the four numbers are, and x what was reported
-  module _ (r : Record) (e : r ≡ record_in n) (x : Report) (f : Reports l (stored t r) (rename a b) x) where
+  module _ (r : Record) (e : r ≡ record_in n) (x : Result (Option Least) Refusal) (f : Reports l (stored t r) (rename a b) x) where
     pub report_fits : Fits (told_report x)
     report_fits = go x f
       where
-        go : (x : Report) → Reports l (stored t r) (rename a b) x → Fits (told_report x)
-        go (Both m k) f = omega arith
-        go Neither f = omega arith
-        go (Refused y) f =
+        go : (x : Result (Option Least) Refusal) → Reports l (stored t r) (rename a b) x → Fits (told_report x)
+        go (Ok (Some m)) f = omega arith
+        go (Ok None) f = omega arith
+        go (Err y) f =
             let o = told_as y in
             subst⁻¹ Fits o.is (first_fits (is_table t r) (is_listing l) (is_path a) (is_path b) o.number o.path o.len (f ∙ ap as_check o.is))
 

@@ -16,7 +16,8 @@ use Rattle.model.specs.Table.{is_table, table_in}
 use Rattle.model.specs.Checks.{pass, refuse, ◌then◌, unless, directory_at}
 use Rattle.model.specs.Answer.{told}
 use Rattle.model.specs.Output.{written_by}
-use Rattle.model.specs.declared.Answer.{Answer}
+use Rattle.std.specs.Prelude.{Result}
+use Rattle.model.specs.declared.Refusal.{Refusal}
 use Rattle.model.specs.declared.Record.{Record}
 use Rattle.model.proofs.Codec.{decoded, path_short}
 use Rattle.model.proofs.Listings.{checked}
@@ -63,7 +64,7 @@ module _ (l t : Bytes) (n : List ℕ) (p : Path) (o : Bytes) where
   not_shown h = not_filled n o (λ r. showing l t r p o) h
 
   -- showing answered a, and left o'
-  module _ (h : length n ≡ 4) (r : Record) (e : r ≡ record_in n) (a : Answer) (f : told a ≡ (showing l t r p o).reply) (o' : Bytes) (g : o' ≡ (showing l t r p o).output) where
+  module _ (h : length n ≡ 4) (r : Record) (e : r ≡ record_in n) (a : Result ℕ Refusal) (f : told a ≡ (showing l t r p o).reply) (o' : Bytes) (g : o' ≡ (showing l t r p o).output) where
     pub answer_fits : Fits (told a)
     answer_fits = subst Fits (sym f) (showing_fits l t r p o)
 

@@ -1,17 +1,18 @@
 -- What each exported call answers and leaves, for every input. A record that is not four numbers is answered with 1,
 -- and all is left as it was.
-use Rattle.std.specs.Prelude.{◌≡◌, Bool, true, false, cond, ◌&&◌, List, [], ℕ, ◌/◌, ◌%◌, eqb, length}
+use Rattle.std.specs.Prelude.{◌≡◌, Bool, true, false, cond, ◌&&◌, List, [], ℕ, ◌/◌, ◌%◌, eqb, length, Result, Option}
 use Rattle.model.specs.Bytes.{Bytes}
 use Rattle.model.specs.Path.{Path}
 use Rattle.model.specs.Table.{record_of}
 use Rattle.model.specs.Calls.{Call, Query}
 use Rattle.model.specs.Answer.{Reply, accepted, refused}
+use Rattle.model.specs.declared.Refusal.{Refusal}
 use Rattle.model.specs.Output.{Written}
 use Rattle.model.specs.Outcome.{Request, Outcome, outcome, ask, opened}
 use Rattle.call_answer.specs.Meets.{stored}
-use Rattle.run_calls.specs.Runs.{ran_on, ran_new, as_new}
+use Rattle.run_calls.specs.Runs.{ran_on, ran_new}
 use Rattle.show_names.specs.Names.{showing}
-use Rattle.least_rename.specs.declared.Report.{Report}
+use Rattle.least_rename.specs.declared.Least.{Least}
 use Rattle.least_rename.specs.Reports.{Reports, told_report}
 use Rattle.kept_file.specs.Kept.{written, read_back}
 use Rattle.overlay_packed.specs.Packed.{packed, numbers, record_in, ran_number, ran_numbers, content_numbers}
@@ -68,7 +69,7 @@ run_left a n t w o = record { answer = a; rec = n; table = t; work = w; report =
 unfoldable pub script_run : Bytes → Bytes → List ℕ → Bytes → Bytes → Bytes → ScriptLeft
 script_run listing t n work script report =
     let x = ran_on listing (stored t (record_in n)) work script report in
-    let a = as_new x.answer in
+    let a = x.answer in
     cond (is_four n) (run_left (ran_number a) (ran_numbers a n n) x.table x.work x.report)
     (run_left (packed (refused 1 0 0)) n t work report)
 
@@ -124,5 +125,6 @@ kept_read file t n p =
 -- the numbers after it; two numbers that are not two are answered with 1 too
 pub data LeastLeft (listing t : Bytes) (n s : List ℕ) (c : Call) : (answer : ℕ) → List ℕ → Type 0 where
   not_numbers : (is_four n && is_two s) ≡ false → LeastLeft listing t n s c (packed (refused 1 0 0)) s
-  reported : (is_four n && is_two s) ≡ true → (x : Report) → Reports listing (stored t (record_in n)) c x
+  reported : (is_four n && is_two s) ≡ true → (x : Result (Option Least) Refusal)
+      → Reports listing (stored t (record_in n)) c x
       → LeastLeft listing t n s c (packed (told_report x)) (report_numbers x s)

@@ -294,7 +294,7 @@ pub extern "C" fn overlay_run(
     }
     let first = overlay_packed::record_in(&*rec);
     let ran = run_calls::run(listing, table, first, work, script, report);
-    overlay_packed::store_and_pack_run(rec, run_calls::as_new(ran), first)
+    overlay_packed::store_and_pack_run(rec, ran, first)
 }
 
 // Makes the buffer an empty table for entries of this size, and runs the script on it. Where it is done, demand 3 of

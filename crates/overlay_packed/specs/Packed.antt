@@ -1,13 +1,15 @@
 -- An answer in one number, a record as four numbers, where a listing stands in a kept file and a report as two each.
 use Rattle.std.specs.Prelude.{List, [], ◌∷◌, ℕ, ◌+◌, ◌*◌, ◌<◌, get_or}
+use Rattle.std.specs.Prelude.{Result, Ok, Err, Some, None}
+use Rattle.std.specs.Prelude as code
 use Rattle.std.proofs.Math.Option.{Option, none, some}
 use Rattle.model.specs.Answer.{Reply, accepted, refused}
 use Rattle.model.specs.declared.Record.{Record}
-use Rattle.least_rename.specs.declared.Report.{Report}
-use Rattle.least_rename.specs.declared.Report.TheVariants as report
+use Rattle.model.specs.declared.Refusal.{Refusal}
+use Rattle.least_rename.specs.declared.Least.{Least}
 use Rattle.kept_file.specs.declared.Content.{Content}
-use Rattle.run_calls.specs.declared.RanNew.{RanNew}
-use Rattle.run_calls.specs.declared.RanNew.TheVariants as new
+use Rattle.run_calls.specs.Runs.{Ran}
+use Rattle.run_calls.specs.declared.RunError.TheVariants as error
 
 -- the number (0: accepted) in the low 8 bits, the path in the next 8, and from bit 16 on the length, or the value of
 -- what is accepted
@@ -34,19 +36,19 @@ record_in s = record { used = get_or s 0 0; count = get_or s 1 0; charge = get_o
 
 -- A run in one number: 0 done, 1 the table is malformed, 254 the bytes are no script, 255 the report has not a row for
 -- each call. No call answers one of the last two.
-abbrev pub ran_number : RanNew → ℕ
-ran_number (new.Done r) = 0
-ran_number new.MalformedTable = 1
-ran_number new.MalformedScript = 254
-ran_number new.ShortReport = 255
+abbrev pub ran_number : Ran → ℕ
+ran_number (Ok r) = 0
+ran_number (Err error.MalformedTable) = 1
+ran_number (Err error.MalformedScript) = 254
+ran_number (Err error.ShortReport) = 255
 
 -- the four numbers after a run: of the record after its last call; s, what they were, where the table is malformed; and
 -- m, what belongs to the table, where the script is not run
-abbrev pub ran_numbers : RanNew → List ℕ → List ℕ → List ℕ
-ran_numbers (new.Done r) m s = numbers r
-ran_numbers new.MalformedTable m s = s
-ran_numbers new.MalformedScript m s = m
-ran_numbers new.ShortReport m s = m
+abbrev pub ran_numbers : Ran → List ℕ → List ℕ → List ℕ
+ran_numbers (Ok r) m s = numbers r
+ran_numbers (Err error.MalformedTable) m s = s
+ran_numbers (Err error.MalformedScript) m s = m
+ran_numbers (Err error.ShortReport) m s = m
 
 -- where the listing stands in a kept file, and its length: two numbers
 abbrev pub place_of : Content → List ℕ
@@ -64,7 +66,7 @@ content_place (some c) s = place_of c
 
 -- the two numbers after a report: the least limit and the least length, 0 and 0 where there are none; s, what they
 -- were, where it is refused
-abbrev pub report_numbers : Report → List ℕ → List ℕ
-report_numbers (report.Both m n) s = m ∷ n ∷ []
-report_numbers report.Neither s = 0 ∷ 0 ∷ []
-report_numbers (report.Refused x) s = s
+abbrev pub report_numbers : Result (code.Option Least) Refusal → List ℕ → List ℕ
+report_numbers (Ok (Some x)) s = x.limit ∷ x.len ∷ []
+report_numbers (Ok None) s = 0 ∷ 0 ∷ []
+report_numbers (Err x) s = s

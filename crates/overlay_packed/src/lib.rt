@@ -11,10 +11,10 @@ ghost use Rattle.overlay_packed.specs.Packed.{packed, Fits, if_accepted, numbers
 ghost use Rattle.overlay_packed.specs.Packed.{ran_number, ran_numbers, place_of, content_numbers, content_place};
 
 use call_values::Row;
-use kept_file::{Content, Reading, Writing};
-use least_rename::Report;
-use model::{Answer, Answered, Finding, Record};
-use run_calls::RanNew;
+use kept_file::{Content, ReadError, WriteError};
+use least_rename::Least;
+use model::{Answer, Answered, Finding, Record, Refusal};
+use run_calls::RunError;
 
 // An answer's number stands in the lowest 8 bits, its path in the next 8, its length or value above: what one of each
 // counts.
@@ -80,9 +80,9 @@ pub fn pack_finding(finding: Finding) -> u64
     ensures { result ≡ packed (told_finding finding) }
 {
     match finding {
-        Finding::Yes => return VALUE_UNIT,
-        Finding::No => return 0,
-        Finding::Unanswered(refusal) => return pack(call_values::told_refusal(refusal)),
+        Ok(true) => VALUE_UNIT,
+        Ok(false) => 0,
+        Err(refusal) => pack(call_values::told_refusal(refusal)),
     }
 }
 
@@ -98,8 +98,8 @@ fn is_accepted(answer: Answer) -> bool
     ensures { result ≡ if_accepted (told answer) true false }
 {
     match answer {
-        Answer::Accepted(_) => return true,
-        Answer::Refused(_) => return false,
+        Ok(_) => true,
+        Err(_) => false,
     }
 }
 
@@ -122,39 +122,39 @@ pub fn store_and_pack(rec: &mut [u64], answered: Answered) -> u64
 
 // A run in one number. The last record is stored where the run is done; where the script is not run, `first`, the
 // record that the table has before the first call.
-pub fn store_and_pack_run(rec: &mut [u64], ran: RanNew, first: Record) -> u64
+pub fn store_and_pack_run(rec: &mut [u64], ran: Result<Record, RunError>, first: Record) -> u64
     requires { length rec.old ≡ 4 }
     ensures value { result ≡ ran_number ran }
     ensures rec_after { rec.new ≡ ran_numbers ran (numbers first) rec.old }
 {
     match ran {
-        RanNew::Done(last) => {
+        Ok(last) => {
             store(rec, last);
-            return 0;
+            0
         }
-        RanNew::MalformedTable => return MALFORMED_TABLE,
-        RanNew::MalformedScript => {
+        Err(RunError::MalformedTable) => MALFORMED_TABLE,
+        Err(RunError::MalformedScript) => {
             store(rec, first);
-            return MALFORMED_SCRIPT;
+            MALFORMED_SCRIPT
         }
-        RanNew::ShortReport => {
+        Err(RunError::ShortReport) => {
             store(rec, first);
-            return SHORT_REPORT;
+            SHORT_REPORT
         }
     }
 }
 
 // A writing's answer in one number.
-pub fn pack_writing(writing: Writing) -> u64
+pub fn pack_writing(writing: Result<u64, WriteError>) -> u64
     requires { Fits (told_writing writing) }
     ensures { result ≡ packed (told_writing writing) }
 {
     match writing {
-        Writing::Done(len) => return VALUE_UNIT * len,
-        Writing::MalformedTable => return MALFORMED_TABLE,
-        Writing::MalformedListing => return MALFORMED_LISTING,
-        Writing::OtherEntrySize => return OTHER_ENTRY_SIZE,
-        Writing::NoRoom => return NO_ROOM,
+        Ok(len) => VALUE_UNIT * len,
+        Err(WriteError::MalformedTable) => MALFORMED_TABLE,
+        Err(WriteError::MalformedListing) => MALFORMED_LISTING,
+        Err(WriteError::OtherEntrySize) => OTHER_ENTRY_SIZE,
+        Err(WriteError::NoRoom) => NO_ROOM,
     }
 }
 
@@ -183,41 +183,45 @@ fn store_content(rec: &mut [u64], place: &mut [u64], content: Content)
 
 // A reading's answer in one number. The record and the listing's place are stored where the reading is accepted, and
 // nowhere else.
-pub fn store_and_pack_reading(rec: &mut [u64], place: &mut [u64], reading: Reading) -> u64
+pub fn store_and_pack_reading(
+    rec: &mut [u64],
+    place: &mut [u64],
+    reading: Result<Content, ReadError>,
+) -> u64
     requires { (length rec.old ≡ 4) × (length place.old ≡ 2) }
     ensures value { result ≡ packed (told_reading reading) }
     ensures rec_after { rec.new ≡ content_numbers (told_content reading) rec.old }
     ensures place_after { place.new ≡ content_place (told_content reading) place.old }
 {
     match reading {
-        Reading::Done(content) => {
+        Ok(content) => {
             store_content(rec, place, content);
-            return 0;
+            0
         }
-        Reading::LongTable => return MALFORMED_TABLE,
-        Reading::NotKept => return NOT_KEPT,
-        Reading::Damaged => return DAMAGED,
-        Reading::NoRoom => return NO_ROOM,
+        Err(ReadError::LongTable) => MALFORMED_TABLE,
+        Err(ReadError::NotKept) => NOT_KEPT,
+        Err(ReadError::Damaged) => DAMAGED,
+        Err(ReadError::NoRoom) => NO_ROOM,
     }
 }
 
 // A report in one number. The least limit and the least length are stored where there are any, else 0 and 0; nothing
 // is stored where it is refused.
-pub fn store_and_pack_report(least: &mut [u64], report: Report) -> u64
+pub fn store_and_pack_report(least: &mut [u64], report: Result<Option<Least>, Refusal>) -> u64
     requires least_len { length least.old ≡ 2 }
     requires fits { Fits (told_report report) }
     ensures value { result ≡ packed (told_report report) }
     ensures least_after { least.new ≡ report_numbers report least.old }
 {
     match report {
-        Report::Both(limit, len) => {
+        Ok(Some(Least { limit, len })) => {
             store_two(least, limit, len);
-            return VALUE_UNIT;
+            VALUE_UNIT
         }
-        Report::Neither => {
+        Ok(None) => {
             store_two(least, 0, 0);
-            return 0;
+            0
         }
-        Report::Refused(refusal) => return pack(call_values::told_refusal(refusal)),
+        Err(refusal) => pack(call_values::told_refusal(refusal)),
     }
 }

@@ -10,11 +10,13 @@ use std::io;
 use std::rt::{CpuClock, Env};
 
 fn push(s: &mut [u8], at: usize, b: u8) -> usize {
-    if at < s.len() {
-        s[at] = b;
-        return at + 1;
+    match s.get_mut(at) {
+        Some(there) => {
+            *there = b;
+            at + 1
+        }
+        None => at,
     }
-    at
 }
 
 fn push16(s: &mut [u8], at: usize, v: u64) -> usize {
@@ -149,22 +151,18 @@ fn siblings(s: &mut [u8], n: u64) -> usize
 }
 
 fn told(rt: &impl Print, answer: bool) -> io::Result<()> {
-    if answer {
-        rt.print(" a listing")
-    } else {
-        rt.print(" no listing")
-    }
+    rt.print(if answer { " a listing" } else { " no listing" })
 }
 
 // The check of the first n bytes, and how long it took where times are asked for.
 fn timed(rt: &(impl Print + Env + CpuClock), s: &[u8], n: usize) -> io::Result<()> {
-    if n <= s.len() {
+    if let Some(listing) = s.get(..n) {
         let before = test_clock::micros(rt);
-        let answer = listing_check::check(&s[0..n]);
+        let answer = listing_check::check(listing);
         let after = test_clock::micros(rt);
         told(rt, answer)?;
         if test_clock::is_timed(rt) {
-            let micros = std::num::wrapping_sub_u64(after, before);
+            let micros = after.wrapping_sub(before);
             print!(rt; ", {micros} us")?;
         }
     }

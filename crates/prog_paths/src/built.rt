@@ -7,10 +7,8 @@ use std::io;
 // Each byte from `from` up to, not including, `to`, alone before a space: no UTF-8.
 fn lonely(from: u8, to: u8) -> Tally {
     let mut t = none();
-    let mut b = from;
-    while b < to {
+    for b in from..to {
         t = one(t, &[b, b' '], true, false);
-        b += 1;
     }
     t
 }
@@ -23,10 +21,10 @@ pub fn lonely_bytes(rt: &impl Print) -> io::Result<()> {
 }
 
 fn first(t: Tally, s: &[u8], n: usize, must: bool) -> Tally {
-    if n <= s.len() {
-        return one(t, &s[0..n], false, must);
+    match s.get(..n) {
+        Some(start) => one(t, start, false, must),
+        None => t,
     }
-    t
 }
 
 // The first n of 514 bytes, all `a` but for a slash at i and at k; at 513 it is behind every n that is run.
@@ -58,16 +56,8 @@ pub fn sizes(rt: &impl Print) -> io::Result<()> {
     print(rt, t)
 }
 
-fn wide(b: u8) -> usize {
-    b as usize
-}
-
 fn is_end(ends: &[u8], i: usize, k: usize) -> bool {
-    if i < ends.len() {
-        wide(ends[i]) == k
-    } else {
-        false
-    }
+    ends.get(i).is_some_and(|end| usize::from(*end) == k)
 }
 
 // The proper ancestors of a path, from the top, must end at `ends`.
@@ -76,7 +66,7 @@ fn climbed(t: Tally, path: &[u8], ends: &[u8]) -> Tally {
     let mut i = 0;
     let mut k = base_paths::next_ancestor(path, 0);
     while k < path.len() {
-        ok = ok & is_end(ends, i, k);
+        ok &= is_end(ends, i, k);
         i += 1;
         k = base_paths::next_ancestor(path, k + 1);
     }

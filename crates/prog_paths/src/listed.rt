@@ -5,40 +5,33 @@ use crate::tally::{Tally, counted, is_utf8, none, one, print};
 use std::io;
 
 fn item(rt: &impl Print, t: Tally, s: &[u8], text: bool) -> io::Result<Tally> {
-    if s.len() == 0 {
+    let Some((mark, s)) = s.split_first() else {
         return Ok(counted(t, false));
+    };
+    match *mark {
+        b'=' => {
+            rt.write_all(s)?;
+            Ok(t)
+        }
+        b'.' => {
+            print(rt, t)?;
+            Ok(none())
+        }
+        b'0' => Ok(zero(t, s)),
+        _ => Ok(one(t, s, text, *mark == b'+')),
     }
-    let mark = s[0];
-    if mark == b'=' {
-        rt.write_all(&s[1..])?;
-        return Ok(t);
-    }
-    if mark == b'.' {
-        print(rt, t)?;
-        return Ok(none());
-    }
-    if mark == b'0' {
-        return Ok(zero(t, &s[1..]));
-    }
-    Ok(one(t, &s[1..], text, mark == b'+'))
 }
 
 fn zero(t: Tally, s: &[u8]) -> Tally {
-    let a = base_paths::is_path(s);
-    let b = is_utf8(s);
-    counted(t, !a & b)
+    counted(t, !base_paths::is_path(s) & is_utf8(s))
 }
 
 pub fn run(rt: &impl Print, list: &[u8], text: bool) -> io::Result<()> {
     let mut t = none();
-    let mut from = 0;
-    let mut i = 0;
-    while i < list.len() {
-        if list[i] == b'|' {
-            t = item(rt, t, &list[from..i], text)?;
-            from = i + 1;
-        }
-        i += 1;
+    let mut rest = list;
+    while let Some(n) = rest.iter().position(|b| *b == b'|') {
+        t = item(rt, t, &rest[..n], text)?;
+        rest = &rest[n + 1..];
     }
     Ok(())
 }

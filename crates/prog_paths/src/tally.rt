@@ -22,8 +22,8 @@ pub fn none() -> Tally
 pub fn counted(t: Tally, ok: bool) -> Tally
     ensures { result ≡ tallied t ok }
 {
-    let run = std::num::wrapping_add_u64(t.run, 1);
-    let right = std::num::wrapping_add_u64(t.right, ok as u64);
+    let run = t.run.wrapping_add(1);
+    let right = t.right.wrapping_add(u64::from(ok));
     Tally { run, right }
 }
 
@@ -42,10 +42,8 @@ pub fn is_utf8(s: &[u8]) -> bool
         low: 0,
         high: 0,
     };
-    let mut i = 0;
-    while i < s.len() {
-        t = base_paths::next_tail(t, s[i]);
-        i += 1;
+    for b in s {
+        t = base_paths::next_tail(t, *b);
     }
     t.need == 0
 }
@@ -53,10 +51,7 @@ pub fn is_utf8(s: &[u8]) -> bool
 fn agrees(a: bool, b: bool) -> bool
     ensures { result ≡ agrees a b }
 {
-    if a {
-        return b;
-    }
-    !b
+    a == b
 }
 
 // s must be a path, or must not; and where it is a text, which has no byte that a path forbids, it must be UTF-8, or

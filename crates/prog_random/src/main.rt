@@ -20,12 +20,12 @@ const LARGE: u64 = 1_000_000;
 // The bits of 1.0.
 const MTIME: u64 = 0x3FF0_0000_0000_0000;
 
-// A call as it is drawn: w, a for append, i for writing inside, m, u, r for rmdir or n for rename, the number of its
-// path, and another: a rename's destination, or the path that a write, an append or a writing inside has as its data.
-// An append is lent what it needs or, with `again`, its data. The seed is the generator's number behind it.
+// A call as it is drawn: its kind, the number of its path, and another: a rename's destination, or the path that a
+// write, an append or a writing inside has as its data. An append is lent what it needs or, with `again`, its data. The
+// seed is the generator's number behind it.
 #[derive(Clone, Copy)]
 struct Call {
-    letter: u8,
+    kind: Kind,
     path: usize,
     other: usize,
     parents: bool,
@@ -51,14 +51,7 @@ struct State {
 }
 
 fn parent(i: usize) -> usize {
-    if i == 0 {
-        return 0;
-    }
-    (i - 1) / 3
-}
-
-fn wide(b: u8) -> usize {
-    b as usize
+    i.saturating_sub(1) / 3
 }
 
 // The bytes of a path. In `names` each has 12: its length, and itself with spaces behind it.
@@ -66,7 +59,7 @@ fn bytes(names: &[u8], i: usize) -> &[u8] {
     if i < PATHS {
         if 480 <= names.len() {
             let from = 12 * i + 1;
-            let n = wide(names[from - 1]);
+            let n = usize::from(names[from - 1]);
             if n <= 11 {
                 let to = from + n;
                 return &names[from..to];
@@ -85,19 +78,13 @@ fn is_below(a: usize, k: usize) -> bool {
 // An ancestor's part in the parents' rule: what is below it counts only where it is a directory, or is missing and
 // made.
 fn through(made: bool, kind: u8, below: u64) -> u64 {
-    if kind == DIRECTORY {
-        return below;
+    match kind {
+        DIRECTORY => below,
+        LINK => 4,
+        _ if !made => 5,
+        FILE => 7,
+        _ => below,
     }
-    if kind == LINK {
-        return 4;
-    }
-    if !made {
-        return 5;
-    }
-    if kind == FILE {
-        return 7;
-    }
-    below
 }
 
 // From the parent up, so that the topmost that refuses is the last to be seen, and decides.
@@ -112,55 +99,34 @@ fn parents(tree: &[u8], i: usize, made: bool) -> u64 {
 }
 
 fn has_child(tree: &[u8], i: usize) -> bool {
-    let mut found = false;
-    for k in 1..PATHS {
-        found = found | ((parent(k) == i) & (test_rows::kind(tree, k) != NOTHING));
-    }
-    found
+    (1..PATHS).any(|k| (parent(k) == i) & (test_rows::kind(tree, k) != NOTHING))
 }
 
 fn has_link_below(tree: &[u8], a: usize) -> bool {
-    let mut found = false;
-    for k in 1..PATHS {
-        found = found | (is_below(a, k) & (test_rows::kind(tree, k) == LINK));
-    }
-    found
+    (1..PATHS).any(|k| is_below(a, k) & (test_rows::kind(tree, k) == LINK))
 }
 
 fn mkdir(there: u8, exist_ok: bool, parents: u64) -> u64 {
-    if there == LINK {
-        return 4;
+    match there {
+        LINK => 4,
+        NOTHING => parents,
+        DIRECTORY if exist_ok => 0,
+        _ => 6,
     }
-    if there == NOTHING {
-        return parents;
-    }
-    if (there == DIRECTORY) & exist_ok {
-        return 0;
-    }
-    6
 }
 
 // write, append, unlink and rmdir where the parents passed.
-fn other(letter: u8, there: u8, child: bool) -> u64 {
-    if there == LINK {
-        return 4;
+fn other(kind: Kind, there: u8, child: bool) -> u64 {
+    match (kind, there) {
+        (_, LINK) => 4,
+        (Kind::Write | Kind::Append, NOTHING) => 0,
+        (_, NOTHING) => 5,
+        (Kind::Rmdir, FILE) => 7,
+        (Kind::Rmdir, _) if child => 9,
+        (Kind::Rmdir, _) => 0,
+        (_, DIRECTORY) => 8,
+        _ => 0,
     }
-    if (there == NOTHING) & (letter != b'w') & (letter != b'a') {
-        return 5;
-    }
-    if letter != b'r' {
-        if there == DIRECTORY {
-            return 8;
-        }
-        return 0;
-    }
-    if there == FILE {
-        return 7;
-    }
-    if child {
-        return 9;
-    }
-    0
 }
 
 // Rename: roots, both paths' parents, and links at them.
@@ -187,19 +153,13 @@ fn rename_places(tree: &[u8], a: usize, b: usize) -> u64 {
 
 // Rename: a clash of types, then 9.
 fn rename_types(source: u8, there: u8, child: bool) -> u64 {
-    if there == DIRECTORY {
-        if source != DIRECTORY {
-            return 8;
-        }
-        if child {
-            return 9;
-        }
-        return 0;
+    match (source, there) {
+        (DIRECTORY, DIRECTORY) if child => 9,
+        (DIRECTORY, DIRECTORY) => 0,
+        (_, DIRECTORY) => 8,
+        (DIRECTORY, FILE) => 7,
+        _ => 0,
     }
-    if (there == FILE) & (source == DIRECTORY) {
-        return 7;
-    }
-    0
 }
 
 // Rename, where its places passed. The walk has no budget here, and gives 4 at a link.
@@ -235,7 +195,7 @@ fn write_inside(own: bool, offset: u64, n: u64) -> u64 {
     if !own {
         return 5;
     }
-    if 0xFFFF_FFFF_FFFF_FFFF - n < offset {
+    if u64::MAX - n < offset {
         return 18;
     }
     if LARGE < offset {
@@ -246,30 +206,30 @@ fn write_inside(own: bool, offset: u64, n: u64) -> u64 {
 
 // The number by the plain rules; 0 where they accept. The call has n bytes of data.
 fn judged(tree: &[u8], call: Call, n: usize) -> u64 {
-    let letter = call.letter;
     let i = call.path;
     let there = test_rows::kind(tree, i);
-    if letter == b'i' {
-        return write_inside(test_rows::is_own(tree, i), call.offset, n as u64);
+    match call.kind {
+        Kind::WriteInside => write_inside(test_rows::is_own(tree, i), call.offset, n as u64),
+        Kind::Rename => rename(tree, i, call.other),
+        Kind::Mkdir => mkdir(there, call.exist_ok, parents(tree, i, call.parents)),
+        Kind::Rmdir if i == 0 => 4,
+        Kind::Write | Kind::Append | Kind::Unlink | Kind::Rmdir => judged_one(tree, call, n),
     }
-    if letter == b'n' {
-        return rename(tree, i, call.other);
-    }
-    if letter == b'm' {
-        return mkdir(there, call.exist_ok, parents(tree, i, call.parents));
-    }
-    if (letter == b'r') & (i == 0) {
-        return 4;
-    }
+}
+
+// The same for write, append, unlink and rmdir.
+fn judged_one(tree: &[u8], call: Call, n: usize) -> u64 {
+    let i = call.path;
     let number = parents(tree, i, false);
     if number != 0 {
         return number;
     }
-    let last = other(letter, there, has_child(tree, i));
-    if (last == 0) & (letter == b'a') & call.again & (test_rows::lent(tree, i).len() != n) {
-        return 17;
+    let last = other(call.kind, test_rows::kind(tree, i), has_child(tree, i));
+    let miscounted = call.again & (test_rows::lent(tree, i).len() != n);
+    match call.kind {
+        Kind::Append if miscounted & (last == 0) => 17,
+        _ => last,
     }
-    last
 }
 
 // A path without a node gets a directory.
@@ -312,11 +272,7 @@ fn moved(a: usize, b: usize, k: usize) -> usize {
 
 // Whether a move would take something out of the tree, to a fourth level.
 fn is_too_deep(tree: &[u8], a: usize, b: usize) -> bool {
-    let mut found = false;
-    for k in 1..PATHS {
-        found = found | ((PATHS <= moved(a, b, k)) & (test_rows::kind(tree, k) != NOTHING));
-    }
-    found
+    (1..PATHS).any(|k| (PATHS <= moved(a, b, k)) & (test_rows::kind(tree, k) != NOTHING))
 }
 
 // a and all below it move to b, where nothing is below; what is elsewhere moves to where it is.
@@ -346,23 +302,21 @@ fn add(tree: &mut [u8], i: usize, data: &[u8], again: bool) {
 
 // The tree after a call; a refused one does nothing, and a move onto itself neither.
 fn effect(tree: &mut [u8], call: Call, data: &[u8], accepted: bool) {
-    let letter = call.letter;
     let i = call.path;
     if !accepted {
         return;
     }
-    if letter == b'm' {
-        make_all(tree, i);
-    } else if letter == b'w' {
-        write_whole(tree, i, data);
-    } else if letter == b'a' {
-        add(tree, i, data, call.again);
-    } else if letter == b'i' {
-        test_rows::write_at(tree, i, call.offset as usize, data);
-    } else if letter != b'n' {
-        test_rows::clear(tree, i);
-    } else if i != call.other {
-        move_all(tree, i, call.other);
+    match call.kind {
+        Kind::Mkdir => make_all(tree, i),
+        Kind::Write => write_whole(tree, i, data),
+        Kind::Append => add(tree, i, data, call.again),
+        Kind::WriteInside => test_rows::write_at(tree, i, call.offset as usize, data),
+        Kind::Unlink | Kind::Rmdir => test_rows::clear(tree, i),
+        Kind::Rename => {
+            if i != call.other {
+                move_all(tree, i, call.other);
+            }
+        }
     }
 }
 
@@ -388,26 +342,16 @@ fn drawn_path(seed: u64) -> usize {
 }
 
 // Five in fourteen calls are renames.
-fn letter(n: u64) -> u8 {
-    if n < 1 {
-        return b'w';
+fn kind(n: u64) -> Kind {
+    match n {
+        0 => Kind::Write,
+        1 | 2 => Kind::Mkdir,
+        3 => Kind::Unlink,
+        4 => Kind::Rmdir,
+        5 | 6 => Kind::Append,
+        7 | 8 => Kind::WriteInside,
+        _ => Kind::Rename,
     }
-    if n < 3 {
-        return b'm';
-    }
-    if n < 4 {
-        return b'u';
-    }
-    if n < 5 {
-        return b'r';
-    }
-    if n < 7 {
-        return b'a';
-    }
-    if n < 9 {
-        return b'i';
-    }
-    b'n'
 }
 
 // Seven in eight up to 19, which a row has room for with any data behind it, else one of the last eight.
@@ -423,20 +367,17 @@ fn limit(seed: u64, charge: u64) -> u64 {
     if below(seed, 4) != 0 {
         return LARGE;
     }
-    std::num::wrapping_add_u64(charge, below(next(seed), 1001))
+    charge.wrapping_add(below(next(seed), 1001))
 }
 
 // A rename that would take something out of the tree, and an append to more than a row has room for with any data
 // behind it, is drawn as an unlink.
-fn drawn_letter(tree: &[u8], n: u64, path: usize, other: usize) -> u8 {
-    let drawn = letter(n);
-    if (drawn == b'n') & (path != 0) & is_too_deep(tree, path, other) {
-        return b'u';
+fn drawn_kind(tree: &[u8], n: u64, path: usize, other: usize) -> Kind {
+    match kind(n) {
+        Kind::Rename if (path != 0) & is_too_deep(tree, path, other) => Kind::Unlink,
+        Kind::Append if 19 < test_rows::count(tree, path) => Kind::Unlink,
+        drawn => drawn,
     }
-    if (drawn == b'a') & (19 < test_rows::count(tree, path)) {
-        return b'u';
-    }
-    drawn
 }
 
 fn drawn(tree: &[u8], seed: u64, charge: u64) -> Call {
@@ -448,9 +389,9 @@ fn drawn(tree: &[u8], seed: u64, charge: u64) -> Call {
     let path = drawn_path(two);
     let other = drawn_path(three);
     Call {
-        letter: drawn_letter(tree, below(one, 14), path, other),
-        path: path,
-        other: other,
+        kind: drawn_kind(tree, below(one, 14), path, other),
+        path,
+        other,
         parents: below(four, 2) == 0,
         exist_ok: below(four, 4) < 2,
         offset: offset(five),
@@ -460,31 +401,9 @@ fn drawn(tree: &[u8], seed: u64, charge: u64) -> Call {
     }
 }
 
-fn call_kind(letter: u8) -> Kind {
-    if letter == b'w' {
-        return Kind::Write;
-    }
-    if letter == b'a' {
-        return Kind::Append;
-    }
-    if letter == b'i' {
-        return Kind::WriteInside;
-    }
-    if letter == b'm' {
-        return Kind::Mkdir;
-    }
-    if letter == b'u' {
-        return Kind::Unlink;
-    }
-    if letter == b'r' {
-        return Kind::Rmdir;
-    }
-    Kind::Rename
-}
-
 fn order(call: Call) -> Order {
     Order {
-        kind: call_kind(call.letter),
+        kind: call.kind,
         parents: call.parents,
         exist_ok: call.exist_ok,
         mtime: MTIME,
@@ -495,13 +414,13 @@ fn order(call: Call) -> Order {
 
 fn is(finding: Finding, yes: bool) -> bool {
     match finding {
-        Finding::Yes => {
+        Ok(true) => {
             return yes;
         }
-        Finding::No => {
+        Ok(false) => {
             return !yes;
         }
-        Finding::Unanswered(_) => {
+        Err(_) => {
             return false;
         }
     }
@@ -522,52 +441,28 @@ fn is_seen(listing: &[u8], table: &[u8], rec: Record, path: &[u8], kind: u8) -> 
 
 // The same at every path, the root among them.
 fn is_all_seen(listing: &[u8], table: &[u8], rec: Record, tree: &[u8], names: &[u8]) -> bool {
-    let mut right = true;
-    for i in 0..PATHS {
-        right = right
-            & is_seen(
-                listing,
-                table,
-                rec,
-                bytes(names, i),
-                test_rows::kind(tree, i),
-            );
-    }
-    right
+    (0..PATHS).all(|i| {
+        is_seen(
+            listing,
+            table,
+            rec,
+            bytes(names, i),
+            test_rows::kind(tree, i),
+        )
+    })
 }
 
 // Whether an entry is an own file with the plain tree's content where that has one, and none where it has none.
-fn is_held(table: &[u8], entry: OverlayEntry, own: bool, content: &[u8]) -> bool {
+fn is_held(table: &[u8], entry: Option<OverlayEntry>, own: bool, content: &[u8]) -> bool {
     match entry {
-        OverlayEntry::File { mtime, at, len } => {
-            let n = table.len() as u64;
-            if n < len {
+        Some(OverlayEntry::File { at, len, .. }) => {
+            let end = at.saturating_add(len);
+            let Some(held) = table.get(at as usize..end as usize) else {
                 return false;
-            }
-            if n - len < at {
-                return false;
-            }
-            let from = at as usize;
-            let to = (at + len) as usize;
-            return own & base_fields::is_same(&table[from..to], content);
+            };
+            own & (held == content)
         }
-        OverlayEntry::RealFileRef {
-            mtime,
-            size,
-            at,
-            len,
-        } => {
-            return !own;
-        }
-        OverlayEntry::Directory { mtime } => {
-            return !own;
-        }
-        OverlayEntry::Deleted => {
-            return !own;
-        }
-        OverlayEntry::Absent => {
-            return !own;
-        }
+        _ => !own,
     }
 }
 
@@ -590,36 +485,36 @@ fn is_all_held(table: &[u8], rec: Record, tree: &[u8], names: &[u8]) -> bool
 }
 
 fn is_held_well(table: &[u8], rec: Record, tree: &[u8], names: &[u8]) -> bool {
-    if !table_open::check(table, rec) {
-        return false;
-    }
-    is_all_held(table, rec, tree, names)
+    table_open::check(table, rec) && is_all_held(table, rec, tree, names)
 }
 
 fn counted(st: State, rec: Record, call: Call, number: u64, right: bool) -> State {
     let accepted = number == 0;
+    let of = |kind: bool| u64::from(accepted & kind);
     State {
-        rec: rec,
+        rec,
         seed: call.seed,
-        accepted: std::num::wrapping_add_u64(st.accepted, accepted as u64),
-        refused: std::num::wrapping_add_u64(st.refused, !accepted as u64),
-        limited: std::num::wrapping_add_u64(st.limited, (number == 11) as u64),
-        moved: std::num::wrapping_add_u64(st.moved, (accepted & (call.letter == b'n')) as u64),
-        added: std::num::wrapping_add_u64(st.added, (accepted & (call.letter == b'a')) as u64),
-        inside: std::num::wrapping_add_u64(st.inside, (accepted & (call.letter == b'i')) as u64),
-        wrong: std::num::wrapping_add_u64(st.wrong, !right as u64),
+        accepted: st.accepted.wrapping_add(u64::from(accepted)),
+        refused: st.refused.wrapping_add(u64::from(!accepted)),
+        limited: st.limited.wrapping_add(u64::from(number == 11)),
+        moved: st.moved.wrapping_add(of(matches!(call.kind, Kind::Rename))),
+        added: st.added.wrapping_add(of(matches!(call.kind, Kind::Append))),
+        inside: st
+            .inside
+            .wrapping_add(of(matches!(call.kind, Kind::WriteInside))),
+        wrong: st.wrong.wrapping_add(u64::from(!right)),
     }
 }
 
 fn is_itself(call: Call) -> bool {
-    (call.letter == b'n') & (call.path == call.other)
+    matches!(call.kind, Kind::Rename) & (call.path == call.other)
 }
 
 // A number is right where it is the plain rules', or is 11 where they accept and there is a limit, unless it is a move
 // onto itself. A rename's plan comes before the link that its walk meets, so that 11 is right for 4 too; and its
 // deleted source before a clash of types, so that 5 is right for 8.
 fn is_number(number: u64, must: u64, call: Call) -> bool {
-    let rename = call.letter == b'n';
+    let rename = matches!(call.kind, Kind::Rename);
     let limited = (number == 11) & (call.limit < LARGE) & !is_itself(call);
     (number == must)
         | (limited & ((must == 0) | (rename & (must == 4))))
@@ -629,9 +524,9 @@ fn is_number(number: u64, must: u64, call: Call) -> bool {
 // An accepted call keeps to its limit, or is a mkdir that changes nothing, or a move onto itself, which changes
 // nothing; a write, an append and a writing inside answer their data's length, and the others 0.
 fn is_within(call: Call, unchanged: bool, after: u64, value: u64, n: u64) -> bool {
-    let written = (call.letter == b'w') | (call.letter == b'a') | (call.letter == b'i');
+    let written = matches!(call.kind, Kind::Write | Kind::Append | Kind::WriteInside);
     let itself = is_itself(call);
-    let still = unchanged & ((call.letter == b'm') | itself);
+    let still = unchanged & (matches!(call.kind, Kind::Mkdir) | itself);
     ((after <= call.limit) & !itself | still) & (written & (value == n) | !written & (value == 0))
 }
 
@@ -650,7 +545,7 @@ fn is_left_well(
     let after = done.record;
     let answer = done.answer;
     match answer {
-        Answer::Accepted(value) => {
+        Ok(value) => {
             let n = bytes(names, call.other).len() as u64;
             let unchanged = test_kept::is_unchanged(table, old, after, given);
             let within = is_within(call, unchanged, after.charge, value, n);
@@ -658,7 +553,7 @@ fn is_left_well(
             let held = is_held_well(table, after, tree, names);
             return within & clean & held & is_all_seen(listing, table, after, tree, names);
         }
-        Answer::Refused(_) => {
+        Err(_) => {
             return test_kept::is_kept(table, old, work, after, given);
         }
     }
@@ -744,16 +639,12 @@ fn steps(
 }
 
 fn sprout(n: u64) -> u8 {
-    if n < 16 {
-        return NOTHING;
+    match n {
+        0..=15 => NOTHING,
+        16..=25 => DIRECTORY,
+        26..=30 => FILE,
+        _ => LINK,
     }
-    if n < 26 {
-        return DIRECTORY;
-    }
-    if n < 31 {
-        return FILE;
-    }
-    LINK
 }
 
 // A listed file holds the name of the path that is seven numbers on, which is not the path that a reference to it has.
@@ -787,16 +678,9 @@ const ORDERED: [usize; 39] = [
     3, 10, 11, 34, 35, 36, 31, 32, 33, 12, 37, 38, 39,
 ];
 
-fn in_order(i: usize) -> usize {
-    if i < 39 {
-        return ORDERED[i];
-    }
-    PATHS
-}
-
 fn set(s: &mut [u8], at: usize, b: u8) {
-    if at < s.len() {
-        s[at] = b;
+    if let Some(there) = s.get_mut(at) {
+        *there = b;
     }
 }
 
@@ -833,12 +717,11 @@ fn head(s: &mut [u8], count: u64) {
 // The plain tree as a listing, and its length.
 fn listed(s: &mut [u8], tree: &[u8], names: &[u8]) -> usize {
     let mut at: usize = 9;
-    let mut count = 0;
-    for i in 0..39usize {
-        let k = in_order(i);
+    let mut count: u64 = 0;
+    for k in ORDERED {
         let there = test_rows::kind(tree, k);
         at = put(s, at, there, test_rows::count(tree, k), bytes(names, k));
-        count = std::num::wrapping_add_u64(count, (there != NOTHING) as u64);
+        count = count.wrapping_add(u64::from(there != NOTHING));
     }
     head(s, count);
     at
@@ -850,17 +733,10 @@ fn over(listing: &[u8], names: &[u8], tree: &mut [u8], seed: u64, st: State) -> 
     let mut old = [0u8; 2560];
     let mut work = [255u8; 2560];
     let opened = table_open::open(&mut table, 40);
-    let rec = opened.record;
     let start = State {
-        rec: rec,
-        seed: seed,
-        accepted: st.accepted,
-        refused: st.refused,
-        limited: st.limited,
-        moved: st.moved,
-        added: st.added,
-        inside: st.inside,
-        wrong: st.wrong,
+        rec: opened.record,
+        seed,
+        ..st
     };
     steps(listing, names, &mut table, &mut old, &mut work, tree, start)
 }
@@ -885,12 +761,6 @@ fn lists(names: &[u8], st: State) -> State {
     now
 }
 
-// A number behind a text.
-fn say(rt: &impl Print, s: &[u8], n: u64) -> io::Result<()> {
-    rt.write_all(s)?;
-    rt.print(n)
-}
-
 fn run() -> State {
     let rec = Record {
         used: 0,
@@ -899,7 +769,7 @@ fn run() -> State {
         entry_size: 40,
     };
     let st = State {
-        rec: rec,
+        rec,
         seed: 20240229,
         accepted: 0,
         refused: 0,
@@ -923,13 +793,18 @@ fn run() -> State {
 }
 
 fn main(rt: HostRuntime) -> io::Result<()> {
-    let st = run();
-    say(&rt, b"random calls: accepted ", st.accepted)?;
-    say(&rt, b", of these renames ", st.moved)?;
-    say(&rt, b", appends ", st.added)?;
-    say(&rt, b", writings inside ", st.inside)?;
-    say(&rt, b"; refused ", st.refused)?;
-    say(&rt, b", of these at the limit ", st.limited)?;
-    say(&rt, b"; differences ", st.wrong)?;
-    rt.write_all(b"\n")
+    let State {
+        rec: _,
+        seed: _,
+        accepted,
+        refused,
+        limited,
+        moved,
+        added,
+        inside,
+        wrong,
+    } = run();
+    print!(&rt; "random calls: accepted {accepted}, of these renames {moved}, appends {added}")?;
+    print!(&rt; ", writings inside {inside}; refused {refused}, of these at the limit {limited}")?;
+    println!(&rt; "; differences {wrong}")
 }

@@ -109,11 +109,10 @@ fn list_chain(s: &mut [u8], at: usize, number: u64) -> usize
 {
     let path = deepest(number);
     let mut next = at;
-    let mut len = 7;
-    while len <= 55 {
-        list(s, next, 1, &path[0..len]);
+    for i in 0..25 {
+        let len = 7 + 2 * i;
+        list(s, next, 1, &path[..len]);
         next += 19 + len;
-        len += 2;
     }
     next
 }
@@ -222,15 +221,15 @@ fn timed(
     let done = call_rename::rename(listing, table, rec, work, b"d", b"e", NO_LIMIT);
     let after = test_clock::micros(rt);
     Measured {
-        done: done,
-        micros: std::num::wrapping_sub_u64(after, before),
+        done,
+        micros: after.wrapping_sub(before),
     }
 }
 
 fn tell_answer(rt: &impl Print, answer: model::Answer) -> io::Result<()> {
     match answer {
-        model::Answer::Accepted(_) => rt.print(": accepted, "),
-        model::Answer::Refused(_) => rt.print(": refused, "),
+        Ok(_) => rt.print(": accepted, "),
+        Err(_) => rt.print(": refused, "),
     }
 }
 
@@ -244,12 +243,12 @@ fn tell_time(rt: &(impl Print + Env), micros: u64) -> io::Result<()> {
 
 // The name of the shape of this number.
 fn tell_name(rt: &impl Print, number: u64) -> io::Result<()> {
-    match number {
-        0 => rt.print("listed "),
-        1 => rt.print("entries "),
-        2 => rt.print("mixed "),
-        _ => rt.print("chains "),
-    }
+    rt.print(match number {
+        0 => "listed ",
+        1 => "entries ",
+        2 => "mixed ",
+        _ => "chains ",
+    })
 }
 
 fn tell(rt: &(impl Print + Env), number: u64, n: u64, run: Measured) -> io::Result<()> {
@@ -273,28 +272,16 @@ fn shape_of(number: u64, n: usize) -> Shape
     ensures { (result.listed ≤ n) × (result.entered ≤ n) × (result.step ≤ 2) }
 {
     let half = n / 2;
-    let deep = number == 3;
-    if number == 1 {
-        return Shape {
-            listed: 0,
-            entered: n,
-            step: 1,
-            deep: deep,
-        };
-    }
-    if number == 2 {
-        return Shape {
-            listed: half,
-            entered: half,
-            step: 2,
-            deep: deep,
-        };
-    }
+    let (listed, entered, step) = match number {
+        1 => (0, n, 1),
+        2 => (half, half, 2),
+        _ => (n, 0, 1),
+    };
     Shape {
-        listed: n,
-        entered: 0,
-        step: 1,
-        deep: deep,
+        listed,
+        entered,
+        step,
+        deep: number == 3,
     }
 }
 
@@ -356,12 +343,9 @@ fn sizes(
 ) -> io::Result<()>
     requires { (800000 ≤ length s.old) × (1200000 ≤ length table.old) × (1200000 ≤ length work.old) }
 {
-    let mut n = 100;
-    while n <= 10000 {
-        fitted(rt, s, table, work, n)?;
-        n *= 10;
-    }
-    Ok(())
+    fitted(rt, s, table, work, 100)?;
+    fitted(rt, s, table, work, 1000)?;
+    fitted(rt, s, table, work, 10000)
 }
 
 fn all(

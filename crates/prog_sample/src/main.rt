@@ -7,13 +7,11 @@
 // original was asked (host/README.md, "The sample").
 #![tactic(auto)]
 
-ghost use Rattle.std.specs.Prelude.{◌≡◌, ◌+◌, ◌≤◌, ◌<◌, length, IfOk};
-
-use run_calls::RanNew;
-use std::env::FillError;
+use model::Record;
+use run_calls::RunError;
 use std::fs::File;
 use std::io;
-use std::io::{Read, Write};
+use std::io::Write;
 use std::rt::{Env, Files};
 
 // The entry size E, as the Rust has it.
@@ -25,30 +23,13 @@ const LIST_HEAD: usize = 16;
 
 const ROW_SIZE: usize = 32;
 
-// Where a list's listing, script, rows and entries begin in the file, and where it ends.
+// A list's parts, as they stand in the file.
 #[derive(Clone, Copy)]
-struct Parts {
-    listing: usize,
-    script: usize,
-    rows: usize,
-    left: usize,
-    to: usize,
-}
-
-// What a run came to: whether it was done, and the bytes of the table that it used.
-#[derive(Clone, Copy)]
-struct Ended {
-    done: bool,
-    used: u64,
-}
-
-// What a list came to: where it ends in the file, 0 if it does not end there; how many calls it has; and 1 if it
-// differs, else 0.
-#[derive(Clone, Copy)]
-struct Seen {
-    to: usize,
-    calls: u64,
-    differ: u64,
+struct List<'a> {
+    listing: &'a [u8],
+    script: &'a [u8],
+    rows: &'a [u8],
+    left: &'a [u8],
 }
 
 // Says it on standard error, which is lent.
@@ -60,16 +41,10 @@ fn text(rt: &impl Print, s: &[u8]) -> io::Result<()> {
     rt.write_all(s)
 }
 
-// A number, and a text behind it.
-fn number(rt: &impl Print, n: u64, s: &[u8]) -> io::Result<()> {
-    rt.print(n)?;
-    text(rt, s)
-}
-
 // The line of a list that differs.
 fn differs(rt: &impl Print, list: u64, how: &[u8]) -> io::Result<bool> {
-    text(rt, b"list ")?;
-    number(rt, list, how)?;
+    print!(rt; "list {list}")?;
+    text(rt, how)?;
     Ok(true)
 }
 
@@ -79,8 +54,7 @@ fn answer_differs(rt: &impl Print, list: u64, report: &[u8], rows: &[u8]) -> io:
     if rows.len() <= same {
         return Ok(false);
     }
-    text(rt, b"call ")?;
-    number(rt, (same / ROW_SIZE) as u64 + 1, b" of ")?;
+    print!(rt; "call {} of ", same / ROW_SIZE + 1)?;
     differs(rt, list, b": another answer or charge\n")
 }
 
@@ -92,9 +66,9 @@ fn table_differs(
     used: u64,
     left: &[u8],
 ) -> io::Result<bool> {
-    let begins = left.len() <= base_fields::shared(table, left);
+    let begins = table.starts_with(left);
     let ends = base_fields::all_zero(table, left.len());
-    if (used == left.len() as u64) & (begins & ends) {
+    if (used == left.len() as u64) & begins & ends {
         return Ok(false);
     }
     differs(rt, list, b": another table\n")
@@ -102,10 +76,8 @@ fn table_differs(
 
 // Whether the rows are not as many as the calls that the script counts.
 fn count_differs(rt: &impl Print, list: u64, script: &[u8], rows: &[u8]) -> io::Result<bool> {
-    if 8 <= script.len() {
-        if 32 * base_fields::le32(script, 4) == rows.len() as u64 {
-            return Ok(false);
-        }
+    if 8 <= script.len() && 32 * base_fields::le32(script, 4) == rows.len() as u64 {
+        return Ok(false);
     }
     differs(rt, list, b": not a row for each call\n")
 }
@@ -117,222 +89,95 @@ fn run_list(
     table: &mut [u8],
     work: &mut [u8],
     report: &mut [u8],
-) -> RanNew {
+) -> Result<Record, RunError> {
     run_calls::run_new(listing, ENTRY_SIZE, table, work, script, report)
 }
 
-// What a run came to. The line of one that was not done says why.
-fn end_of(rt: &impl Print, list: u64, ran: RanNew) -> io::Result<Ended> {
-    match ran {
-        RanNew::Done(rec) => {
-            return Ok(Ended {
-                done: true,
-                used: rec.used,
-            });
-        }
-        RanNew::MalformedScript => {
-            differs(rt, list, b": its script is malformed\n")?;
-        }
-        RanNew::ShortReport => {
-            differs(rt, list, b": more calls than the report has room for\n")?;
-        }
-        RanNew::MalformedTable => {
-            differs(rt, list, b": its table could not be opened\n")?;
-        }
-    }
-    Ok(Ended {
-        done: false,
-        used: 0,
-    })
+// The bytes of the table that a run used. The line of one that was not done says why.
+fn used_by(rt: &impl Print, list: u64, ran: Result<Record, RunError>) -> io::Result<Option<u64>> {
+    let why: &[u8] = match ran {
+        Ok(rec) => return Ok(Some(rec.used)),
+        Err(RunError::MalformedScript) => b": its script is malformed\n",
+        Err(RunError::ShortReport) => b": more calls than the report has room for\n",
+        Err(RunError::MalformedTable) => b": its table could not be opened\n",
+    };
+    differs(rt, list, why)?;
+    Ok(None)
 }
 
 // Runs a list's script over its listing, and compares.
 fn run_differs(
     rt: &impl Print,
-    list: u64,
-    listing: &[u8],
-    script: &[u8],
-    rows: &[u8],
-    left: &[u8],
+    number: u64,
+    list: List<'_>,
     table: &mut [u8],
     work: &mut [u8],
     report: &mut [u8],
 ) -> io::Result<bool> {
-    let end = end_of(rt, list, run_list(listing, script, table, work, report))?;
-    if !end.done {
+    let ran = run_list(list.listing, list.script, table, work, report);
+    let Some(used) = used_by(rt, number, ran)? else {
         return Ok(true);
-    }
-    let count = count_differs(rt, list, script, rows)?;
-    let answer = answer_differs(rt, list, report, rows)?;
-    let table = table_differs(rt, list, table, end.used, left)?;
-    Ok(count | (answer | table))
-}
-
-fn run_lent(
-    rt: &impl Print,
-    list: u64,
-    listing: &[u8],
-    script: &[u8],
-    rows: &[u8],
-    left: &[u8],
-    table: &mut [u8; 65536],
-    work: &mut [u8; 65536],
-    report: &mut [u8; 65536],
-) -> io::Result<bool> {
-    run_differs(rt, list, listing, script, rows, left, table, work, report)
+    };
+    let count = count_differs(rt, number, list.script, list.rows)?;
+    let answer = answer_differs(rt, number, report, list.rows)?;
+    let table = table_differs(rt, number, table, used, list.left)?;
+    Ok(count | answer | table)
 }
 
 // Each list has its own buffers. They stand in one function, which lends them on.
-fn list_differs(
-    rt: &impl Print,
-    list: u64,
-    listing: &[u8],
-    script: &[u8],
-    rows: &[u8],
-    left: &[u8],
-) -> io::Result<bool> {
+fn list_differs(rt: &impl Print, number: u64, list: List<'_>) -> io::Result<bool> {
     let mut table = [0u8; 65536];
     let mut work = [0u8; 65536];
     let mut report = [0u8; 65536];
-    run_lent(
-        rt,
-        list,
+    run_differs(rt, number, list, &mut table, &mut work, &mut report)
+}
+
+// The list that the bytes begin with, by the lengths at its head, and what stands behind it; none where they end within
+// it.
+fn first_list(s: &[u8]) -> Option<(List<'_>, &[u8])> {
+    let (head, s) = s.split_at_checked(LIST_HEAD)?;
+    let (listing, s) = s.split_at_checked(base_fields::le32(head, 0) as usize)?;
+    let (script, s) = s.split_at_checked(base_fields::le32(head, 4) as usize)?;
+    let (rows, s) = s.split_at_checked(base_fields::le32(head, 8) as usize)?;
+    let (left, s) = s.split_at_checked(base_fields::le32(head, 12) as usize)?;
+    let list = List {
         listing,
         script,
         rows,
         left,
-        &mut table,
-        &mut work,
-        &mut report,
-    )
+    };
+    Some((list, s))
 }
 
-// Where the parts of the list at `at` begin, by the lengths at its head, and where it ends.
-fn parts_at(sample: &[u8], at: usize) -> Parts
-    requires { at + 16 ≤ length sample.now }
-    ensures listing_le_script { (result.listing ≤ result.script) × (result.script ≤ result.rows)
-        × (result.rows ≤ result.left) × (result.left ≤ result.to) }
-    ensures left_bound { result.left < result.rows + 0x1_0000_0000 }
-{
-    let listing = at + LIST_HEAD;
-    let script = listing + base_fields::le32(sample, at) as usize;
-    let rows = script + base_fields::le32(sample, at + 4) as usize;
-    let left = rows + base_fields::le32(sample, at + 8) as usize;
-    let to = left + base_fields::le32(sample, at + 12) as usize;
-    Parts {
-        listing: listing,
-        script: script,
-        rows: rows,
-        left: left,
-        to: to,
-    }
-}
-
-fn malformed(err: &impl Print, list: u64) -> io::Result<Seen>
-    ensures { IfOk result (λ seen. (seen.to ≡ 0) × (seen.calls ≡ 0) × (seen.differ ≡ 0)) }
-{
-    say(err, b"prog_sample: the file ends within list ")?;
-    number(err, list, b"\n")?;
-    Ok(Seen {
-        to: 0,
-        calls: 0,
-        differ: 0,
-    })
-}
-
-fn parts_differ(rt: &impl Print, list: u64, sample: &[u8], p: Parts) -> io::Result<bool>
-    requires listing_le_script { (p.listing ≤ p.script) × (p.script ≤ p.rows) × (p.rows ≤ p.left) × (p.left ≤ p.to) }
-    requires to_in_bounds { p.to ≤ length sample.now }
-{
-    let listing = p.listing;
-    let script = p.script;
-    let rows = p.rows;
-    let left = p.left;
-    let to = p.to;
-    list_differs(
-        rt,
-        list,
-        &sample[listing..script],
-        &sample[script..rows],
-        &sample[rows..left],
-        &sample[left..to],
-    )
-}
-
-fn counted(differ: bool) -> u64
-    ensures { result < 2 }
-{
-    if differ {
-        return 1;
-    }
-    0
-}
-
-// The list at `at`.
-fn replay(
-    rt: &impl Print,
-    err: &impl Print,
-    list: u64,
-    sample: &[u8],
-    at: usize,
-) -> io::Result<Seen>
-    requires { at ≤ length sample.now }
-    ensures { IfOk result
-        (λ seen. (seen.to ≤ length sample.now) × (seen.calls < 0x1_0000_0000) × (seen.differ < 2)) }
-{
-    if sample.len() < at + LIST_HEAD {
-        return malformed(err, list);
-    }
-    let p = parts_at(sample, at);
-    let to = p.to;
-    if sample.len() < to {
-        return malformed(err, list);
-    }
-    let calls = (p.left - p.rows) / ROW_SIZE;
-    let differ = parts_differ(rt, list, sample, p)?;
-    Ok(Seen {
-        to: to,
-        calls: calls as u64,
-        differ: counted(differ),
-    })
-}
-
-fn tell_all(rt: &impl Print, lists: u64, calls: u64, differ: u64) -> io::Result<()> {
-    number(rt, lists, b" lists, ")?;
-    number(rt, calls, b" calls, ")?;
-    number(rt, differ, b" lists differ\n")
-}
-
-// All lists, one after another, and what they came to.
-fn replay_all(rt: &impl Print, err: &impl Print, count: u64, sample: &[u8]) -> io::Result<()>
-    requires { (count < 0x1_0000_0000) × (8 ≤ length sample.now) }
-{
-    let mut at: usize = FILE_HEAD;
+// All lists, one after another, and what they came to. No file has so many calls that a sum ends at its type's top.
+fn replay_all(rt: &impl Print, err: &impl Print, count: u64, lists: &[u8]) -> io::Result<()> {
+    let mut rest = lists;
     let mut calls: u64 = 0;
     let mut differ: u64 = 0;
-    for list in 0..count {
-        let seen = replay(rt, err, list + 1, sample, at)?;
-        at = seen.to;
-        if at == 0 {
-            return Ok(());
-        }
-        calls += seen.calls;
-        differ += seen.differ;
+    for i in 0..count {
+        let number = i + 1;
+        let Some((list, behind)) = first_list(rest) else {
+            return println!(err; "prog_sample: the file ends within list {number}");
+        };
+        rest = behind;
+        calls = calls.saturating_add((list.rows.len() / ROW_SIZE) as u64);
+        differ = differ.saturating_add(u64::from(list_differs(rt, number, list)?));
     }
-    if at != sample.len() {
+    if !rest.is_empty() {
         return say(err, b"prog_sample: the file goes on behind its last list\n");
     }
-    tell_all(rt, count, calls, differ)
+    println!(rt; "{count} lists, {calls} calls, {differ} lists differ")
 }
 
 fn replay_file(rt: &impl Print, err: &impl Print, sample: &[u8]) -> io::Result<()> {
     if sample.len() < FILE_HEAD {
         return say(err, b"prog_sample: the file has no head\n");
     }
-    if base_fields::shared(sample, b"TSS1") < 4 {
+    if !sample.starts_with(b"TSS1") {
         return say(err, b"prog_sample: the file has another mark\n");
     }
-    replay_all(rt, err, base_fields::le32(sample, 4), sample)
+    let count = base_fields::le32(sample, 4);
+    replay_all(rt, err, count, &sample[FILE_HEAD..])
 }
 
 // Says what failed, as the caller names it, a colon and the system's words for the error, without the number that std
@@ -350,35 +195,17 @@ fn fail(err: &impl Print, what: &[u8], error: io::Error) -> io::Result<()> {
 
 // What stands before a blank and a bracket, or all where there is none.
 fn before_number(words: &[u8]) -> &[u8] {
-    for i in 1..words.len() {
-        if (words[i - 1] == b' ') & (words[i] == b'(') {
-            return &words[..i - 1];
-        }
+    match words.windows(2).position(|pair| pair == b" (".as_slice()) {
+        Some(i) => &words[..i],
+        None => words,
     }
-    words
 }
 
 // Opens the file of this name, which is to be UTF-8.
 fn open_file<R: Files>(rt: &R, name: &[u8]) -> io::Result<R::File> {
-    match std::str::from_utf8(name) {
-        Ok(name) => File::open(rt, name),
-        Err(_) => Err(io::Error::from(io::ErrorKind::InvalidFilename)),
-    }
-}
-
-// Reads until buf is full or the input ends, and answers how many bytes it put at the start of buf.
-fn read_full(file: &mut impl Read, buf: &mut [u8]) -> io::Result<usize>
-    ensures { IfOk result (λ n. n ≤ length buf.new) }
-{
-    let mut done = 0;
-    while done < buf.len() {
-        let n = file.read(&mut buf[done..])?;
-        if n == 0 {
-            break;
-        }
-        done += n;
-    }
-    Ok(done)
+    let invalid = io::Error::from(io::ErrorKind::InvalidFilename);
+    let name = std::str::from_utf8(name).or(Err(invalid))?;
+    File::open(rt, name)
 }
 
 // Reads the file that the first argument names, and answers how many of its bytes are in the buffer: none if it cannot
@@ -387,7 +214,7 @@ fn read_file(rt: &(impl Env + Files), err: &impl Print, buf: &mut [u8]) -> io::R
     let mut path = [0u8; 4096];
     let length = rt.arg(1, &mut path).unwrap_or(0);
     match open_file(rt, &path[..length]) {
-        Ok(mut file) => read_full(&mut file, buf),
+        Ok(mut file) => test_args::read_full(&mut file, buf),
         Err(error) => {
             fail(err, &path[..length], error)?;
             Ok(0)
@@ -422,18 +249,9 @@ fn held(rt: &(impl Env + Files + Print), err: &impl Print) -> io::Result<()> {
     run_in(rt, err, &mut sample)
 }
 
-// Whether there is an argument of this number; the program's own name has 0.
-fn is_given(rt: &impl Env, i: usize) -> bool {
-    let mut start = [0u8; 1];
-    match rt.arg(i, &mut start) {
-        Ok(_) | Err(FillError::TooLong) => true,
-        Err(FillError::NotPresent) => false,
-    }
-}
-
 fn main(rt: HostRuntime) -> io::Result<()> {
     let err = rt.stderr();
-    if !is_given(&rt, 1) | is_given(&rt, 2) {
+    if test_args::count(&rt) != 2 {
         return say(&err, b"usage: prog_sample SAMPLE\n");
     }
     held(&rt, &err)

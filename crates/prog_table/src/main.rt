@@ -15,9 +15,7 @@ const ENTRY_SIZE: u64 = 40;
 const NO_LIMIT: u64 = 1_000_000;
 
 // A listing without records.
-fn empty_listing() -> [u8; 9] {
-    [82, 68, 76, 1, 0, 0, 0, 0, 0]
-}
+const EMPTY_LISTING: [u8; 9] = *b"RDL\x01\0\0\0\0\0";
 
 // A write of n bytes of data at a path of one byte, and what is left.
 fn write(
@@ -28,11 +26,10 @@ fn write(
     name: &[u8],
     n: usize,
 ) -> io::Result<Record> {
-    let listing = empty_listing();
     let data = [7u8; 512];
     if n <= 512 {
         let done = call_one_path::write_bytes(
-            &listing,
+            &EMPTY_LISTING,
             table,
             rec,
             work,
@@ -58,8 +55,7 @@ fn unlink(
     work: &mut [u8],
     name: &[u8],
 ) -> io::Result<Record> {
-    let listing = empty_listing();
-    let done = call_one_path::unlink(&listing, table, rec, work, name, NO_LIMIT);
+    let done = call_one_path::unlink(&EMPTY_LISTING, table, rec, work, name, NO_LIMIT);
     let answer = done.answer;
     tell::step(rt, b"unlink ", name, 0)?;
     tell::answer(rt, answer)?;
@@ -98,12 +94,11 @@ fn main(rt: HostRuntime) -> io::Result<()> {
 
 // Whether a write of n bytes of data at `a` into an empty table in this buffer is accepted.
 fn takes(table: &mut [u8], work: &mut [u8], n: usize) -> bool {
-    let listing = empty_listing();
     let data = [7u8; 512];
     let opened = table_open::open(table, ENTRY_SIZE);
     if n <= 512 {
         let done = call_one_path::write_bytes(
-            &listing,
+            &EMPTY_LISTING,
             table,
             opened.record,
             work,
@@ -114,10 +109,10 @@ fn takes(table: &mut [u8], work: &mut [u8], n: usize) -> bool {
         );
         let answer = done.answer;
         match answer {
-            model::Answer::Accepted(_) => {
+            Ok(_) => {
                 return true;
             }
-            model::Answer::Refused(_) => {
+            Err(_) => {
                 return false;
             }
         }
@@ -129,22 +124,11 @@ fn takes(table: &mut [u8], work: &mut [u8], n: usize) -> bool {
 fn tried(table: &mut [u8], work: &mut [u8], n: usize, over: usize) -> u64
     ensures { result ≤ 1 }
 {
-    if n < 25 {
-        return 0;
+    if (25..=table.len().min(work.len())).contains(&n) & (over <= 1) {
+        u64::from(takes(&mut table[..n], &mut work[..n], n - 25 + over))
+    } else {
+        0
     }
-    if 1 < over {
-        return 0;
-    }
-    if table.len() < n {
-        return 0;
-    }
-    if work.len() < n {
-        return 0;
-    }
-    if takes(&mut table[0..n], &mut work[0..n], n - 25 + over) {
-        return 1;
-    }
-    0
 }
 
 // In each length from 25 on: data that fills the buffer, and one byte more.

@@ -9,8 +9,8 @@ pub fn step(rt: &impl Print, call: &[u8], name: &[u8], n: u64) -> io::Result<()>
 
 pub fn answer(rt: &impl Print, answer: model::Answer) -> io::Result<()> {
     match answer {
-        model::Answer::Accepted(value) => print!(rt; "accepted {value}"),
-        model::Answer::Refused(refusal) => refused(rt, refusal),
+        Ok(value) => print!(rt; "accepted {value}"),
+        Err(refusal) => refused(rt, refusal),
     }
 }
 
@@ -34,11 +34,11 @@ pub fn record(rt: &impl Print, rec: model::Record) -> io::Result<()> {
 
 // Whether the table is well-formed with its record, and whether the work buffer is all 0.
 pub fn state(rt: &impl Print, formed: bool, work: &[u8]) -> io::Result<()> {
-    if formed {
-        rt.print(", well-formed")?;
+    rt.print(if formed {
+        ", well-formed"
     } else {
-        rt.print(", malformed")?;
-    }
+        ", malformed"
+    })?;
     if base_fields::all_zero(work, 0) {
         rt.println(", work 0")
     } else {

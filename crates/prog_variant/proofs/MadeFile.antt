@@ -7,13 +7,13 @@ use borrow.Table.Elements.{take-le}
 use Rattle.model.specs.Bytes.{Bytes}
 use Rattle.model.specs.declared.Record.{Record}
 use Rattle.kept_file.specs.Kept.{written, told_writing}
-use Rattle.kept_file.specs.declared.Writing.{Writing}
-use Rattle.kept_file.specs.declared.Writing.TheVariants as writing
+use Rattle.std.specs.Prelude.{Result, Ok}
+use Rattle.kept_file.specs.declared.WriteError.{WriteError}
 use Rattle.kept_file.proofs.RoundTrip.{written_file}
 
-pub made_within : (listing table : Bytes) (rec : Record) (output after : Bytes) (a : Writing) (n : ℕ)
+pub made_within : (listing table : Bytes) (rec : Record) (output after : Bytes) (a : Result ℕ WriteError) (n : ℕ)
     → told_writing a ≡ (written listing table rec output).reply → after ≡ (written listing table rec output).output
-    → a ≡ writing.Done n → n ≤ length after
+    → a ≡ Ok n → n ≤ length after
 made_within listing table rec output after a n reply left done =
     let w = written_file listing table rec output n (sym reply ∙ ap told_writing done) in
     let same = ap length (ap (take n) left ∙ w.file) in

@@ -1,11 +1,13 @@
 // The arguments: [--tree] [--changes] PLAN SCRIPT [KEPT]. What begins with two hyphens is an option, and options stand
 // before the files, in any order, each at most once. A file of such a name can be given as `./--name`.
-ghost use Rattle.std.specs.Prelude.{◌≡◌, true, ◌<◌};
+ghost use Rattle.std.specs.Prelude.{◌<◌, IfSome};
 
 use std::env::FillError;
 use std::io;
+use std::io::{Error, ErrorKind};
 use std::rt::Env;
 use std::str::from_utf8;
+use test_args::count;
 
 // As many bytes as a name may have, and one more.
 pub const NAME_SIZE: usize = 4096;
@@ -14,7 +16,6 @@ pub const NAME_SIZE: usize = 4096;
 // kept file's argument may be missing.
 #[derive(Clone, Copy)]
 pub struct Asked {
-    pub right: bool,
     pub tree: bool,
     pub changes: bool,
     pub plan: usize,
@@ -30,80 +31,50 @@ enum Word {
     Name,
 }
 
-// How many arguments there are, the program's own name among them.
-pub fn count(rt: &impl Env) -> usize {
-    let mut start = [0u8; 1];
-    for i in 0..usize::MAX {
-        match rt.arg(i, &mut start) {
-            Ok(_) | Err(FillError::TooLong) => {}
-            Err(FillError::NotPresent) => {
-                return i;
-            }
-        }
-    }
-    usize::MAX
-}
-
 // The file's name that argument i is, which is in the buffer then. It is an error if it is too long for a name, or not
 // UTF-8.
 pub fn file_name<'a>(rt: &impl Env, i: usize, buf: &'a mut [u8]) -> io::Result<&'a str> {
-    match rt.arg(i, buf) {
-        Ok(length) => match from_utf8(&buf[..length]) {
-            Ok(name) => Ok(name),
-            Err(_) => Err(io::Error::from(io::ErrorKind::InvalidData)),
-        },
-        Err(FillError::TooLong) => Err(io::Error::from(io::ErrorKind::InvalidFilename)),
-        Err(FillError::NotPresent) => Err(io::Error::from(io::ErrorKind::InvalidInput)),
-    }
+    let kind = match rt.arg(i, buf) {
+        Ok(length) => return from_utf8(&buf[..length]).or(Err(Error::from(ErrorKind::InvalidData))),
+        Err(FillError::TooLong) => ErrorKind::InvalidFilename,
+        Err(FillError::NotPresent) => ErrorKind::InvalidInput,
+    };
+    Err(Error::from(kind))
 }
 
 // What argument i is. One that is too long for a name counts as one, and cannot be opened.
 fn word_at(rt: &impl Env, i: usize) -> Word {
     let mut name = [0u8; NAME_SIZE];
     let length = rt.arg(i, &mut name).unwrap_or(0);
-    if length < 2 {
-        return Word::Name;
+    match &name[..length] {
+        b"--tree" => Word::Tree,
+        b"--changes" => Word::Changes,
+        [b'-', b'-', ..] => Word::Unknown,
+        _ => Word::Name,
     }
-    if (name[0] != b'-') | (name[1] != b'-') {
-        return Word::Name;
-    }
-    if base_fields::is_same(&name[..length], b"--tree") {
-        return Word::Tree;
-    }
-    if base_fields::is_same(&name[..length], b"--changes") {
-        return Word::Changes;
-    }
-    Word::Unknown
 }
 
-// What is asked for with argument i too. Up to the first name, `plan` is 0.
-fn with(asked: Asked, word: Word, i: usize) -> Asked {
-    let mut next = asked;
+// What is asked for with argument i too; none where it stands wrong. Up to the first name, `plan` is 0.
+fn with(asked: Asked, word: Word, i: usize) -> Option<Asked> {
+    let first = asked.plan == 0;
     match word {
-        Word::Tree => {
-            next.right = asked.right & !asked.tree & (asked.plan == 0);
-            next.tree = true;
-        }
-        Word::Changes => {
-            next.right = asked.right & !asked.changes & (asked.plan == 0);
-            next.changes = true;
-        }
-        Word::Unknown => {
-            next.right = false;
-        }
-        Word::Name => {
-            if asked.plan == 0 {
-                next.plan = i;
-            }
-        }
+        Word::Tree if first & !asked.tree => Some(Asked {
+            tree: true,
+            ..asked
+        }),
+        Word::Changes if first & !asked.changes => Some(Asked {
+            changes: true,
+            ..asked
+        }),
+        Word::Name if first => Some(Asked { plan: i, ..asked }),
+        Word::Name => Some(asked),
+        Word::Tree | Word::Changes | Word::Unknown => None,
     }
-    next
 }
 
 // All words, one after another; the program's own name is none.
-fn words(rt: &impl Env, count: usize) -> Asked {
+fn words(rt: &impl Env, count: usize) -> Option<Asked> {
     let mut asked = Asked {
-        right: true,
         tree: false,
         changes: false,
         plan: 0,
@@ -111,28 +82,25 @@ fn words(rt: &impl Env, count: usize) -> Asked {
         kept: 0,
     };
     for i in 1..count {
-        let word = word_at(rt, i);
-        asked = with(asked, word, i);
+        asked = with(asked, word_at(rt, i), i)?;
     }
-    asked
+    Some(asked)
 }
 
-// What is asked for; `right` is false for wrong usage, as where there are not two or three names.
-pub fn given(rt: &impl Env) -> Asked
-    ensures { result.right ≡ true → (0 < result.plan) × (result.plan < result.script) × (result.script < result.kept) }
+// What is asked for; none for wrong usage, as where there are not two or three names.
+pub fn given(rt: &impl Env) -> Option<Asked>
+    ensures { IfSome result (λ asked. (0 < asked.plan) × (asked.plan < asked.script) × (asked.script < asked.kept)) }
 {
     let count = count(rt);
-    let mut asked = words(rt, count);
+    let asked = words(rt, count)?;
     let plan = asked.plan;
-    if count <= plan {
-        asked.right = false;
-        return asked;
+    let names = count.saturating_sub(plan);
+    if (plan == 0) | (names < 2) | (3 < names) {
+        return None;
     }
-    let names = count - plan;
-    asked.right = asked.right & (plan != 0) & ((names == 2) | (names == 3));
-    if 2 <= names {
-        asked.script = plan + 1;
-        asked.kept = plan + 2;
-    }
-    asked
+    Some(Asked {
+        script: plan + 1,
+        kept: plan + 2,
+        ..asked
+    })
 }

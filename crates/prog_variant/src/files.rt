@@ -8,6 +8,7 @@ use std::fs::File;
 use std::io;
 use std::io::Read;
 use std::rt::{Env, Files};
+use test_args::read_full;
 
 // Opens the file that argument i names, or answers why not, as where the name is too long.
 fn open_file<R: Env + Files>(rt: &R, i: usize) -> io::Result<R::File> {
@@ -16,34 +17,14 @@ fn open_file<R: Env + Files>(rt: &R, i: usize) -> io::Result<R::File> {
     File::open(rt, path)
 }
 
-// Reads until the buffer is full or the file ends, and answers how many bytes it put at the buffer's start.
-fn read_full(file: &mut impl Read, buf: &mut [u8]) -> io::Result<usize>
-    ensures { IfOk result (λ n. n ≤ length buf.new) }
-{
-    let mut done = 0;
-    while done < buf.len() {
-        let n = file.read(&mut buf[done..])?;
-        if n == 0 {
-            break;
-        }
-        done += n;
-    }
-    Ok(done)
-}
-
-// What one read more answers: an error where the file cannot be read, as a directory.
-fn read_more(file: &mut impl Read) -> io::Result<usize> {
-    let mut one = [0u8; 1];
-    file.read(&mut one)
-}
-
 // Opens the file that argument i names, and reads it into the buffer.
 fn read_named(rt: &(impl Env + Files), i: usize, buf: &mut [u8]) -> io::Result<usize>
     ensures { IfOk result (λ n. n ≤ length buf.new) }
 {
     let mut file = open_file(rt, i)?;
     let n = read_full(&mut file, buf)?;
-    read_more(&mut file)?;
+    // One read more gives an error where the file cannot be read, as a directory.
+    file.read(&mut [0u8; 1])?;
     Ok(n)
 }
 

@@ -3,14 +3,15 @@
 // is left as it is.
 ghost use Rattle.std.specs.Prelude.{◌<◌, length};
 
-use crate::args::{Asked, NAME_SIZE, count, file_name};
+use crate::args::{Asked, NAME_SIZE, file_name};
 use crate::{said, show, views};
-use kept_file::Writing;
+use kept_file::WriteError;
 use model::Record;
 use std::fs::{OpenFile, OpenOptions};
 use std::io::Write;
 use std::rt::{Env, Files};
 use std::{fs, io};
+use test_args::count;
 
 // What the table holds. Where standard output cannot be written to, this line or one before it shows it.
 fn show_left(rt: &impl Print, rec: Record) -> io::Result<()> {
@@ -59,27 +60,22 @@ fn write_file(
     i: usize,
     bytes: &[u8],
 ) -> io::Result<bool> {
-    match make_file(rt, i) {
-        Ok(file) => {
-            if write_whole(file, bytes).is_ok() {
-                return Ok(true);
-            }
-        }
+    let file = match make_file(rt, i) {
+        Ok(file) => file,
         Err(error) => {
             said::unmade(rt, err, i, error)?;
             return Ok(false);
         }
+    };
+    if write_whole(file, bytes).is_ok() {
+        return Ok(true);
     }
-    if remove_file(rt, i).is_ok() {
-        said::of_file(rt, err, i, b"could not be written whole, and is removed")?;
+    let why: &[u8] = if remove_file(rt, i).is_ok() {
+        b"could not be written whole, and is removed"
     } else {
-        said::of_file(
-            rt,
-            err,
-            i,
-            b"could not be written whole, and could not be removed",
-        )?;
-    }
+        b"could not be written whole, and could not be removed"
+    };
+    said::of_file(rt, err, i, why)?;
     Ok(false)
 }
 
@@ -93,24 +89,21 @@ fn write_kept(
     rec: Record,
     output: &mut [u8],
 ) -> io::Result<()> {
-    let writing = kept_write::write(listing, table, rec, output);
-    match writing {
-        Writing::Done(len) => {
+    match kept_write::write(listing, table, rec, output) {
+        Ok(len) => {
             let n = len as usize;
             if write_file(rt, err, i, &output[..n])? {
                 show::printed(err, show_length(rt, len).is_ok())?;
             }
             Ok(())
         }
-        Writing::NoRoom => said::of_file(
+        Err(WriteError::NoRoom) => said::of_file(
             rt,
             err,
             i,
             b"would have 1 MiB or more, and is not written",
         ),
-        Writing::MalformedTable | Writing::MalformedListing | Writing::OtherEntrySize => {
-            said::of_file(rt, err, i, b"cannot be made of what the run left")
-        }
+        Err(_) => said::of_file(rt, err, i, b"cannot be made of what the run left"),
     }
 }
 

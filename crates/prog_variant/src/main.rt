@@ -19,8 +19,9 @@ mod views;
 ghost use Rattle.std.specs.Prelude.{◌<◌, length};
 
 use crate::args::Asked;
-use kept_file::Reading;
-use run_calls::RanNew;
+use kept_file::ReadError;
+use model::Record;
+use run_calls::RunError;
 use std::io;
 use std::rt::{Env, Files};
 
@@ -29,7 +30,7 @@ fn finish(
     rt: &(impl Env + Files + Print),
     err: &impl Print,
     asked: Asked,
-    ran: RanNew,
+    ran: Result<Record, RunError>,
     listing: &[u8],
     script: &[u8],
     table: &[u8],
@@ -39,20 +40,22 @@ fn finish(
     requires { 0 < length work.old }
 {
     match ran {
-        RanNew::Done(rec) => {
+        Ok(rec) => {
             let shown = show::calls(rt, script, report).is_ok();
             if show::printed(err, shown)? {
                 keep::show_and_keep(rt, err, asked, listing, table, rec, work)?;
             }
             Ok(())
         }
-        RanNew::MalformedScript => {
+        Err(RunError::MalformedScript) => {
             said::no_script(rt, err, asked.script, run_script::wrong_from(script))
         }
-        RanNew::ShortReport => {
+        Err(RunError::ShortReport) => {
             said::of_file(rt, err, asked.script, b"has more than 32,768 calls")
         }
-        RanNew::MalformedTable => { said::text(err, b"variant: the table could not be opened\n") }
+        Err(RunError::MalformedTable) => {
+            said::text(err, b"variant: the table could not be opened\n")
+        }
     }
 }
 
@@ -89,25 +92,14 @@ fn go_on(
 ) -> io::Result<()>
     requires { 0 < length work.old }
 {
-    let reading = kept_read::read(file, table);
-    match reading {
-        Reading::Done(content) => {
+    match kept_read::read(file, table) {
+        Ok(content) => {
             let rec = content.record;
             let listing = kept_read::listing_part(file);
             let ran = run_calls::run(listing, table, rec, work, script, report);
-            finish(
-                rt,
-                err,
-                asked,
-                run_calls::as_new(ran),
-                listing,
-                script,
-                table,
-                work,
-                report,
-            )
+            finish(rt, err, asked, ran, listing, script, table, work, report)
         }
-        Reading::NotKept => {
+        Err(ReadError::NotKept) => {
             said::of_file(
                 rt,
                 err,
@@ -115,8 +107,8 @@ fn go_on(
                 b"is a kept file of another version, or too short to name one",
             )
         }
-        Reading::Damaged => { said::of_file(rt, err, asked.plan, b"is a damaged kept file") }
-        Reading::NoRoom | Reading::LongTable => {
+        Err(ReadError::Damaged) => { said::of_file(rt, err, asked.plan, b"is a damaged kept file") }
+        Err(ReadError::NoRoom | ReadError::LongTable) => {
             said::of_file(rt, err, asked.plan, b"does not go into the table's buffer")
         }
     }
@@ -124,11 +116,7 @@ fn go_on(
 
 // Whether the plan is a kept file, by its mark.
 fn is_kept(plan: &[u8]) -> bool {
-    if plan.len() < 3 {
-        return false;
-    }
-    let mark = &plan[..3];
-    base_fields::is_same(mark, b"OVT")
+    plan.starts_with(b"OVT")
 }
 
 // Runs what the files hold, and shows it.
@@ -214,12 +202,11 @@ fn held(rt: &(impl Env + Files + Print), err: &impl Print, asked: Asked) -> io::
 
 fn main(rt: HostRuntime) -> io::Result<()> {
     let err = rt.stderr();
-    let asked = args::given(&rt);
-    if !asked.right {
-        return said::text(
+    match args::given(&rt) {
+        Some(asked) => held(&rt, &err, asked),
+        None => said::text(
             &err,
             b"usage: prog_variant [--tree] [--changes] PLAN SCRIPT [KEPT]\n",
-        );
+        ),
     }
-    held(&rt, &err, asked)
 }

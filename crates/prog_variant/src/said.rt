@@ -17,8 +17,7 @@ fn name(rt: &impl Env, err: &impl Print, i: usize) -> io::Result<()> {
     let length = rt.arg(i, &mut name).unwrap_or(0);
     text(err, b"variant: ")?;
     if length == 0 {
-        text(err, b"argument ")?;
-        err.print(i)?;
+        print!(err; "argument {i}")?;
     }
     test_lines::bytes(err, &name[..length])?;
     text(err, b": ")
@@ -37,40 +36,31 @@ fn is_forbidden(error: Error) -> bool {
 
 // That it could not be read, by the error.
 pub fn unread(rt: &impl Env, err: &impl Print, i: usize, error: Error) -> io::Result<()> {
-    let kind = error.kind();
-    if (kind == ErrorKind::NotFound) | (kind == ErrorKind::NotADirectory) {
-        of_file(rt, err, i, b"there is no such file")
-    } else if kind == ErrorKind::IsADirectory {
-        of_file(rt, err, i, b"is a directory")
-    } else if is_forbidden(error) {
-        of_file(rt, err, i, b"may not be read")
-    } else if kind == ErrorKind::InvalidFilename {
-        of_file(rt, err, i, b"has too long a name")
-    } else {
-        of_file(rt, err, i, b"cannot be read")
-    }
+    let why: &[u8] = match error.kind() {
+        ErrorKind::NotFound | ErrorKind::NotADirectory => b"there is no such file",
+        ErrorKind::IsADirectory => b"is a directory",
+        _ if is_forbidden(error) => b"may not be read",
+        ErrorKind::InvalidFilename => b"has too long a name",
+        _ => b"cannot be read",
+    };
+    of_file(rt, err, i, why)
 }
 
 // That it could not be made, by the error.
 pub fn unmade(rt: &impl Env, err: &impl Print, i: usize, error: Error) -> io::Result<()> {
-    let kind = error.kind();
-    if kind == ErrorKind::AlreadyExists {
-        of_file(rt, err, i, b"is there already, and is not written over")
-    } else if (kind == ErrorKind::NotFound) | (kind == ErrorKind::NotADirectory) {
-        of_file(rt, err, i, b"there is no such folder")
-    } else if is_forbidden(error) | (kind == ErrorKind::ReadOnlyFilesystem) {
-        of_file(rt, err, i, b"may not be written")
-    } else if kind == ErrorKind::InvalidFilename {
-        of_file(rt, err, i, b"has too long a name")
-    } else {
-        of_file(rt, err, i, b"cannot be written")
-    }
+    let why: &[u8] = match error.kind() {
+        ErrorKind::AlreadyExists => b"is there already, and is not written over",
+        ErrorKind::NotFound | ErrorKind::NotADirectory => b"there is no such folder",
+        ErrorKind::ReadOnlyFilesystem => b"may not be written",
+        _ if is_forbidden(error) => b"may not be written",
+        ErrorKind::InvalidFilename => b"has too long a name",
+        _ => b"cannot be written",
+    };
+    of_file(rt, err, i, why)
 }
 
 // That it is no script, and where it goes wrong.
 pub fn no_script(rt: &impl Env, err: &impl Print, i: usize, at: usize) -> io::Result<()> {
     name(rt, err, i)?;
-    text(err, b"is not a script: wrong at byte ")?;
-    err.print(at)?;
-    text(err, b", counted from 0\n")
+    println!(err; "is not a script: wrong at byte {at}, counted from 0")
 }

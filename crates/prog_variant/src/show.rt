@@ -22,62 +22,36 @@ pub fn printed(err: &impl Print, ok: bool) -> io::Result<bool>
 
 // A call's name, in a column.
 fn name(rt: &impl Print, kind: Kind) -> io::Result<()> {
-    match kind {
-        Kind::Write => text(rt, b"  write   "),
-        Kind::Append => text(rt, b"  append  "),
-        Kind::WriteInside => text(rt, b"  inside  "),
-        Kind::Mkdir => text(rt, b"  mkdir   "),
-        Kind::Unlink => text(rt, b"  unlink  "),
-        Kind::Rmdir => text(rt, b"  rmdir   "),
-        Kind::Rename => text(rt, b"  rename  "),
-    }
+    rt.print(match kind {
+        Kind::Write => "  write   ",
+        Kind::Append => "  append  ",
+        Kind::WriteInside => "  inside  ",
+        Kind::Mkdir => "  mkdir   ",
+        Kind::Unlink => "  unlink  ",
+        Kind::Rmdir => "  rmdir   ",
+        Kind::Rename => "  rename  ",
+    })
 }
 
-// Words for the numbers of document 01 and of #103, in a column: from 13 on, from 7 on, then all.
-fn words_from_13(rt: &impl Print, number: u64) -> io::Result<()> {
-    if number == 17 {
-        text(rt, b" lent bytes miscounted   ")
-    } else if number == 18 {
-        text(rt, b" offset too large        ")
-    } else {
-        text(rt, b" table buffer too short  ")
-    }
-}
-
-fn words_from_7(rt: &impl Print, number: u64) -> io::Result<()> {
-    if number == 7 {
-        text(rt, b" not a directory         ")
-    } else if number == 8 {
-        text(rt, b" is a directory          ")
-    } else if number == 9 {
-        text(rt, b" not empty               ")
-    } else if number == 10 {
-        text(rt, b" destination below source")
-    } else if number == 11 {
-        text(rt, b" limit                   ")
-    } else if number == 12 {
-        text(rt, b" moved key too long      ")
-    } else {
-        words_from_13(rt, number)
-    }
-}
-
+// Words for the numbers of document 01 and of #103, in a column.
 fn words(rt: &impl Print, number: u64) -> io::Result<()> {
-    if number == 1 {
-        text(rt, b" table, record or work buffer malformed")
-    } else if number == 2 {
-        text(rt, b" listing malformed       ")
-    } else if number == 3 {
-        text(rt, b" path malformed          ")
-    } else if number == 4 {
-        text(rt, b" link met, or root given ")
-    } else if number == 5 {
-        text(rt, b" not found               ")
-    } else if number == 6 {
-        text(rt, b" exists                  ")
-    } else {
-        words_from_7(rt, number)
-    }
+    rt.print(match number {
+        1 => " table, record or work buffer malformed",
+        2 => " listing malformed       ",
+        3 => " path malformed          ",
+        4 => " link met, or root given ",
+        5 => " not found               ",
+        6 => " exists                  ",
+        7 => " not a directory         ",
+        8 => " is a directory          ",
+        9 => " not empty               ",
+        10 => " destination below source",
+        11 => " limit                   ",
+        12 => " moved key too long      ",
+        17 => " lent bytes miscounted   ",
+        18 => " offset too large        ",
+        _ => " table buffer too short  ",
+    })
 }
 
 // The answer: accepted with its value, or refused with its number and words, path and length.
@@ -93,25 +67,13 @@ fn answer(rt: &impl Print, number: u64, path: u64, len: u64) -> io::Result<()> {
     column(rt, len, 8)
 }
 
-// A number behind a text.
-fn number(rt: &impl Print, s: &[u8], n: u64) -> io::Result<()> {
-    text(rt, s)?;
-    rt.print(n)
-}
-
 // What a call's line has behind its path: a rename's destination, how many bytes are added and how many lent for it, or
 // how many are written inside and where; a write's data are not shown.
 fn behind(rt: &impl Print, order: Order, second: &[u8], third: &[u8]) -> io::Result<()> {
-    let kind = order.kind;
-    match kind {
-        Kind::Append => {
-            number(rt, b", ", second.len() as u64)?;
-            number(rt, b" bytes, lent ", third.len() as u64)?;
-        }
-        Kind::WriteInside => {
-            number(rt, b", ", second.len() as u64)?;
-            number(rt, b" bytes at ", order.offset)?;
-        }
+    let added = second.len();
+    match order.kind {
+        Kind::Append => print!(rt; ", {added} bytes, lent {}", third.len())?,
+        Kind::WriteInside => print!(rt; ", {added} bytes at {}", order.offset)?,
         Kind::Rename => {
             text(rt, b" -> ")?;
             bytes(rt, second)?;
@@ -158,9 +120,8 @@ fn line(
         return Ok(script.len());
     }
     let order = run_script::order_at(script, two, at);
-    let kind = order.kind;
     column(rt, (row / ROW_SIZE) as u64 + 1, 6)?;
-    name(rt, kind)?;
+    name(rt, order.kind)?;
     answer(
         rt,
         base_fields::le64(report, row),
@@ -181,14 +142,12 @@ pub fn calls(rt: &impl Print, script: &[u8], report: &[u8]) -> io::Result<()> {
         return Ok(());
     }
     let two = run_script::is_two(script);
-    let mut row: usize = 0;
-    let mut at: usize = SCRIPT_HEAD;
-    while row < report.len() {
+    let mut at = SCRIPT_HEAD;
+    for i in 0..report.len() / ROW_SIZE {
         if script.len() <= at {
             return Ok(());
         }
-        at = line(rt, script, two, at, report, row)?;
-        row += ROW_SIZE;
+        at = line(rt, script, two, at, report, i * ROW_SIZE)?;
     }
     Ok(())
 }

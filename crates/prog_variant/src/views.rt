@@ -49,11 +49,9 @@ fn show_checked(
 ) -> io::Result<()>
     requires { (is_listing listing.now ≡ true) × (is_table table.now rec ≡ true) }
 {
-    let entries = table_entries::first_entry(table, rec);
-    let records = listing_records::first_record(listing);
     let first = Merge {
-        entries: entries,
-        records: records,
+        entries: table_entries::first_entry(table, rec),
+        records: listing_records::first_record(listing),
     };
     let counts = test_lines::count(table, listing, first);
     if asked.tree {

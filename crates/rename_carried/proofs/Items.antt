@@ -1,11 +1,12 @@
 -- What is known of the item that is told, and of the parts that a caller starts with.
-use mathlib.Core.Path.{◌≡◌, ap}
+use mathlib.Core.Path.{◌≡◌, refl, ap}
 use mathlib.Core.List.{List, [], ◌∷◌}
 use mathlib.Core.Bool.{Bool, true}
-use Prim.Native.Nat.{ℕ, ◌-◌, ◌<◌}
+use Prim.Native.Nat.{ℕ, ◌-◌, ◌<◌, ◌≤◌}
 use native.Mathlib.Omega.{arith}
 use lib.Dec.{leb}
 use lib.ListN.{length}
+use Rattle.std.specs.Prelude.{Option, Some, None, MatchOption}
 use Rattle.model.specs.Bytes.{Bytes, every}
 use Rattle.model.specs.Path.{Path, below}
 use Rattle.model.specs.Map.{ascends, only, keys}
@@ -32,18 +33,11 @@ entry_there own part s h n z = let u : Next own part s next.Entry = rw z at n in
 pub listed_there : (own part : Bytes) (s : Stream) (h : Head) → Next own part s h → h ≡ next.Listed → 0 < s.listed.left
 listed_there own part s h n z = let u : Next own part s next.Listed = rw z at n in u.0
 
-pub not_ended : (own part : Bytes) (s : Stream) (h : Head) → Next own part s h → h ≡ next.End → 0 < remaining s → ⊥
-not_ended own part s h n z g =
-    let u : Next own part s next.End = rw z at n in
-    let x = u.0 in
-    let y = u.1 in
-    omega arith
-
-pub left_entry : (own part : Bytes) (s : Stream) (h : Head) → Next own part s h → h ≡ next.Entry → 0 < remaining s
-left_entry own part s h n z = let u = entry_there own part s h n z in omega arith
-
-pub left_listed : (own part : Bytes) (s : Stream) (h : Head) → Next own part s h → h ≡ next.Listed → 0 < remaining s
-left_listed own part s h n z = let u = listed_there own part s h n z in omega arith
+-- where `head_at` tells none, nothing is left
+pub at_end : (own part : Bytes) (s : Stream) (o : Option Head) → ((h : Head) → o ≡ Some h → ⊥)
+    → MatchOption o (remaining s ≡ 0) (Next own part s) → remaining s ≤ 0
+at_end own part s None f m = omega arith
+at_end own part s (Some h) f m = absurd (f h refl)
 
 -- its key lies below a
 module _ (own part table : Bytes) (a : Path) (f : List Bool) (s : Stream) (w : Streaming own part table a f s) where

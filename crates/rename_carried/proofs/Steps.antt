@@ -3,10 +3,9 @@ use mathlib.Core.Path.{◌≡◌, refl, ap, sym, ◌∙◌}
 use mathlib.Core.List.{List, [], ◌∷◌}
 use mathlib.Core.Bool.{Bool, true, false, not, ◌||◌}
 use mathlib.Core.Option.{none}
-use Prim.Native.Nat.{ℕ, zero, suc, ◌+◌, ◌-◌, ◌<◌, ◌≤◌}
+use Rattle.std.specs.Prelude.{Option, Some, None, MatchOption}
+use Prim.Native.Nat.{ℕ, zero, suc, ◌-◌, ◌<◌}
 use native.Mathlib.Omega.{arith}
-use lib.Dec.{ltb}
-use borrow.Author.Tests.{ltb-true, ltb-false}
 use Rattle.model.specs.Bytes.{Bytes, every, before}
 use Rattle.model.specs.Path.{Path, ancestors, below}
 use Rattle.model.specs.Map.{is_none, lookup, ascends, puts, only, keys, mapped}
@@ -137,24 +136,24 @@ module _ (own part : Bytes) (s : Stream) (w : Standing own s.entries.left s.entr
         ∷ puts (entries_at own n at) (mapped as_entry (to_come t a part (m - 1) (record_end part to)))
     step_listed h = record_next own part t a n at m to w h.0 h.1 (c.listed.here h.0) c.entries
 
-    pub ending : (r : Head) → Next own part s r → Ending (ahead t a own part s) r
-    ending next.Entry h = record {
+    pub ending : (r : Option Head) → MatchOption r (remaining s ≡ 0) (Next own part s) → Ending (ahead t a own part s) r
+    ending (Some next.Entry) h = record {
       none_left = λ e. absurd (bot (cc));
       ended = λ e. absurd (cons_some _ _ (ahead t a own part s) (step_entry h) e);
     }
-    ending next.Listed h = record {
+    ending (Some next.Listed) h = record {
       none_left = λ e. absurd (bot (cc));
       ended = λ e. absurd (cons_some _ _ (ahead t a own part s) (step_listed h) e);
     }
-    ending next.End h = record { none_left = λ e. nothing_next own part t a n at m to h.0 h.1; ended = λ e. refl }
+    ending None h = record { none_left = λ e. nothing_next own part t a n at m to (omega arith) (omega arith); ended = λ e. refl }
 
-  pub record Told (r : Head) : Type 0 where
-    pub next : Next own part s r
+  pub record Told (r : Option Head) : Type 0 where
+    pub next : MatchOption r (remaining s ≡ 0) (Next own part s)
     pub ending : (table : Bytes) (a : Path) (t : Table) (l : Tree) (f : List Bool) → Carrying own part table a t l f s
         → Ending (ahead t a own part s) r
     pub up : (t : Table) (a : Path) → ascends [] (ahead t a own part s) ≡ true
 
-  pub told : listing.Standing part m to → (r : Head) → Next own part s r → Told r
+  pub told : listing.Standing part m to → (r : Option Head) → MatchOption r (remaining s ≡ 0) (Next own part s) → Told r
   told v r h = record {
     next = h;
     ending = λ table a t l f c. ending table a t l f c r h;
@@ -235,19 +234,3 @@ module _ (own part : Bytes) (t : Table) (a : Path) (n : ℕ) (e : entries_at own
       ∙ ap (λ (x : Table). puts x (mapped as_entry (to_come t a part s.listed.left s.listed.at))) e
       ∙ ap (λ (x : Tree). puts (only (below a) t) (mapped as_entry x)) (f ∙ ap (only (uncovered t a)) g)
       ∙ carried_parts t l a (ascends_is [] l u).1
-
--- one of two numbers is not 0, or both are
-pub some_left : (m n : ℕ) → (ltb 0 m || ltb 0 n ≡ true → 0 < m + n) × (ltb 0 m || ltb 0 n ≡ false → m + n ≤ 0)
-some_left m n = (
-  (λ h. elim (test (ltb 0 m)) [
-    | yea e ↦ let x = ltb-true 0 m e in omega arith
-    | nay e ↦ elim (test (ltb 0 n)) [ yea f ↦ let x = ltb-true 0 n f in omega arith | nay f ↦ absurd (bot (cc)) ]
-  ]),
-  (λ h. elim (test (ltb 0 m)) [
-    | yea e ↦ absurd (bot (cc))
-    | nay e ↦ elim (test (ltb 0 n)) [
-      | yea f ↦ absurd (bot (cc))
-      | nay f ↦ let x = ltb-false 0 m e in let y = ltb-false 0 n f in omega arith
-    ]
-  ]),
-)

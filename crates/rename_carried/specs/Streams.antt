@@ -1,11 +1,11 @@
 -- Two ascending streams below a, read as one: the table's entries in `own`, and the listing's uncovered records in
 -- `part`.
-use Rattle.std.specs.Prelude.{◌≡◌, Bool, true, false, List, [], ℕ, ◌+◌, ◌<◌}
+use Rattle.std.specs.Prelude.{◌≡◌, Bool, true, false, List, [], ℕ, ◌+◌, ◌<◌, Option, None}
 use Rattle.std.proofs.Math.Option.{none}
 use Rattle.model.specs.Bytes.{Bytes, every, before}
 use Rattle.model.specs.Path.{Path, below}
 use Rattle.model.specs.Map.{lookup, puts, only, keys, mapped}
-use Rattle.model.specs.Tree.{Entry, deleted, Table, Tree}
+use Rattle.model.specs.Tree.{Entry, Table, Tree}
 use Rattle.model.specs.Listing.{record_at, node_of}
 use Rattle.model.specs.Table.{key_at, entry_at, entries_at}
 use Rattle.model.specs.Rename.{as_entry, uncovered}
@@ -50,15 +50,13 @@ Next own part s next.Entry =
 Next own part s next.Listed =
     (0 < s.listed.left) × (0 < s.entries.left → before (key_at own s.entries.at)
     (record_at part s.listed.at).path ≡ false)
-Next own part s next.End = (s.entries.left ≡ 0) × (s.listed.left ≡ 0)
 
--- what is next; at the end nothing is, and this says nothing
+-- what is next
 abbrev pub item_at : Bytes → Bytes → Stream → Head → Path × Entry
 item_at own part s next.Entry = (key_at own s.entries.at, entry_at own s.entries.at)
 item_at own part s next.Listed = ((record_at part s.listed.at).path, as_entry (node_of (record_at part s.listed.at)))
-item_at own part s next.End = ([], deleted)
 
--- nothing is to come exactly at the end
-pub record Ending (t : Table) (h : Head) : Type 0 where
-  pub none_left : h ≡ next.End → t ≡ []
-  pub ended : t ≡ [] → h ≡ next.End
+-- nothing is to come exactly where `head_at` tells none
+pub record Ending (t : Table) (h : Option Head) : Type 0 where
+  pub none_left : h ≡ None → t ≡ []
+  pub ended : t ≡ [] → h ≡ None

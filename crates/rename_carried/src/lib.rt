@@ -4,7 +4,7 @@
 // are next once more, of at most 512 bytes each.
 #![tactic(auto)]
 
-ghost use Rattle.std.specs.Prelude.{◌≡◌, Bool, true, false, List, [], ◌∷◌, ◌+◌, ◌≤◌, ◌<◌, length};
+ghost use Rattle.std.specs.Prelude.{◌≡◌, Bool, true, List, [], ◌∷◌, ◌+◌, ◌≤◌, ◌<◌, length, MatchOption};
 ghost use Rattle.model.specs.Bytes.{Bytes};
 ghost use Rattle.model.specs.Path.{Path, below};
 ghost use Rattle.model.specs.Map.{ascends, only};
@@ -29,23 +29,14 @@ pub struct Stream {
 pub enum Head {
     Entry,
     Listed,
-    End,
 }
 
-// Whether an item is to come.
-pub fn has_next(stream: Stream) -> bool
-    ensures { (result ≡ true → 0 < remaining stream) × (result ≡ false → remaining stream ≤ 0) }
-{
-    let entries = stream.entries;
-    let listed = stream.listed;
-    (0 < entries.left) | (0 < listed.left)
-}
-
-// It reads no more than the two keys at the stream's places.
-pub fn head_at(own: &[u8], part: &[u8], stream: Stream) -> Head
+// Which stream is next, and none where both are at their end. It reads no more than the two keys at the stream's
+// places.
+pub fn head_at(own: &[u8], part: &[u8], stream: Stream) -> Option<Head>
     requires standing { Standing own.now stream.entries.left stream.entries.at }
     requires standing_2 { listing.Standing part.now stream.listed.left stream.listed.at }
-    ensures next { Next own.now part.now stream result }
+    ensures next { MatchOption result (remaining stream ≡ 0) (Next own.now part.now stream) }
     ensures ending { (table : Bytes) (a : Path) (t : Table) (l : Tree) (f : List Bool) → Carrying own.now
         part.now table a t l f stream → Ending (ahead t a own.now part.now stream)
         result }
@@ -56,12 +47,12 @@ pub fn head_at(own: &[u8], part: &[u8], stream: Stream) -> Head
     let listed = stream.listed;
     if entries.left == 0 {
         if listed.left == 0 {
-            return Head::End;
+            return None;
         }
-        return Head::Listed;
+        return Some(Head::Listed);
     }
     if listed.left == 0 {
-        return Head::Entry;
+        return Some(Head::Entry);
     }
     let here = listing_records::Place {
         at: listed.at,
@@ -70,9 +61,9 @@ pub fn head_at(own: &[u8], part: &[u8], stream: Stream) -> Head
     let key = table_entries::entry_key(own, entries);
     let path = listing_records::record_path(part, here);
     if base_fields::is_before(key, path) {
-        return Head::Entry;
+        return Some(Head::Entry);
     }
-    Head::Listed
+    Some(Head::Listed)
 }
 
 // Both streams at their first item: `count` entries in `own`, and the first uncovered one of `records` records in
@@ -104,14 +95,11 @@ pub fn first(
 {
     let listed = rename_uncovered::first_uncovered(flags, part, records, table, rec, source);
     let entries = table_entries::Place { at: 0, left: count };
-    Stream {
-        entries: entries,
-        listed: listed,
-    }
+    Stream { entries, listed }
 }
 
 // The streams behind what `head_at` told to be next. One of them goes on, over one entry, or up to the next uncovered
-// record, and what lies between is read once in a whole pass. At the end nothing is behind, and no caller comes there.
+// record, and what lies between is read once in a whole pass.
 pub fn advance(
     flags: &mut [bool; 513],
     own: &[u8],
@@ -123,7 +111,6 @@ pub fn advance(
 ) -> Stream
     requires streaming { Streaming own.now part.now table.now source.now flags.old stream }
     requires next { Next own.now part.now stream head }
-    requires stream_nonzero { 0 < remaining stream }
     ensures result_bound { remaining result < remaining stream }
     ensures streaming_2 { Streaming own.now part.now table.now source.now
         flags.new result }
@@ -133,25 +120,21 @@ pub fn advance(
         own.now part.now stream ≡ item_at own.now part.now stream head
         ∷ ahead t source.now own.now part.now result) }
 {
-    let entries = stream.entries;
-    let listed = stream.listed;
+    let Stream { entries, listed } = stream;
     match head {
         Head::Entry => {
             let next = table_entries::next_entry(own, entries);
-            return Stream {
+            Stream {
                 entries: next,
-                listed: listed,
-            };
+                listed,
+            }
         }
         Head::Listed => {
             let next = rename_uncovered::next_uncovered(flags, part, table, listed, source);
-            return Stream {
-                entries: entries,
+            Stream {
+                entries,
                 listed: next,
-            };
-        }
-        Head::End => {
-            return stream;
+            }
         }
     }
 }

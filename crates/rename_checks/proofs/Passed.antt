@@ -11,8 +11,8 @@ use Rattle.model.specs.Path.{Path, below, rest}
 use Rattle.model.specs.Tree.{Node, Table, Tree, shown, Kind, a_directory, a_file, kind, is_nothing, is_directory}
 use Rattle.model.specs.Checks.{pass, refuse, parent_checks, not_root, no_visible_child}
 use Rattle.model.specs.Rename.{not_link, no_clash, present, if_directory}
-use Rattle.model.proofs.Orders.{Lt, bot, is_none_lem, is_some, opt, inside_both}
-use Rattle.model.proofs.Invariant.{kind_is, is_nothing_lem, is_directory_lem, is_file_lem, is_link', kind_at, parents_dirs}
+use Rattle.model.proofs.Orders.{Lt, bot, has_none, is_some, opt, inside_both}
+use Rattle.model.proofs.Invariant.{kind_is, nothing_is, directory_is, file_is, link_is, kind_at, parents_dirs}
 use Rattle.model.proofs.Rules.{child_root, way}
 use Rattle.model.proofs.Passed.{PathsPassed, TypesPassed, paths_passed, types_passed}
 use Rattle.model.proofs.Small.{childless}
@@ -26,10 +26,10 @@ not_root_lem w (c ∷ p) h = tt
 -- neither a link nor nothing
 regular : (n : ℕ) (k : Kind) → not_link 0 n k ≡ pass → present n k ≡ pass → k ≡ cond (is_directory k) a_directory a_file
 regular n k h g = elim (kind_is k) [
-  | is_nothing_lem e ↦ absurd (bot (cc))
-  | is_directory_lem e ↦ cc
-  | is_file_lem e ↦ cc
-  | is_link' e ↦ absurd (bot (cc))
+  | nothing_is e ↦ absurd (bot (cc))
+  | directory_is e ↦ cc
+  | file_is e ↦ cc
+  | link_is e ↦ absurd (bot (cc))
 ]
 
 module _ (t : Table) (l : Tree) (a b : Path) (h : EarlyPassed t l a b) where
@@ -53,7 +53,7 @@ module _ (t : Table) (l : Tree) where
   pub some_shown : (q : Path) → (q ≡ [] → ⊥) → is_nothing (kind (shown t l) q) ≡ false → (n : Node) × (shown t l q ≡ some n)
   some_shown q r k = elim (opt (shown t l q)) [
     | is_some n e ↦ (n, e)
-    | is_none_lem e ↦ absurd (bot (cc (kind_at (shown t l) q none e r)))
+    | has_none e ↦ absurd (bot (cc (kind_at (shown t l) q none e r)))
   ]
 
   -- a directory that is empty is not on the way to a directory whose parents are all there
@@ -73,10 +73,10 @@ module _ (t : Table) (l : Tree) where
   not_under a b c e p h =
       let kb = parents_dirs 0 (length a) (kind (shown t l)) a b p h in
       elim (kind_is (kind (shown t l) a)) [
-        | is_directory_lem ka ↦ not_above a b ka p (cc) h
-        | is_nothing_lem ka ↦ bot (cc)
-        | is_file_lem ka ↦ bot (cc)
-        | is_link' ka ↦ bot (cc)
+        | directory_is ka ↦ not_above a b ka p (cc) h
+        | nothing_is ka ↦ bot (cc)
+        | file_is ka ↦ bot (cc)
+        | link_is ka ↦ bot (cc)
       ]
 
   -- and by 10 the source is not on the way to the destination
@@ -89,7 +89,7 @@ module _ (t : Table) (l : Tree) where
       let p = paths t l a b h in
       let y = types t l a b h in
       elim (opt (rest b q)) [
-        | is_none_lem n ↦ n
+        | has_none n ↦ n
         | is_some s n ↦ absurd (elim (inside_both a b q r s f n) [
           | inl e ↦ h.two e
           | inr (inl e) ↦ not_over a b y.not_below e

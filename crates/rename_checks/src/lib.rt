@@ -31,38 +31,25 @@ fn reject_mount_root(path: &[u8], which: u64) -> Judged
     ensures { check_of result ≡ not_root which path.now }
 {
     if path.len() == 0 {
-        return Judged::Refused(Refusal::LinkOrRoot(which, 0));
+        return Err(Refusal::LinkOrRoot(which, 0));
     }
-    Judged::Pass
+    Ok(())
 }
 
 fn reject_roots(source: &[u8], destination: &[u8]) -> Judged
     ensures { check_of result ≡ (not_root 0 source.now then not_root 1 destination.now) }
 {
-    let from = reject_mount_root(source, 0);
-    if check_judged::is_refused(from) {
-        return from;
-    }
+    reject_mount_root(source, 0)?;
     reject_mount_root(destination, 1)
 }
 
 // A link at the path `which` is refused.
-fn reject_link(visible: Visible, which: u64, len: u64) -> Judged
+fn reject_link(visible: Option<Visible>, which: u64, len: u64) -> Judged
     ensures { check_of result ≡ not_link which len (visible_kind visible) }
 {
     match visible {
-        Visible::Nothing => {
-            return Judged::Pass;
-        }
-        Visible::Directory => {
-            return Judged::Pass;
-        }
-        Visible::File => {
-            return Judged::Pass;
-        }
-        Visible::Link => {
-            return Judged::Refused(Refusal::LinkOrRoot(which, len));
-        }
+        Some(Visible::Link) => Err(Refusal::LinkOrRoot(which, len)),
+        _ => Ok(()),
     }
 }
 
@@ -74,39 +61,18 @@ fn check_destination(listing: &[u8], table: &[u8], rec: Record, path: &[u8]) -> 
         path.now then not_link 1 (length path.now)
         (kind (shown_in listing.now table.now rec) path.now)) }
 {
-    let parents = check_parents::ensure_parent_exists(listing, table, rec, path, 1);
-    if check_judged::is_refused(parents) {
-        return parents;
-    }
+    check_parents::ensure_parent_exists(listing, table, rec, path, 1)?;
     let visible = view_at::visible_at(listing, table, rec, path);
     reject_link(visible, 1, path.len() as u64)
 }
 
 // A deleted source is refused.
-fn reject_deleted(entry: OverlayEntry, bytes: u64) -> Judged
+fn reject_deleted(entry: Option<OverlayEntry>, bytes: u64) -> Judged
     ensures { (s : Bytes) (e : Option Entry) → said_of s entry ≡ said e → check_of result ≡ not_deleted bytes e }
 {
     match entry {
-        OverlayEntry::File { mtime, at, len } => {
-            return Judged::Pass;
-        }
-        OverlayEntry::RealFileRef {
-            mtime,
-            size,
-            at,
-            len,
-        } => {
-            return Judged::Pass;
-        }
-        OverlayEntry::Directory { mtime } => {
-            return Judged::Pass;
-        }
-        OverlayEntry::Deleted => {
-            return Judged::Refused(Refusal::NotFound(0, bytes));
-        }
-        OverlayEntry::Absent => {
-            return Judged::Pass;
-        }
+        Some(OverlayEntry::Deleted) => Err(Refusal::NotFound(0, bytes)),
+        _ => Ok(()),
     }
 }
 
@@ -119,15 +85,9 @@ fn check_source(listing: &[u8], table: &[u8], rec: Record, path: &[u8]) -> Judge
         (lookup (table_in table.now rec) path.now) then not_link 0 (length path.now)
         (kind (shown_in listing.now table.now rec) path.now)) }
 {
-    let parents = check_parents::ensure_parent_exists(listing, table, rec, path, 0);
-    if check_judged::is_refused(parents) {
-        return parents;
-    }
+    check_parents::ensure_parent_exists(listing, table, rec, path, 0)?;
     let entry = table_entries::get(table, rec, path);
-    let deleted = reject_deleted(entry, path.len() as u64);
-    if check_judged::is_refused(deleted) {
-        return deleted;
-    }
+    reject_deleted(entry, path.len() as u64)?;
     let visible = view_at::visible_at(listing, table, rec, path);
     reject_link(visible, 0, path.len() as u64)
 }
@@ -145,14 +105,8 @@ pub fn check_paths(
     ensures { check_of result ≡ rename_paths (table_in table.now rec) (tree_in listing.now)
         source.now destination.now }
 {
-    let roots = reject_roots(source, destination);
-    if check_judged::is_refused(roots) {
-        return roots;
-    }
-    let to = check_destination(listing, table, rec, destination);
-    if check_judged::is_refused(to) {
-        return to;
-    }
+    reject_roots(source, destination)?;
+    check_destination(listing, table, rec, destination)?;
     check_source(listing, table, rec, source)
 }
 
@@ -176,29 +130,18 @@ pub fn is_onto_itself(
 }
 
 // A directory only onto a directory or nothing, a file not onto a directory; `len` is the destination's length.
-fn reject_rename_type_mismatch(source: Visible, destination: Visible, len: u64) -> Judged
+fn reject_rename_type_mismatch(
+    source: Option<Visible>,
+    destination: Option<Visible>,
+    len: u64,
+) -> Judged
     ensures { check_of result ≡ no_clash len (visible_kind source) (visible_kind destination) }
 {
     let directory = view_at::is_directory(source);
     match destination {
-        Visible::Nothing => {
-            return Judged::Pass;
-        }
-        Visible::Directory => {
-            if directory {
-                return Judged::Pass;
-            }
-            return Judged::Refused(Refusal::IsADirectory(1, len));
-        }
-        Visible::File => {
-            if directory {
-                return Judged::Refused(Refusal::NotADirectory(1, len));
-            }
-            return Judged::Pass;
-        }
-        Visible::Link => {
-            return Judged::Pass;
-        }
+        Some(Visible::Directory) if !directory => Err(Refusal::IsADirectory(1, len)),
+        Some(Visible::File) if directory => Err(Refusal::NotADirectory(1, len)),
+        _ => Ok(()),
     }
 }
 
@@ -207,19 +150,16 @@ fn reject_rename_onto_nonempty_dir(
     listing: &[u8],
     table: &[u8],
     rec: Record,
-    source: Visible,
-    destination: Visible,
+    source: Option<Visible>,
+    destination: Option<Visible>,
     path: &[u8],
 ) -> Judged
     requires { Given listing.now table.now rec }
     ensures { check_of result ≡ if_directory (visible_kind source) (if_directory (visible_kind destination)
         (no_visible_child 1 (table_in table.now rec) (tree_in listing.now) path.now)) }
 {
-    if !view_at::is_directory(source) {
-        return Judged::Pass;
-    }
-    if !view_at::is_directory(destination) {
-        return Judged::Pass;
+    if !view_at::is_directory(source) || !view_at::is_directory(destination) {
+        return Ok(());
     }
     check_one_path::check_empty(listing, table, rec, path, 1)
 }
@@ -230,29 +170,19 @@ fn reject_below(source: &[u8], destination: &[u8]) -> Judged
         (length source.now)) pass }
 {
     if base_paths::is_below(source, destination) {
-        return Judged::Refused(Refusal::BelowSource(source.len() as u64));
+        return Err(Refusal::BelowSource(source.len() as u64));
     }
-    Judged::Pass
+    Ok(())
 }
 
 // 5 for a source of `len` bytes that shows nothing.
-fn reject_absent(visible: Visible, len: u64) -> Judged
+fn reject_absent(visible: Option<Visible>, len: u64) -> Judged
     ensures { check_of result ≡ present len (visible_kind visible) }
 {
-    match visible {
-        Visible::Nothing => {
-            return Judged::Refused(Refusal::NotFound(0, len));
-        }
-        Visible::Directory => {
-            return Judged::Pass;
-        }
-        Visible::File => {
-            return Judged::Pass;
-        }
-        Visible::Link => {
-            return Judged::Pass;
-        }
+    if view_at::is_nothing(visible) {
+        return Err(Refusal::NotFound(0, len));
     }
+    Ok(())
 }
 
 // Both together: type clash 8 or 7; 9 for a directory source; 10; source absent 5.
@@ -269,17 +199,8 @@ pub fn check_types(
 {
     let from = view_at::visible_at(listing, table, rec, source);
     let to = view_at::visible_at(listing, table, rec, destination);
-    let clash = reject_rename_type_mismatch(from, to, destination.len() as u64);
-    if check_judged::is_refused(clash) {
-        return clash;
-    }
-    let full = reject_rename_onto_nonempty_dir(listing, table, rec, from, to, destination);
-    if check_judged::is_refused(full) {
-        return full;
-    }
-    let inside = reject_below(source, destination);
-    if check_judged::is_refused(inside) {
-        return inside;
-    }
+    reject_rename_type_mismatch(from, to, destination.len() as u64)?;
+    reject_rename_onto_nonempty_dir(listing, table, rec, from, to, destination)?;
+    reject_below(source, destination)?;
     reject_absent(from, source.len() as u64)
 }

@@ -34,8 +34,5 @@ pub fn moved_key(destination: &[u8], path: &[u8], from: usize) -> Key
     let tail = &path[from..];
     let len = destination.len() + tail.len();
     compose(&mut bytes, destination, tail);
-    Key {
-        bytes: bytes,
-        len: len,
-    }
+    Key { bytes, len }
 }

@@ -12,7 +12,7 @@ use Rattle.model.specs.Path.{Path, ancestors, below, rest}
 use Rattle.model.specs.Map.{Map, is_none, lookup, puts, only, each, keys, rekey, mapped}
 use Rattle.model.specs.Tree.{Node, Entry, deleted, Table, Tree, shown, a_directory, a_file, kind, is_directory}
 use Rattle.model.specs.Rename.{new_key, as_entry, uncovered, along, carried}
-use Rattle.model.proofs.Orders.{Lt, Lt_same, Lt_after, Split, split, yea, nay, test, is_none_lem, is_some, opt}
+use Rattle.model.proofs.Orders.{Lt, Lt_same, Lt_after, Split, split, yea, nay, test, has_none, is_some, opt}
 use Rattle.model.proofs.Orders.{bot, and_true, same_refl, mem, mem_ancestors, below_irrefl, below_trans, below_rest, rest_is, rest_self}
 use Rattle.model.proofs.Maps.{Above, Ascending, above_trans, or_else, map_o, map_ext, ascending_mapped}
 use Rattle.model.proofs.Maps.{lookup_puts, lookup_rekey, lookup_keys, lookup_mapped, lookup_only, ascending_puts, ascending_only}
@@ -55,7 +55,7 @@ module _ {A : Type 0} where
       let e = and_true (not (is_none (rest a x.0))) (inside a xs) h in
       let i = rekeyed a b xs e.1 in
       elim (opt (rest a x.0)) [
-        | is_none_lem n ↦ absurd (bot (cc e.0))
+        | has_none n ↦ absurd (bot (cc e.0))
         | is_some r n ↦ cc (new_key_lem a b x.0 r n)
       ]
 
@@ -64,14 +64,14 @@ module _ {A : Type 0} where
   above_rekey a b k r [] e h g = tt
   above_rekey a b k r (x ∷ xs) e h g =
       let i = above_rekey a b k r xs e (above_trans k x.0 xs h g.0) g.1 in
-      elim (opt (rest a x.0)) [ is_none_lem n ↦ rw n i | is_some s n ↦ rw n (new_order a b k x.0 r s e n h) ]
+      elim (opt (rest a x.0)) [ has_none n ↦ rw n i | is_some s n ↦ rw n (new_order a b k x.0 r s e n h) ]
 
   -- keys that ascend still do so with b in the place of a
   pub ascending_rekey : (a b : Path) (c : Map A) → Ascending c → Ascending (rekey a b c)
   ascending_rekey a b [] h = tt
   ascending_rekey a b (x ∷ xs) h =
       let i = ascending_rekey a b xs h.1 in
-      elim (opt (rest a x.0)) [ is_none_lem n ↦ rw n i | is_some r n ↦ rw n (above_rekey a b x.0 r xs n h.0 h.1, i) ]
+      elim (opt (rest a x.0)) [ has_none n ↦ rw n i | is_some r n ↦ rw n (above_rekey a b x.0 r xs n h.0 h.1, i) ]
 
   -- nothing stands where a path is not at a or below it
   pub inside_none : (a : Path) (c : Map A) → inside a c ≡ true → (q : Path) → rest a q ≡ none → lookup c q ≡ none
@@ -86,7 +86,7 @@ module _ {A : Type 0} where
   inside_only a P (x ∷ xs) h =
       let i = inside_only a P xs h in
       elim (test (P x.0)) [
-        | yea e ↦ elim (opt (rest a x.0)) [ is_none_lem n ↦ absurd (h x.0 e n) | is_some r n ↦ cc ]
+        | yea e ↦ elim (opt (rest a x.0)) [ has_none n ↦ absurd (h x.0 e n) | is_some r n ↦ cc ]
         | nay e ↦ cc
       ]
 
@@ -130,7 +130,7 @@ module _ (t : Table) (l : Tree) (a : Path) where
       let u = lookup_puts t (mapped as_entry (only (uncovered t a) l)) a in
       let v = lookup_mapped as_entry (only (uncovered t a) l) a in
       let w = lookup_only (uncovered t a) l a in
-      elim (opt (lookup t a)) [ is_some e n ↦ cc | is_none_lem n ↦ cc (uncovered_self n) ]
+      elim (opt (lookup t a)) [ is_some e n ↦ cc | has_none n ↦ cc (uncovered_self n) ]
 
   -- all that may move ascends, as the listing does
   pub ascending_loose : Ascending l → Ascending loose
@@ -194,7 +194,7 @@ module _ (t : Table) (l : Tree) (a : Path) where
   pub found_top : (n : Node) → shown t l a ≡ some n → (e : Entry) × (top_entry ≡ some e)
   found_top n s = elim (opt (lookup t a)) [
     | is_some e f ↦ (e, cc)
-    | is_none_lem f ↦ (as_entry n, cc)
+    | has_none f ↦ (as_entry n, cc)
   ]
 
 -- nothing is both at or below a and at or below b
@@ -207,6 +207,6 @@ apart_moved a b c p h q e f =
     let w = lookup_keys deleted c q in
     let x = lookup_rekey a b c q in
     elim (opt (rest a q)) [
-      | is_none_lem n ↦ absurd (bot (cc (inside_none a c h q n)))
+      | has_none n ↦ absurd (bot (cc (inside_none a c h q n)))
       | is_some r n ↦ cc (p q r n)
     ]

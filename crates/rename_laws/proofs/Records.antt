@@ -10,7 +10,7 @@ use Rattle.model.specs.Path.{Path}
 use Rattle.model.specs.Map.{Map, lookup, put, puts}
 use Rattle.model.specs.Tree.{Table}
 use Rattle.model.specs.Table.{body_of, encode, entry_charge, charge_sum}
-use Rattle.model.proofs.Orders.{Lt-≢, Cmp, cmp, Split, split, is_none_lem, is_some, opt, bot, same_no, same_refl}
+use Rattle.model.proofs.Orders.{Lt-≢, Cmp, cmp, Split, split, has_none, is_some, opt, bot, same_no, same_refl}
 use Rattle.model.proofs.Maps.{Ascending, lookup_puts, lookup_low, ascending_puts}
 use Rattle.table_measure.proofs.Passes.{bytes_cons}
 
@@ -21,7 +21,7 @@ Apart {A} d m = (q : Path) (e : A) → lookup d q ≡ some e → lookup m q ≡ 
 module _ {A : Type 0} where
   -- so too the other way round
   pub apart_sym : (d m : Map A) → Apart d m → Apart m d
-  apart_sym d m h q e f = elim (opt (lookup d q)) [ is_none_lem n ↦ n | is_some x n ↦ absurd (bot (cc (h q x n))) ]
+  apart_sym d m h q e f = elim (opt (lookup d q)) [ has_none n ↦ n | is_some x n ↦ absurd (bot (cc (h q x n))) ]
 
   -- so too what is left of one behind its first
   pub apart_left : (x : Path × A) (d m : Map A) → Apart (x ∷ d) m → Apart d m
@@ -33,7 +33,7 @@ module _ {A : Type 0} where
 
   -- the first key of one is not in the other
   pub apart_first : (x : Path × A) (d m : Map A) → Apart d (x ∷ m) → lookup d x.0 ≡ none
-  apart_first x d m h = elim (opt (lookup d x.0)) [ is_none_lem n ↦ n | is_some e n ↦ absurd (bot (cc (h x.0 e n, same_refl x.0))) ]
+  apart_first x d m h = elim (opt (lookup d x.0)) [ has_none n ↦ n | is_some e n ↦ absurd (bot (cc (h x.0 e n, same_refl x.0))) ]
 
   -- a sum over a map, by the weight of each value at its path; and what stands at one path, if anything does
   module _ (f : Path → A → ℕ) where

@@ -5,8 +5,7 @@ use mathlib.Core.Bool.{Bool, true, false, not, ◌&&◌, ◌||◌}
 use Prim.Native.Nat.{ℕ, ◌+◌, ◌-◌, ◌<◌, ◌≤◌}
 use native.Mathlib.Omega.{arith}
 use lib.Dec.{leb}
-use lib.ListN.{length, take, drop, length-append, length-drop}
-use lib.Seq.{length-take-le}
+use lib.ListN.{length, drop, length-append, length-drop}
 use borrow.Author.Tests.{le-leb, lt-leb}
 use Rattle.model.specs.Bytes.{Bytes, before}
 use Rattle.model.specs.Path.{Path, components, short}
@@ -37,13 +36,6 @@ or_true false = refl
 -- how long a composed key is
 pub composed_length : (b key : Path) (from : ℕ) → length (b ++ drop from key) ≡ length b + (length key - from)
 composed_length b key from = length-append b (drop from key) ∙ ap (λ (n : ℕ). length b + n) (length-drop from key)
-
--- the part of the buffer that is lent has that length
-pub lent_length : (bytes : Bytes) (n : ℕ) → n ≤ 512 → length bytes ≡ 512 → n ≡ length (take n bytes)
-lent_length bytes n h e = sym (length-take-le n bytes (omega arith))
-
-pub lent_short : (bytes : Bytes) (n : ℕ) → n ≤ 512 → length bytes ≡ 512 → length (take n bytes) ≤ 512
-lent_short bytes n h e = let l = lent_length bytes n h e in omega arith
 
 module _ (s : Bytes) (b key : Path) (from m : ℕ) (x : Tally) where
   pub counted_far : (v : ℕ) → v ≡ charge_by x.rec.entry_size (length b + (length key - from)) m → 512 < length b + (length key - from)
@@ -80,13 +72,6 @@ module _ (s : Bytes) (b key : Path) (from m : ℕ) (x : Tally) where
         charged = λ g. absurd (bot (cc));
         long = ap (λ (y : Bool). x.long || not y) (e ∙ ap short n);
       }
-
--- the key and the body as the code has them are the item's
-pub as_item : (s : Bytes) (x : Tally) (a b key item : Path) (body own : Bytes) → key ≡ item → body ≡ own → (y : Tally)
-    → Counted s (b ++ drop (length a) key) (length body) x y → Counted s (b ++ drop (length a) item) (length own) x y
-as_item s x a b key item body own e f y c =
-    subst (λ (k : Path). Counted s (b ++ drop (length a) k) (length own) x y) e
-    (subst (λ (o : Bytes). Counted s (b ++ drop (length a) key) (length o) x y) f c)
 
 -- from the first entry on
 pub first_counted : (s : Bytes) (b : Path) (m : ℕ) (r : Record) (q : Place) → q ≡ record { at = 0; left = r.count } → (q' : Place) (a : Record)

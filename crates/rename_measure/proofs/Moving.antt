@@ -175,11 +175,11 @@ module _ (own part s : Bytes) (a b : Path) (e : Entry) (r : Record) (count recor
       next_moved : moved_ahead u ≡ (key, item.1) ∷ moved_ahead v
       next_moved =
           ap (rekey a b) (c T (tree_at part records 0) m.carrying).1
-          ∙ rekey_item a b item (ahead T a own part v) (item_below own part s a f u m.streaming h n (omega arith))
+          ∙ rekey_item a b item (ahead T a own part v) (item_below own part s a f u m.streaming h n)
 
       key_long : length key ≤ 1024
       key_long =
-          let r = below_rest a item.0 (item_below own part s a f u m.streaming h n (omega arith)) in
+          let r = below_rest a item.0 (item_below own part s a f u m.streaming h n) in
           let l = new_length a b item.0 (47 ∷ r.0) r.1 in
           let i = (item_short own part s a f u m.streaming h n).0 in
           omega arith

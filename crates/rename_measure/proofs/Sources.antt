@@ -14,7 +14,7 @@ use Rattle.model.specs.Listing.{ListingRecord, records, ruled, placed, formed_re
 use Rattle.model.specs.Table.{body_of, encode, table_in, is_table}
 use Rattle.model.specs.Rename.{as_entry, uncovered}
 use Rattle.model.specs.declared.Record.{Record}
-use Rattle.model.proofs.Orders.{bot, and_true, Split, split, is_none_lem, is_some, opt}
+use Rattle.model.proofs.Orders.{bot, and_true, Split, split, has_none, is_some, opt}
 use Rattle.model.proofs.Maps.{or_else, map_o}
 use Rattle.model.proofs.Codec.{decoded, path_short}
 use Rattle.model.proofs.Invariant.{kind_at}
@@ -72,8 +72,8 @@ top_small s g r h i a e f =
       | is_some x n ↦
           let w = entry_within (table_in s r) a e (cc) in
           omega arith
-      | is_none_lem n ↦ elim (opt (lookup (tree_in g) a)) [
-        | is_none_lem m ↦
+      | has_none n ↦ elim (opt (lookup (tree_in g) a)) [
+        | has_none m ↦
             absurd (none_is _ e (o ∙ ap₂ (λ (u : Option Entry) (v : Option Node). or_else u (map_o as_entry v)) n m) f)
         | is_some x m ↦
             let there : lookup (puts (table_in s r) (mapped as_entry (only (uncovered (table_in s r) a) (tree_in g)))) a ≡ some (as_entry x) =
@@ -99,11 +99,11 @@ length_small s g r h i a w x n l =
 pub source_directory : (t : Table) (l : Tree) (a : Path) → (a ≡ [] → ⊥) → kind (shown t l) a ≡ a_directory → Source t l a true
 source_directory t l a r k = elim (opt (shown t l a)) [
   | is_some n e ↦ let y = found_top t l a n e in record { entry = y.0; top = loose_top t l a ∙ y.1; is = k }
-  | is_none_lem e ↦ absurd (bot (cc (kind_at (shown t l) a none e r)))
+  | has_none e ↦ absurd (bot (cc (kind_at (shown t l) a none e r)))
 ]
 
 pub source_file : (t : Table) (l : Tree) (a : Path) → (a ≡ [] → ⊥) → kind (shown t l) a ≡ a_file → Source t l a false
 source_file t l a r k = elim (opt (shown t l a)) [
   | is_some n e ↦ let y = found_top t l a n e in record { entry = y.0; top = loose_top t l a ∙ y.1; is = k }
-  | is_none_lem e ↦ absurd (bot (cc (kind_at (shown t l) a none e r)))
+  | has_none e ↦ absurd (bot (cc (kind_at (shown t l) a none e r)))
 ]

@@ -109,17 +109,15 @@ module _ (own part table : Bytes) (a : Path) (f : List Bool) (s : Stream) (w : S
       let x = record_short g.0 in
       let y = node_body (record_at part s.listed.at) x in
       (x, omega arith)
-  item_short next.End g = (omega arith, omega arith)
 
   -- and below a
-  pub item_below : (h : Head) → Next own part s h → 0 < remaining s → below a (item_at own part s h).0 ≡ true
-  item_below next.Entry g r = entry_below own part table a f s w g.0
-  item_below next.Listed g r = listed_below own part table a f s w g.0
-  item_below next.End g r = let x = g.0 in let y = g.1 in absurd (omega arith)
+  pub item_below : (h : Head) → Next own part s h → below a (item_at own part s h).0 ≡ true
+  item_below next.Entry g = entry_below own part table a f s w g.0
+  item_below next.Listed g = listed_below own part table a f s w g.0
 
   -- so it is longer than a
-  pub item_longer : (h : Head) → Next own part s h → 0 < remaining s → length a ≤ length (item_at own part s h).0
-  item_longer h n r = let l = below_length a (item_at own part s h).0 (item_below h n r) in omega arith
+  pub item_longer : (h : Head) → Next own part s h → length a ≤ length (item_at own part s h).0
+  item_longer h n = let l = below_length a (item_at own part s h).0 (item_below h n) in omega arith
 
   -- its key as the code has it
   pub key_short : (h : Head) → Next own part s h → (key : Path) → key ≡ (item_at own part s h).0 → length key ≤ 512

@@ -17,7 +17,7 @@ ghost use Rattle.listing_records.specs.Place as listing;
 ghost use Rattle.table_entries.specs.Place.{Standing};
 ghost use Rattle.table_measure.specs.Measure.{Measured, Counts};
 ghost use Rattle.rename_uncovered.specs.Ahead.{PartBelow};
-ghost use Rattle.rename_carried.specs.Streams.{carried_below, remaining, Next, item_at};
+ghost use Rattle.rename_carried.specs.Streams.{carried_below, Next, item_at};
 ghost use Rattle.rename_measure.specs.Tallies.{Counted, Moved, Small, Source, combined, Foretold};
 
 use rename_carried::{Head, Stream};
@@ -76,8 +76,7 @@ pub fn measure_deletions<'a>(
     let mut place = top.place;
     let mut after = top.rec;
     let mut stream = rename_carried::first(flags, own, count, part, records, table, rec, source);
-    while rename_carried::has_next(stream) {
-        let head = rename_carried::head_at(own, part, stream);
+    while let Some(head) = rename_carried::head_at(own, part, stream) {
         let key = rename_items::item_key(own, part, stream, head);
         let next = table_measure::projected(table, place, after, key, 0);
         place = next.place;
@@ -86,10 +85,8 @@ pub fn measure_deletions<'a>(
     }
     // Each step changes the three sums; the entry size stays the table's own.
     model::Record {
-        used: after.used,
-        count: after.count,
-        charge: after.charge,
         entry_size: rec.entry_size,
+        ..after
     }
 }
 
@@ -103,30 +100,30 @@ fn counted(table: &[u8], tally: Tally, destination: &[u8], key: &[u8], from: usi
         result }
 {
     let n = destination.len() + (key.len() - from);
-    let place = tally.place;
-    let rec = tally.rec;
+    let Tally {
+        place,
+        rec,
+        extra,
+        long,
+    } = tally;
     if model::PATH_MAX < n {
         let usage = table_charge::entry_memory_usage(rec.entry_size, n as u64, m);
         return Tally {
-            place: place,
-            rec: rec,
-            extra: tally.extra + usage,
+            place,
+            rec,
+            extra: extra + usage,
             long: true,
         };
     }
     let moved = rename_keys::moved_key(destination, key, from);
-    let bytes = moved.bytes;
-    let end = moved.len;
-    let new = &bytes[..end];
+    let new = &moved.bytes[..moved.len];
     let next = table_measure::projected(table, place, rec, new, m);
     let fits = base_paths::is_short(new);
-    let behind = next.place;
-    let after = next.rec;
     Tally {
-        place: behind,
-        rec: after,
-        extra: tally.extra,
-        long: tally.long | !fits,
+        place: next.place,
+        rec: next.rec,
+        extra,
+        long: long | !fits,
     }
 }
 
@@ -146,7 +143,6 @@ fn with_move<'a>(
     requires standing { Standing own.now stream.entries.left stream.entries.at }
     requires standing_2 { listing.Standing part.now stream.listed.left stream.listed.at }
     requires next { Next own.now part.now stream head }
-    requires stream_nonzero { 0 < remaining stream }
     requires source_in_bounds { (length source.now ≤ length (item_at own.now part.now stream head).0)
         × (length (item_at own.now part.now stream head).0 ≤ 512)
         × (length (body_of (item_at own.now part.now stream head).1) ≤ 16777216) }
@@ -178,14 +174,11 @@ fn first_move(table: &[u8], rec: model::Record, destination: &[u8], m: u64) -> T
 {
     let begin = table_entries::first_entry(table, rec);
     let next = table_measure::projected(table, begin, rec, destination, m);
-    let fits = base_paths::is_short(destination);
-    let behind = next.place;
-    let after = next.rec;
     Tally {
-        place: behind,
-        rec: after,
+        place: next.place,
+        rec: next.rec,
         extra: 0,
-        long: !fits,
+        long: !base_paths::is_short(destination),
     }
 }
 
@@ -218,23 +211,25 @@ pub fn measure_moves<'a>(
 {
     let mut tally = first_move(table, rec, destination, first_len);
     let mut stream = rename_carried::first(flags, own, count, part, records, table, rec, source);
-    while rename_carried::has_next(stream) {
-        let head = rename_carried::head_at(own, part, stream);
+    while let Some(head) = rename_carried::head_at(own, part, stream) {
         tally = with_move(table, tally, own, part, stream, head, source, destination);
         stream = rename_carried::advance(flags, own, part, table, stream, head, source);
     }
-    let after = tally.rec;
+    let Tally {
+        rec: after,
+        extra,
+        long,
+        ..
+    } = tally;
     // Each step changes the three sums; the entry size stays the table's own.
     let sums = model::Record {
-        used: after.used,
-        count: after.count,
-        charge: after.charge,
         entry_size: rec.entry_size,
+        ..after
     };
     Moves {
         rec: sums,
-        extra: tally.extra,
-        long: tally.long,
+        extra,
+        long,
     }
 }
 
@@ -256,12 +251,8 @@ fn deletions_below<'a>(
     let mut flags: [bool; 513] = [false; 513];
     let entries = table_below::below(table, rec, source);
     let listed = listing_records::below(listing, source);
-    let from = entries.from;
-    let to = entries.to;
-    let start = listed.from;
-    let end = listed.to;
-    let own = &table[from..to];
-    let part = &listing[start..end];
+    let own = &table[entries.from..entries.to];
+    let part = &listing[listed.from..listed.to];
     measure_deletions(
         &mut flags,
         own,
@@ -296,12 +287,8 @@ fn moves_below<'a>(
     let mut flags: [bool; 513] = [false; 513];
     let entries = table_below::below(table, rec, source);
     let listed = listing_records::below(listing, source);
-    let from = entries.from;
-    let to = entries.to;
-    let start = listed.from;
-    let end = listed.to;
-    let own = &table[from..to];
-    let part = &listing[start..end];
+    let own = &table[entries.from..entries.to];
+    let part = &listing[listed.from..listed.to];
     measure_moves(
         &mut flags,
         own,
@@ -333,9 +320,10 @@ fn all_deletions<'a>(
     ensures small { Small result }
 {
     if whole {
-        return deletions_below(listing, table, rec, source);
+        deletions_below(listing, table, rec, source)
+    } else {
+        table_insert::projected_record(table, rec, source, 0)
     }
-    table_insert::projected_record(table, rec, source, 0)
 }
 
 // One entry of m bytes put at the destination.
@@ -346,12 +334,10 @@ fn one_move(table: &[u8], rec: model::Record, destination: &[u8], m: u64) -> Mov
         (table_in table.now rec) (rekey a destination.now ((a, e) ∷ [])) result }
     ensures small { Small result.rec × (result.extra ≤ 0x4000_0000_0000_0000) }
 {
-    let after = table_insert::projected_record(table, rec, destination, m);
-    let fits = base_paths::is_short(destination);
     Moves {
-        rec: after,
+        rec: table_insert::projected_record(table, rec, destination, m),
         extra: 0,
-        long: !fits,
+        long: !base_paths::is_short(destination),
     }
 }
 
@@ -379,9 +365,10 @@ fn all_moves<'a>(
     ensures small { Small result.rec × (result.extra ≤ 0x4000_0000_0000_0000) }
 {
     if whole {
-        return moves_below(listing, table, rec, source, destination, first_len);
+        moves_below(listing, table, rec, source, destination, first_len)
+    } else {
+        one_move(table, rec, destination, first_len)
     }
-    one_move(table, rec, destination, first_len)
 }
 
 // Deletions and moves together, since they have no key in common.

@@ -1,28 +1,23 @@
 -- The plan's sum over what is below the source alone; what the plan gives, by the two comparisons; what a stopped walk gives.
-use mathlib.Core.Path.{◌≡◌, refl, ap, sym, ◌∙◌}
+use mathlib.Core.Path.{◌≡◌, refl, ap, ◌∙◌}
 use mathlib.Core.Bool.{true}
 use mathlib.Core.List.{[], ◌∷◌}
 use mathlib.Core.Option.{Option, some}
 use Prim.Native.Nat.{ℕ, ◌+◌, ◌-◌, ◌*◌}
 use native.Mathlib.Omega.{arith}
 use lib.ListN.{length}
-use borrow.Author.Tests.{le-leb, lt-leb}
+use borrow.Author.Tests.{le-leb}
 use Rattle.model.specs.Bytes.{every}
 use Rattle.model.specs.Path.{Path, below}
 use Rattle.model.specs.Map.{only, keys}
 use Rattle.model.specs.Tree.{Table}
 use Rattle.model.specs.Table.{charge}
-use Rattle.model.specs.Checks.{Check, refuse, ◌then◌, limited}
-use Rattle.model.specs.Rename.{new_key, planned, plan, budget, walked}
+use Rattle.model.specs.Checks.{Check, ◌then◌, limited}
+use Rattle.model.specs.Rename.{new_key, planned, plan, budget}
 use Rattle.base_budget.specs.Budget.{shrunk}
 use Rattle.base_budget.specs.declared.MemoryBudget.{MemoryBudget}
-use Rattle.base_budget.specs.declared.Shrunk.TheVariants.{Left, MemoryUsageLimitExceeded}
-use Rattle.base_budget.proofs.Budgets.{left_is, exceeded_is}
-use Rattle.rename_walk.specs.Walked.{walk_of}
-use Rattle.rename_walk.specs.declared.Stop.{Stop}
-use Rattle.rename_walk.specs.declared.Stop.TheVariants.{AtLink}
-use Rattle.rename_walk.specs.declared.Walked.{Walked}
-use Rattle.rename_walk.specs.declared.Walked.TheVariants.{Stopped}
+use Rattle.std.specs.Prelude.{Ok}
+use Rattle.base_budget.proofs.Budgets.{left_is}
 use Rattle.model.proofs.Orders.{yea, nay, test}
 use Rattle.model.proofs.Maps.{every_only}
 
@@ -36,10 +31,6 @@ planned_below a b (x ∷ xs) =
       | nay e ↦ rw e (omega arith)
     ]
 
--- a walk that was stopped gives 4, whatever its sum
-pub stopped_gives : (n : ℕ) (w : Walked) (x : Stop) (s : ℕ) → w ≡ Stopped x s → refuse 4 0 n ≡ walked n (walk_of w)
-stopped_gives n w AtLink s e = sym (ap (λ (v : Walked). walked n (walk_of v)) e)
-
 -- p is the part of t below a, and s the sum over it
 pub planned-part :
     (a b : Path) (t p : Table) (s : ℕ) → p ≡ only (below a) t → (every (below a) (keys p) ≡ true → s ≡ planned a b p) → s ≡ planned a b t
@@ -50,22 +41,9 @@ module _ (E limit : ℕ) (t : Table) (a b : Path) (c : ℕ) (e : c ≡ charge E 
   abbrev whole : MemoryBudget
   whole = record { available = limit; limit = limit }
 
-  pub over_charge : (d : Check) (n : ℕ) → shrunk whole c ≡ MemoryUsageLimitExceeded n
-      → refuse 11 0 0 ≡ (plan (limited E limit) t a b then d)
-  over_charge d n h = let o = exceeded_is whole c n h in rw (lt-leb (charge E t) limit (omega arith))
-
-  module _ (s : ℕ) (f : s ≡ planned a b t) (free : MemoryBudget) (h : shrunk whole c ≡ Left free) where
-    pub over_sum : (d : Check) (n : ℕ) → shrunk free s ≡ MemoryUsageLimitExceeded n
-        → refuse 11 0 0 ≡ (plan (limited E limit) t a b then d)
-    over_sum d n i =
-        let l = left_is whole c free h in
-        let o = exceeded_is free s n i in
-        let y = l.0 in
-        let z = l.1 in
-        rw (le-leb (charge E t) limit (omega arith), lt-leb (planned a b t) (limit - charge E t) (omega arith))
-
+  module _ (s : ℕ) (f : s ≡ planned a b t) (free : MemoryBudget) (h : shrunk whole c ≡ Ok free) where
     -- x is what the next check, `at` a budget, gave
-    pub within : (at : Option ℕ → Check) (x : Check) (rest : MemoryBudget) → shrunk free s ≡ Left rest
+    pub within : (at : Option ℕ → Check) (x : Check) (rest : MemoryBudget) → shrunk free s ≡ Ok rest
         → x ≡ at (some rest.available) → x ≡ (plan (limited E limit) t a b then at (budget (limited E limit) t a b))
     within at x rest i j =
         let l = left_is whole c free h in

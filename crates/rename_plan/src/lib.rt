@@ -18,9 +18,10 @@ ghost use Rattle.model.specs.Outcome.{Given};
 ghost use Rattle.check_judged.specs.Judged.{check_of};
 ghost use Rattle.rename_walk.specs.Walked.{walk_of};
 
-use base_budget::{MemoryBudget, Shrunk};
+use base_budget::MemoryBudget;
 use check_judged::Judged;
 use model::{Record, Refusal};
+use rename_walk::{Ended, Stop};
 
 // The plan's sum over the entries below the source, which are one part of the table.
 pub fn planned_sum(table: &[u8], rec: Record, source: &[u8], destination: &[u8]) -> u64
@@ -50,19 +51,13 @@ pub fn is_listed_directory(listing: &[u8], path: &[u8]) -> bool
 }
 
 // What the walk gives, for a source of `len` bytes.
-fn check_walked(walk: rename_walk::Walked, len: u64) -> Judged
+fn check_walked(walk: Result<u64, Ended>, len: u64) -> Judged
     ensures { check_of result ≡ rename.walked len (walk_of walk) }
 {
     match walk {
-        rename_walk::Walked::Sum(_) => {
-            return Judged::Pass;
-        }
-        rename_walk::Walked::OverBudget => {
-            return Judged::Refused(Refusal::Limit);
-        }
-        rename_walk::Walked::Stopped(rename_walk::Stop::AtLink, _) => {
-            return Judged::Refused(Refusal::LinkOrRoot(0, len));
-        }
+        Ok(_) => Ok(()),
+        Err(Ended::OverBudget) => Err(Refusal::Limit),
+        Err(Ended::Stopped(Stop::AtLink, _)) => Err(Refusal::LinkOrRoot(0, len)),
     }
 }
 
@@ -84,7 +79,7 @@ fn walk_checks(
         let walk = rename_walk::collect_real_descendants(listing, table, rec, source, budget);
         return check_walked(walk, source.len() as u64);
     }
-    Judged::Pass
+    Ok(())
 }
 
 // 11 if the charge exceeds the limit, or the plan's sum what the charge leaves of it; what both leave is the walk's
@@ -102,12 +97,12 @@ pub fn plan_checks(
     ensures { check_of result ≡ plan_and_walk (limited rec.entry_size limit) (table_in table.now rec)
         (tree_in listing.now) source.now destination.now }
 {
-    let Shrunk::Left(free) = base_budget::available_memory(rec.charge, limit) else {
-        return Judged::Refused(Refusal::Limit);
+    let Ok(free) = base_budget::available_memory(rec.charge, limit) else {
+        return Err(Refusal::Limit);
     };
     let sum = planned_sum(table, rec, source, destination);
-    let Shrunk::Left(rest) = free.shrink(sum) else {
-        return Judged::Refused(Refusal::Limit);
+    let Ok(rest) = free.shrink(sum) else {
+        return Err(Refusal::Limit);
     };
     walk_checks(listing, table, rec, source, rest)
 }

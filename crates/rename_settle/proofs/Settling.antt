@@ -3,16 +3,15 @@ use mathlib.Core.Path.{◌≡◌, refl, ap, sym, ◌∙◌}
 use mathlib.Core.List.{[], ◌∷◌}
 use mathlib.Core.Bool.{Bool, true, false, cond, not}
 use mathlib.Core.Option.{Option, none, some}
-use Prim.Native.Nat.{ℕ, ◌<◌, ◌≤◌}
+use Prim.Native.Nat.{ℕ, ◌<◌}
 use native.Mathlib.Omega.{arith}
 use lib.Dec.{leb}
 use lib.ListN.{length}
-use borrow.Author.Tests.{le-leb, lt-leb}
 use Rattle.model.specs.Bytes.{every}
 use Rattle.model.specs.Path.{Path, short}
 use Rattle.model.specs.Map.{lookup, puts, only, keys, rekey, mapped}
 use Rattle.model.specs.Tree.{Node, Entry, Table, Tree, shown, a_directory, a_file, kind}
-use Rattle.model.specs.Table.{body_of, encode, charge, record_of}
+use Rattle.model.specs.Table.{body_of, encode, charge}
 use Rattle.model.specs.Checks.{Check, ◌then◌, unless, limited}
 use Rattle.model.specs.Rename.{as_entry, uncovered, carried, moved}
 use Rattle.model.specs.declared.Record.{Record}
@@ -26,31 +25,19 @@ use Rattle.rename_measure.specs.declared.Projected.{Projected}
 use Rattle.rename_measure.specs.Tallies.{Source, Foretold}
 use Rattle.rename_measure.proofs.Sources.{source_directory, source_file}
 use Rattle.rename_write.specs.Sequence.{top_of, top}
-use Rattle.rename_settle.specs.declared.Settled.{Settled}
-use Rattle.rename_settle.specs.declared.Settled.TheVariants.{Done, Refused}
-use Rattle.rename_settle.specs.Settled.{last_checks, settled_of, settled_check}
-
--- what is settled, exit by exit
-pub over_limit_lem : (p : Projected) (limit n : ℕ) → limit < p.charge → Refused Limit ≡ settled_of p limit n
-over_limit_lem p limit n h = rw (lt-leb p.charge limit h)
-
-pub too_long : (p : Projected) (limit n : ℕ) → p.charge ≤ limit → p.long ≡ true → Refused KeyTooLong ≡ settled_of p limit n
-too_long p limit n h g = rw (le-leb p.charge limit h, g)
-
-pub no_room : (p : Projected) (limit n : ℕ) → p.charge ≤ limit → p.long ≡ false → n < p.rec.used → Refused NoRoom ≡ settled_of p limit n
-no_room p limit n h g u = rw (le-leb p.charge limit h, g, lt-leb p.rec.used n u)
-
-pub in_all : (p : Projected) (limit n : ℕ) → p.charge ≤ limit → p.long ≡ false → p.rec.used ≤ n → Done p.rec ≡ settled_of p limit n
-in_all p limit n h g u = rw (le-leb p.charge limit h, g, le-leb p.rec.used n u)
+use Rattle.std.specs.Prelude.{Result, Ok, Err}
+use Rattle.model.specs.declared.Refusal.{Refusal}
+use Rattle.check_judged.specs.Judged.{check_of}
+use Rattle.rename_settle.specs.Settled.{last_checks, settled_of}
 
 -- 11, 12 and 13: c whether the charge is within the limit, k whether every key is short, u whether there is room
 abbrev lasts : (c k u : Bool) → Check
 lasts c k u = unless 11 c then unless 12 k then unless 13 u
 
-abbrev outcomes : (c g u : Bool) → Record → Settled
-outcomes c g u r = cond c (cond g (Refused KeyTooLong) (cond u (Done r) (Refused NoRoom))) (Refused Limit)
+abbrev outcomes : (c g u : Bool) → Record → Result Record Refusal
+outcomes c g u r = cond c (cond g (Err KeyTooLong) (cond u (Ok r) (Err NoRoom))) (Err Limit)
 
-by_tests : (c g u : Bool) (r : Record) → settled_check (outcomes c g u r) ≡ lasts c (not g) u
+by_tests : (c g u : Bool) (r : Record) → check_of (outcomes c g u r) ≡ lasts c (not g) u
 by_tests false g u r = refl
 by_tests true true u r = refl
 by_tests true false false r = refl
@@ -65,30 +52,19 @@ not-not : (x y : Bool) → x ≡ not y → not x ≡ y
 not-not x true h = ap not h
 not-not x false h = ap not h
 
-only_done : (c g u : Bool) (r after : Record) → outcomes c g u r ≡ Done after → (g ≡ false) × (after ≡ r)
-only_done false g u r after h = absurd (bot (cc))
-only_done true true u r after h = absurd (bot (cc))
-only_done true false false r after h = absurd (bot (cc))
-only_done true false true r after h = (refl, cc)
-
 -- p foretells what rename leaves, and x is what is settled by it, with n bytes for the table
-module _ (E : ℕ) (t : Table) (l : Tree) (a b : Path) (p : Projected) (f : Foretold E t l a b p) (limit n : ℕ) (x : Settled)
+module _ (E : ℕ) (t : Table) (l : Tree) (a b : Path) (p : Projected) (f : Foretold E t l a b p) (limit n : ℕ) (x : Result Record Refusal)
     (e : x ≡ settled_of p limit n) where
   not_long : not p.long ≡ every short (keys (rekey a b (carried t l a)))
   not_long = not-not p.long (every short (keys (rekey a b (carried t l a)))) f.long
 
-  pub settled_check_lem : settled_check x ≡ last_checks (limited E limit) n t l a b
+  pub settled_check_lem : check_of x ≡ last_checks (limited E limit) n t l a b
   settled_check_lem =
-      ap settled_check e
+      ap check_of e
       ∙ by_tests (leb p.charge limit) p.long (leb p.rec.used n) p.rec
       ∙ same_lasts (leb p.charge limit) (leb (charge E (moved t l a b)) limit) (not p.long) (every short (keys (rekey a b (carried t l a))))
       (leb p.rec.used n) (leb (length (encode (moved t l a b))) n) (ap (λ (y : ℕ). leb y limit) f.charge) not_long
       (λ h. ap (λ (y : Record). leb y.used n) (f.rec (sym (not-not (not p.long) p.long refl) ∙ ap not h)))
-
-  pub settled_record : (after : Record) → x ≡ Done after → after ≡ record_of E (moved t l a b)
-  settled_record after h =
-      let d = only_done (leb p.charge limit) p.long (leb p.rec.used n) p.rec after (sym e ∙ h) in
-      d.1 ∙ f.rec d.0
 
 -- the entry that is carried from a itself
 top_of_lem : (o : Option Entry) (n : Option Node) (e : Entry) → or_else o (map_o as_entry n) ≡ some e → e ≡ top_of o n

@@ -3,7 +3,7 @@
 // constant number of passes over listing, table and paths.
 #![tactic(auto)]
 
-ghost use Rattle.std.specs.Prelude.{◌≡◌, true, cond, length};
+ghost use Rattle.std.specs.Prelude.{◌≡◌, true, cond, length, Ok};
 ghost use Rattle.std.proofs.Math.Option.{none};
 ghost use Rattle.model.specs.Path.{is_path};
 ghost use Rattle.model.specs.Map.{lookup};
@@ -16,19 +16,12 @@ ghost use Rattle.model.specs.Outcome.{Given, shown_in};
 ghost use Rattle.rename_checks.specs.Early.{EarlyPassed};
 ghost use Rattle.rename_measure.specs.Tallies.{Foretold};
 ghost use Rattle.rename_write.specs.Sequence.{top_of, top};
-ghost use Rattle.rename_settle.specs.Settled.{last_checks, settled_of, settled_check};
-ghost use Rattle.rename_settle.specs.declared.Settled.TheVariants as settled;
+ghost use Rattle.check_judged.specs.Judged.{check_of};
+ghost use Rattle.rename_settle.specs.Settled.{last_checks, settled_of};
 
 use listing_records::Found;
 use model::{Record, Refusal};
 use rename_measure::Projected;
-
-// What is known before anything is written: the record that the table will have, or why the call is refused.
-#[derive(Clone, Copy)]
-pub enum Settled {
-    Done(Record),
-    Refused(Refusal),
-}
 
 // The length of the body that is carried from the source itself, where the table has no entry there: a listed file's
 // body is its path.
@@ -36,20 +29,9 @@ fn listed_len(listing: &[u8], source: &[u8]) -> u64
     requires { is_listing listing.now ≡ true }
     ensures { result ≡ length (body_of (top_of none (lookup (tree_in listing.now) source.now))) }
 {
-    let found = listing_dir::find(listing, source);
-    match found {
-        Found::Directory(_) => {
-            return 0;
-        }
-        Found::File(_, _) => {
-            return source.len() as u64;
-        }
-        Found::Link => {
-            return 0;
-        }
-        Found::Absent => {
-            return 0;
-        }
+    match listing_dir::find(listing, source) {
+        Some(Found::File(_, _)) => source.len() as u64,
+        _ => 0,
     }
 }
 
@@ -61,31 +43,28 @@ fn first_len(listing: &[u8], table: &[u8], rec: Record, source: &[u8]) -> u64
 {
     let first = table_entries::first_entry(table, rec);
     let got = table_entries::get_from(table, first, source);
-    let entry = got.entry;
-    let place = got.place;
-    if table_entries::is_absent(entry) {
+    if table_entries::is_absent(got.entry) {
         return listed_len(listing, source);
     }
-    let body = table_entries::entry_body(table, place);
+    let body = table_entries::entry_body(table, got.place);
     body.len() as u64
 }
 
 // 11, 12 and 13, for a table of `room` bytes.
-fn settled_by(projected: Projected, limit: u64, room: u64) -> Settled
+fn settled_by(projected: Projected, limit: u64, room: u64) -> Result<Record, Refusal>
     ensures { result ≡ settled_of projected limit room }
 {
     let after = projected.rec;
-    let long = projected.long;
     if limit < projected.charge {
-        return Settled::Refused(Refusal::Limit);
+        return Err(Refusal::Limit);
     }
-    if long {
-        return Settled::Refused(Refusal::KeyTooLong);
+    if projected.long {
+        return Err(Refusal::KeyTooLong);
     }
     if room < after.used {
-        return Settled::Refused(Refusal::NoRoom);
+        return Err(Refusal::NoRoom);
     }
-    Settled::Done(after)
+    Ok(after)
 }
 
 // The charge and the record that the call leaves, without moving anything, once all checks before its plan passed.
@@ -118,16 +97,16 @@ pub fn last_checks<'a>(
     destination: &[u8],
     whole: bool,
     limit: u64,
-) -> Settled
+) -> Result<Record, Refusal>
     requires given { Given listing.now table.now rec }
     requires source_value { (is_path source.now ≡ true) × (is_path destination.now ≡ true) }
     requires early_passed { EarlyPassed (table_in table.now rec) (tree_in listing.now) source.now destination.now }
     requires source_value_2 { kind (shown_in listing.now table.now rec) source.now ≡ cond whole a_directory
         a_file }
-    ensures result_value { settled_check result ≡ last_checks (limited rec.entry_size limit) (length table.now)
+    ensures result_value { check_of result ≡ last_checks (limited rec.entry_size limit) (length table.now)
         (table_in table.now rec) (tree_in listing.now) source.now
         destination.now }
-    ensures after_value { (after : Record) → result ≡ settled.Done after → after ≡ record_of rec.entry_size
+    ensures after_value { (after : Record) → result ≡ Ok after → after ≡ record_of rec.entry_size
         (moved (table_in table.now rec) (tree_in listing.now) source.now
         destination.now) }
 {

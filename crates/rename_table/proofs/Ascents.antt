@@ -9,7 +9,7 @@ use native.Mathlib.Omega.{arith}
 use Rattle.model.specs.Bytes.{every, before}
 use Rattle.model.specs.Path.{Path, rest}
 use Rattle.model.specs.Map.{Map, is_none, ascends}
-use Rattle.model.proofs.Orders.{Lt, Lt-≢, Cmp, cmp, bot, and_true, is_none_lem, is_some, opt}
+use Rattle.model.proofs.Orders.{Lt, Lt-≢, Cmp, cmp, bot, and_true, has_none, is_some, opt}
 use Rattle.model.proofs.Orders.{rest_is, rest_app, rest_self, rest_nil, rest_below, below_rest}
 use Rattle.model.proofs.Maps.{Above, Ascending, is_ascends}
 use Rattle.rename_laws.proofs.Moves.{inside, Parted}
@@ -45,7 +45,7 @@ beyond (x ∷ a) [] r x6 n = elim x6 [ ]
 
 -- at a or below it: a, and what follows it
 goes_on : (a k : Path) → not (is_none (rest a k)) ≡ true → (r : Path) × (rest a k ≡ some r)
-goes_on a k h = elim (opt (rest a k)) [ is_none_lem n ↦ absurd (bot (cc)) | is_some r n ↦ (r, n) ]
+goes_on a k h = elim (opt (rest a k)) [ has_none n ↦ absurd (bot (cc)) | is_some r n ↦ (r, n) ]
 
 -- if anything follows it, that begins with a slash
 slashed : (a k : Path) (c : ℕ) (r : Path) → rest a k ≡ some (c ∷ r) → (s : Path) × (k ≡ a ++ (47 ∷ s))
@@ -57,7 +57,7 @@ further a k [] n l = absurd (Lt-≢ a k l (rest_nil a k n))
 further a k (c ∷ r) n l = slashed a k c r n
 
 parted_sym : (a b : Path) → Parted a b → Parted b a
-parted_sym a b p q r n = elim (opt (rest a q)) [ is_none_lem m ↦ m | is_some s m ↦ absurd (bot (cc (p q s m))) ]
+parted_sym a b p q r n = elim (opt (rest a q)) [ has_none m ↦ m | is_some s m ↦ absurd (bot (cc (p q s m))) ]
 
 not_below : (a b : Path) → Parted a b → (v : Path) → b ≡ a ++ (47 ∷ v) → ⊥
 not_below a b p v e =

@@ -12,7 +12,7 @@ use Rattle.model.specs.Path.{Path, components, short, rest}
 use Rattle.model.specs.Map.{is_none, each, keys, rekey}
 use Rattle.model.specs.Tree.{deleted, Table, Tree, shown, a_directory, a_file, kind}
 use Rattle.model.specs.Rename.{new_key, carried}
-use Rattle.model.proofs.Orders.{bot, and_true, is_none_lem, is_some, opt, rest_is, rest_app, rest_self}
+use Rattle.model.proofs.Orders.{bot, and_true, has_none, is_some, opt, rest_is, rest_app, rest_self}
 use Rattle.model.proofs.Maps.{Ascending}
 use Rattle.rename_laws.proofs.Moves.{new_key_lem, inside, renewed, rekeyed, top_entry, carried_directory, carried_file, inside_carried}
 use Rattle.rename_write.specs.Stretch.{deletion, move, movable, turned}
@@ -41,7 +41,7 @@ inside_rekey : (a b : Path) (c : Table) → inside b (rekey a b c) ≡ true
 inside_rekey a b [] = refl
 inside_rekey a b (x ∷ c) =
     let i = inside_rekey a b c in
-    elim (opt (rest a x.0)) [ is_none_lem n ↦ cc | is_some r n ↦ cc (rest_app b r (rest_is a x.0 r n).1) ]
+    elim (opt (rest a x.0)) [ has_none n ↦ cc | is_some r n ↦ cc (rest_app b r (rest_is a x.0 r n).1) ]
 
 -- new keys that are short: there is room for each
 short_movable : (a b : Path) (c : Table) → inside a c ≡ true → every short (keys (renewed a b c)) ≡ true → every (movable a b) c ≡ true
@@ -53,7 +53,7 @@ short_movable a b (x ∷ c) h s =
     let n = (and_true (leb (length k) 512) (leb (length (components k)) 32) f.0).0 in
     let i = short_movable a b c e.1 f.1 in
     elim (opt (rest a x.0)) [
-      | is_none_lem o ↦ absurd (bot (cc e.0))
+      | has_none o ↦ absurd (bot (cc e.0))
       | is_some r o ↦
           let z = ap length (rest_is a x.0 r o).0 ∙ length-append a r in
           let m = le-leb (length a) (length x.0) (omega arith) in

@@ -6,7 +6,7 @@ use mathlib.Core.Option.{Option, none, some}
 use Rattle.model.specs.Bytes.{before}
 use Rattle.model.specs.Path.{Path}
 use Rattle.model.specs.Map.{Map, lookup, ascends, puts}
-use Rattle.model.proofs.Orders.{Split, split, yea, nay, test, is_none_lem, is_some, opt}
+use Rattle.model.proofs.Orders.{Split, split, yea, nay, test, has_none, is_some, opt}
 use Rattle.model.proofs.Maps.{Ascending, or_else, map_ext, lookup_puts, ascends_is, ascending_puts}
 use Rattle.table_measure.specs.Into.{into}
 use Rattle.table_measure.proofs.Intos.{into_puts}
@@ -29,7 +29,7 @@ module _ {A : Type 0} where
       let v = lookup_puts m (puts d t) q in
       let w = lookup_puts d t q in
       let x = e q in
-      elim (opt (lookup m q)) [ is_none_lem n ↦ cc | is_some y n ↦ cc ])
+      elim (opt (lookup m q)) [ has_none n ↦ cc | is_some y n ↦ cc ])
 
   -- of two that are not both something, either comes first
   either_first : (x y : Option A) → ((e : A) → x ≡ some e → y ≡ none) → or_else x y ≡ or_else y x

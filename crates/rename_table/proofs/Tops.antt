@@ -6,7 +6,7 @@ use mathlib.Core.Option.{some}
 use Rattle.model.specs.Path.{Path}
 use Rattle.model.specs.Map.{lookup}
 use Rattle.model.specs.Tree.{Table, Tree, shown, a_directory, a_file, kind, is_nothing}
-use Rattle.model.proofs.Orders.{Lt, Lt-≢, bot, is_none_lem, is_some, opt}
+use Rattle.model.proofs.Orders.{Lt, Lt-≢, bot, has_none, is_some, opt}
 use Rattle.rename_checks.proofs.Passed.{some_shown}
 use Rattle.rename_laws.proofs.Moves.{top_entry, found_top}
 use Rattle.rename_write.specs.Sequence.{top}
@@ -19,7 +19,7 @@ module _ (t : Table) (l : Tree) (a : Path) where
       let e = (found_top t l a n.0 n.1).1 in
       elim (opt (lookup t a)) [
         | is_some x f ↦ cc
-        | is_none_lem f ↦ elim (opt (lookup l a)) [ is_some y g ↦ cc | is_none_lem g ↦ absurd (bot (cc)) ]
+        | has_none f ↦ elim (opt (lookup l a)) [ is_some y g ↦ cc | has_none g ↦ absurd (bot (cc)) ]
       ]
     where
       there : (w : Bool) → is_nothing (cond w a_directory a_file) ≡ false

@@ -15,7 +15,7 @@ use Rattle.model.specs.Map.{Map, lookup, is_none, ascends, only, keys}
 use Rattle.model.specs.Tree.{Table, Tree, kind, is_directory}
 use Rattle.model.specs.Listing.{ListingRecord, record_end, records, filled, ruled, placed, formed_record, tree_from, tree_in, is_listing}
 use Rattle.model.specs.Rename.{uncovered}
-use Rattle.model.proofs.Orders.{bot, and_true, is_none_lem, is_some, opt, yea, nay, test}
+use Rattle.model.proofs.Orders.{bot, and_true, has_none, is_some, opt, yea, nay, test}
 use Rattle.model.proofs.Maps.{above_only, ascends_is, is_ascends, ascending_only, lookup_only}
 use Rattle.model.proofs.Codec.{path_short}
 use Rattle.base_fields.specs.Read.{part}
@@ -63,7 +63,7 @@ short_below l d (r ∷ rs) h =
 listed_directory : (l : Tree) (d k : Path) → below d k ≡ true → is_directory (kind (lookup l) k) ≡ true → is_none (lookup l k) ≡ false
 listed_directory l [] [] b h = absurd (bot (cc))
 listed_directory l (c ∷ d) [] b h = absurd (bot (cc))
-listed_directory l d (c ∷ k) b h = elim (opt (lookup l (c ∷ k))) [ is_none_lem e ↦ absurd (bot (cc)) | is_some n e ↦ rw e ]
+listed_directory l d (c ∷ k) b h = elim (opt (lookup l (c ∷ k))) [ has_none e ↦ absurd (bot (cc)) | is_some n e ↦ rw e ]
 
 -- with a listed path below d every path between d and it is listed, where nothing is listed below what is no directory
 placed_in : (l : Tree) (d : Path) → ((q k : Path) → below k q ≡ true → is_directory (kind (lookup l) k) ≡ false → lookup l q ≡ none)

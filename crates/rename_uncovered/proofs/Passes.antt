@@ -28,6 +28,7 @@ use Rattle.table_entries.specs.Place as table
 use Rattle.table_entries.specs.declared.Place.{Place}
 use Rattle.table_entries.specs.declared.OverlayEntry.{OverlayEntry}
 use Rattle.table_entries.specs.Said.{said, said_of}
+use Rattle.std.specs.Prelude as code
 use Rattle.table_entries.proofs.Cuts.{lookup_since}
 use Rattle.rename_uncovered.specs.Cover.{Covering, Following}
 use Rattle.rename_uncovered.specs.Ahead.{fitting, PartBelow, to_come, Ready, Reading, Ahead}
@@ -126,7 +127,7 @@ seek_end p s a f m at i to e n be j o w h = record {
 -- one record, with what the code finds: its path k, the answer x at it, the place behind that, whether there is an entry, and `cover`'s answer
 module _ (p s : Bytes) (a : Path) (f₀ : List Bool) (m₀ at₀ i₀ to₀ : ℕ) (f : List Bool) (m at i to : ℕ)
     (w : Seeking p s a f₀ m₀ at₀ i₀ to₀ f m at i to) (h : 0 < m) (k : Path) (e : k ≡ (record_at p at).path)
-    (x : OverlayEntry) (g : said_of s x ≡ said (lookup (entries_at s i to) k)) (j o : ℕ) (d : Sought s k i to j o)
+    (x : code.Option OverlayEntry) (g : said_of s x ≡ said (lookup (entries_at s i to) k)) (j o : ℕ) (d : Sought s k i to j o)
     (y : Bool) (v : (s : Bytes) (o : Option Entry) → said_of s x ≡ said o → y ≡ is_none o)
     (f' : List Bool) (z : length f' ≡ 513) (b : Bool)
     (c : (t : Table) (a' : Path) (l : Tree) (q : Path) → Covering t a' l f q → Following a' l q k → length a ≡ length a' → y ≡ is_none (lookup t k)

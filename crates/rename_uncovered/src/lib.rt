@@ -64,13 +64,17 @@ fn seek_uncovered(
     while 0 < here.left {
         let path = listing_records::record_path(part, here);
         let got = table_entries::get_from(table, place, path);
-        let entry = got.entry;
         place = got.place;
-        if cover(flags, path, source.len(), table_entries::is_absent(entry)) {
+        if cover(
+            flags,
+            path,
+            source.len(),
+            table_entries::is_absent(got.entry),
+        ) {
             return Cursor {
                 at: here.at,
                 left: here.left,
-                place: place,
+                place,
             };
         }
         here = listing_records::next_record(part, here);
@@ -78,7 +82,7 @@ fn seek_uncovered(
     Cursor {
         at: here.at,
         left: here.left,
-        place: place,
+        place,
     }
 }
 

@@ -45,40 +45,42 @@ cut s (suc n) m at =
     let e : suc n + m ≡ suc (n + m) = omega arith in
     ap (λ (k : ℕ). tree_at s k at) e ∙ ap (λ (xs : Tree). ((record_at s at).path, node_of (record_at s at)) ∷ xs) (cut s n m (record_end s at))
 
--- the loop of `skip`: the k records from `at` on are still to be passed
-pub record Skipping (s : Bytes) (n left₀ at₀ k left at : ℕ) : Type 0 where
+-- the loop of `skip`: i records were passed, and the others of the n are still to be
+pub record Skipping (s : Bytes) (n left₀ at₀ i left at : ℕ) : Type 0 where
   pub stand : Standing s left at
-  pub number : left + n ≡ left₀ + k
+  pub number : left + i ≡ left₀
   pub fit : n ≤ left₀
-  pub ends : end_after s k at ≡ end_after s n at₀
+  pub ends : end_after s (n - i) at ≡ end_after s n at₀
 
-module _ (s : Bytes) (n left₀ at₀ k left at : ℕ) (w : Skipping s n left₀ at₀ k left at) where
-  pub skip_more : 0 < k → 0 < left
+pub skip_start : (s : Bytes) (n left at : ℕ) → Standing s left at → n ≤ left → Skipping s n left at 0 left at
+skip_start s n left at w h = record {
+  stand = w;
+  number = omega arith;
+  fit = h;
+  ends = let z : n - 0 ≡ n = omega arith in ap (λ (k : ℕ). end_after s k at) z;
+}
+
+module _ (s : Bytes) (n left₀ at₀ i left at : ℕ) (w : Skipping s n left₀ at₀ i left at) where
+  pub skip_more : i < n → 0 < left
   skip_more h = let e = w.number in let f = w.fit in omega arith
 
-  pub skip_on : 0 < k → (r : Place) → r ≡ record { at = record_end s at; left = left - 1 } → Standing s r.left r.at
-      → Skipping s n left₀ at₀ (k - 1) r.left r.at
+  pub skip_on : i < n → (r : Place) → r ≡ record { at = record_end s at; left = left - 1 } → Standing s r.left r.at
+      → Skipping s n left₀ at₀ (i + 1) r.left r.at
   skip_on h r e st =
       let f : r.left ≡ left - 1 = ap (λ (p : Place). p.left) e in
       let g : r.at ≡ record_end s at = ap (λ (p : Place). p.at) e in
       let more = skip_more h in
+      let z : n - i ≡ suc (n - (i + 1)) = omega arith in
       record {
         stand = st;
-        number = let z = w.number in omega arith;
+        number = let y = w.number in omega arith;
         fit = w.fit;
-        ends = rw g (step k h) ∙ w.ends;
+        ends = rw g (sym (ap (λ (k : ℕ). end_after s k at) z) ∙ w.ends);
       }
-    where
-      down : (m : ℕ) → suc m - 1 ≡ m
-      down m = omega arith
 
-      step : (k : ℕ) → 0 < k → end_after s (k - 1) (record_end s at) ≡ end_after s k at
-      step zero h = absurd (omega arith)
-      step (suc k) h = rw (down k)
-
-  pub skip_end : k ≤ 0 → ◌≡◌ {A = Place} (record { at = at; left = left }) (record { at = end_after s n at₀; left = left₀ - n })
+  pub skip_end : i ≡ n → ◌≡◌ {A = Place} (record { at = at; left = left }) (record { at = end_after s n at₀; left = left₀ - n })
   skip_end h =
-      let z : k ≡ 0 = omega arith in
+      let z : n - i ≡ 0 = omega arith in
       let e : at ≡ end_after s n at₀ = rw z at w.ends in
       let f : left ≡ left₀ - n = (let y = w.number in omega arith) in
       rw (e, f)

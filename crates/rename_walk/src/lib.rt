@@ -10,19 +10,19 @@ ghost use Rattle.std.proofs.Math.Option.{some};
 ghost use Rattle.model.specs.Path.{Path, is_path, child};
 ghost use Rattle.model.specs.Map.{lookup, is_none};
 ghost use Rattle.model.specs.Tree.{Node, kind_of, is_directory};
-ghost use Rattle.model.specs.Listing.{record_at, tree_in, is_listing};
+ghost use Rattle.model.specs.Listing.{record_at, node_of, tree_in, is_listing};
 ghost use Rattle.model.specs.Table.{entries_at, table_in, is_table};
 ghost use Rattle.model.specs.Rename.{in_budget, visit, visits, children, walk_from};
 ghost use Rattle.model.specs.Rename as rename;
 ghost use Rattle.listing_records.specs.Place.{tree_at};
 ghost use Rattle.listing_records.specs.Place as listing;
-ghost use Rattle.listing_records.specs.Found.{found_of};
+ghost use Rattle.listing_records.specs.Found.{found_as};
 ghost use Rattle.table_entries.specs.Place.{Standing, Sought};
 ghost use Rattle.table_entries.specs.Cut.{since};
-ghost use Rattle.rename_walk.specs.Walked.{walk_of, ended};
+ghost use Rattle.rename_walk.specs.Walked.{walk_of};
 ghost use Rattle.rename_walk.specs.Stretch.{end_after, slashed, lead, Under, Halved, entered};
 
-use base_budget::{MemoryBudget, Shrunk};
+use base_budget::MemoryBudget;
 
 // What stops the walk.
 #[derive(Clone, Copy)]
@@ -30,10 +30,10 @@ pub enum Stop {
     AtLink,
 }
 
-// What the walk comes to: a sum, or its end above the budget, or at a node that stops it, with the sum so far.
+// How the walk ends before it has come to its whole sum: above the budget, or at a node that stops it, with the sum so
+// far.
 #[derive(Clone, Copy)]
-pub enum Walked {
-    Sum(u64),
+pub enum Ended {
     OverBudget,
     Stopped(Stop, u64),
 }
@@ -60,102 +60,47 @@ pub struct Bare {
     pub place: table_entries::Place,
 }
 
-// The walk after a record, and the table's place from the record's path on.
-#[derive(Clone, Copy)]
-pub struct Seen {
-    pub walked: Walked,
-    pub place: table_entries::Place,
-}
-
 // A cost added to a sum. It is compared with what the budget leaves, so that no addition can overflow.
-fn added(total: u64, cost: u64, budget: MemoryBudget) -> Walked
+fn added(total: u64, cost: u64, budget: MemoryBudget) -> Result<u64, Ended>
     ensures { walk_of result ≡ in_budget (some budget.available) (total + cost) }
 {
-    let Shrunk::Left(rest) = budget.shrink(total) else {
-        return Walked::OverBudget;
+    let Ok(rest) = budget.shrink(total) else {
+        return Err(Ended::OverBudget);
     };
     if rest.check(cost) {
-        return Walked::Sum(total + cost);
+        Ok(total + cost)
+    } else {
+        Err(Ended::OverBudget)
     }
-    Walked::OverBudget
 }
 
-// One node visited, at a path of `len` bytes: a link stops the walk. A listed node is never absent.
-fn visit_from(total: u64, found: listing_records::Found, len: u64, budget: MemoryBudget) -> Walked
+// One node visited, at a path of `len` bytes: a link stops the walk.
+fn visited(
+    total: u64,
+    found: listing_records::Found,
+    len: u64,
+    budget: MemoryBudget,
+) -> Result<u64, Ended>
     requires { len ≤ 16777216 }
-    ensures { (p : Path) (n : Node) → found ≡ found_of (some n) → len ≡ length p → walk_of result
+    ensures { (p : Path) (n : Node) → found ≡ found_as n → len ≡ length p → walk_of result
         ≡ visit (some budget.available) (rename.sum total) p n }
 {
     match found {
         listing_records::Found::Directory(_) => {
-            return added(total, 3 * len + model::REAL_DESCENDANT_MEMORY_USAGE, budget);
+            added(total, 3 * len + model::REAL_DESCENDANT_MEMORY_USAGE, budget)
         }
         listing_records::Found::File(_, _) => {
-            return added(total, 2 * len + model::REAL_DESCENDANT_MEMORY_USAGE, budget);
+            added(total, 2 * len + model::REAL_DESCENDANT_MEMORY_USAGE, budget)
         }
-        listing_records::Found::Link => {
-            return Walked::Stopped(Stop::AtLink, total);
-        }
-        listing_records::Found::Absent => {
-            return Walked::Sum(total);
-        }
-    }
-}
-
-// The same of a walk that may have ended: then it stays so.
-fn visited(walked: Walked, found: listing_records::Found, len: u64, budget: MemoryBudget) -> Walked
-    requires { len ≤ 16777216 }
-    ensures { (p : Path) (n : Node) → found ≡ found_of (some n) → len ≡ length p → walk_of result
-        ≡ visit (some budget.available) (walk_of walked) p n }
-{
-    match walked {
-        Walked::Sum(total) => {
-            return visit_from(total, found, len, budget);
-        }
-        Walked::OverBudget => {
-            return walked;
-        }
-        Walked::Stopped(_, _) => {
-            return walked;
-        }
-    }
-}
-
-// Whether a walk has ended: then nothing is added to it any more.
-fn is_ended(walked: Walked) -> bool
-    ensures { result ≡ ended (walk_of walked) }
-{
-    match walked {
-        Walked::Sum(_) => {
-            return false;
-        }
-        Walked::OverBudget => {
-            return true;
-        }
-        Walked::Stopped(_, _) => {
-            return true;
-        }
+        listing_records::Found::Link => Err(Ended::Stopped(Stop::AtLink, total)),
     }
 }
 
 // Whether a listed node is a directory.
 fn is_directory(found: listing_records::Found) -> bool
-    ensures { (n : Node) → found ≡ found_of (some n) → result ≡ is_directory (kind_of (some n)) }
+    ensures { (n : Node) → found ≡ found_as n → result ≡ is_directory (kind_of (some n)) }
 {
-    match found {
-        listing_records::Found::Directory(_) => {
-            return true;
-        }
-        listing_records::Found::File(_, _) => {
-            return false;
-        }
-        listing_records::Found::Link => {
-            return false;
-        }
-        listing_records::Found::Absent => {
-            return false;
-        }
-    }
+    matches!(found, listing_records::Found::Directory(_))
 }
 
 // Whether the record at a place is a child of the directory and has no entry from the table's place on. The table is
@@ -178,53 +123,32 @@ fn bare_child(
 {
     let path = listing_records::record_path(records, here);
     let got = table_entries::get_from(table, place, path);
-    let entry = got.entry;
-    let from = got.place;
-    let bare = base_paths::is_child(dir, path) & table_entries::is_absent(entry);
+    let bare = base_paths::is_child(dir, path) & table_entries::is_absent(got.entry);
     Bare {
-        bare: bare,
-        place: from,
+        bare,
+        place: got.place,
     }
 }
 
-// The record at a place visited, if it is a child of the directory without an entry.
+// The record at a place visited.
 fn visit_record(
     records: &[u8],
     here: listing_records::Place,
-    table: &[u8],
-    place: table_entries::Place,
-    dir: &[u8],
     budget: MemoryBudget,
-    walked: Walked,
-) -> Seen
+    total: u64,
+) -> Result<u64, Ended>
     requires standing { listing.Standing records.now here.left here.at }
     requires left_nonzero { 0 < here.left }
-    requires standing_2 { Standing table.now place.left place.at }
-    ensures walked_value { walk_of result.walked ≡ visits (some budget.available) (walk_of walked)
-        (children (entries_at table.now place.left place.at) (tree_at records.now 1
-        here.at) dir.now) }
-    ensures sought { Sought table.now (record_at records.now here.at).path place.left
-        place.at result.place.left result.place.at }
+    ensures { walk_of result ≡ visit (some budget.available) (rename.sum total) (record_at records.now here.at).path
+        (node_of (record_at records.now here.at)) }
 {
-    let child = bare_child(records, here, table, place, dir);
-    let next = child.place;
-    if child.bare {
-        let path = listing_records::record_path(records, here);
-        let found = listing_records::node_at(records, here.at);
-        let on = visited(walked, found, path.len() as u64, budget);
-        return Seen {
-            walked: on,
-            place: next,
-        };
-    }
-    Seen {
-        walked: walked,
-        place: next,
-    }
+    let path = listing_records::record_path(records, here);
+    let found = listing_records::node_at(records, here.at);
+    visited(total, found, path.len() as u64, budget)
 }
 
-// The children of a directory in a stretch visited in ascending order; records and entries are passed side by side,
-// since both ascend.
+// The children of a directory in a stretch visited in ascending order, those without an entry; records and entries are
+// passed side by side, since both ascend.
 fn visit_children(
     records: &[u8],
     stretch: Stretch,
@@ -232,38 +156,30 @@ fn visit_children(
     place: table_entries::Place,
     dir: &[u8],
     budget: MemoryBudget,
-    walked: Walked,
-) -> Walked
+    total: u64,
+) -> Result<u64, Ended>
     requires standing { listing.Standing records.now stretch.left stretch.at }
     requires count_le_left { stretch.count ≤ stretch.left }
     requires standing_2 { Standing table.now place.left place.at }
-    ensures { walk_of result ≡ visits (some budget.available) (walk_of walked)
+    ensures { walk_of result ≡ visits (some budget.available) (rename.sum total)
         (children (entries_at table.now place.left place.at) (tree_at records.now
         stretch.count stretch.at) dir.now) }
 {
-    let mut at = stretch.at;
-    let mut left = stretch.left;
-    let mut count = stretch.count;
-    let mut to = place.at;
-    let mut more = place.left;
-    let mut on = walked;
-    while 0 < count {
-        if is_ended(on) {
-            return on;
+    let mut here = listing_records::Place {
+        at: stretch.at,
+        left: stretch.left,
+    };
+    let mut entries = place;
+    let mut sum = total;
+    for _ in 0..stretch.count {
+        let child = bare_child(records, here, table, entries, dir);
+        if child.bare {
+            sum = visit_record(records, here, budget, sum)?;
         }
-        let here = listing_records::Place { at: at, left: left };
-        let entries = table_entries::Place { at: to, left: more };
-        let seen = visit_record(records, here, table, entries, dir, budget, on);
-        let next = listing_records::next_record(records, here);
-        at = next.at;
-        left = next.left;
-        count -= 1;
-        let found = seen.place;
-        to = found.at;
-        more = found.left;
-        on = seen.walked;
+        entries = child.place;
+        here = listing_records::next_record(records, here);
     }
-    on
+    Ok(sum)
 }
 
 // The first record from a place on that does not come before all that is below a directory. From the directory's own
@@ -274,20 +190,15 @@ fn seek_below(records: &[u8], place: listing_records::Place, dir: &[u8]) -> list
     ensures at_value { tree_at records.now result.left result.at ≡ since (slashed dir.now)
         (tree_at records.now place.left place.at) }
 {
-    let mut at = place.at;
-    let mut left = place.left;
-    while 0 < left {
-        let here = listing_records::Place { at: at, left: left };
+    let mut here = place;
+    while 0 < here.left {
         let path = listing_records::record_path(records, here);
-        if base_paths::is_before_with(path, dir, b'/') {
-            let next = listing_records::next_record(records, here);
-            at = next.at;
-            left = next.left;
-        } else {
+        if !base_paths::is_before_with(path, dir, b'/') {
             return here;
         }
+        here = listing_records::next_record(records, here);
     }
-    listing_records::Place { at: at, left: left }
+    here
 }
 
 // How many records from a place on, one behind the other, are below a directory. It reads up to the first that is not.
@@ -295,20 +206,15 @@ fn count_below(records: &[u8], place: listing_records::Place, dir: &[u8]) -> u64
     requires { listing.Standing records.now place.left place.at }
     ensures { result ≡ lead dir.now (tree_at records.now place.left place.at) }
 {
-    let mut at = place.at;
-    let mut left = place.left;
+    let mut here = place;
     let mut n: u64 = 0;
-    while 0 < left {
-        let here = listing_records::Place { at: at, left: left };
+    while 0 < here.left {
         let path = listing_records::record_path(records, here);
-        if base_paths::is_below(dir, path) {
-            let next = listing_records::next_record(records, here);
-            at = next.at;
-            left = next.left;
-            n += 1;
-        } else {
+        if !base_paths::is_below(dir, path) {
             return n;
         }
+        here = listing_records::next_record(records, here);
+        n += 1;
     }
     n
 }
@@ -324,7 +230,7 @@ fn stretch_below(records: &[u8], place: listing_records::Place, dir: &[u8]) -> S
     Stretch {
         at: first.at,
         left: first.left,
-        count: count,
+        count,
     }
 }
 
@@ -335,17 +241,11 @@ fn skip(records: &[u8], place: listing_records::Place, n: u64) -> listing_record
     ensures value { result ≡ record { at = end_after records.now n place.at; left = place.left - n } }
     ensures standing_2 { listing.Standing records.now result.left result.at }
 {
-    let mut at = place.at;
-    let mut left = place.left;
-    let mut more = n;
-    while 0 < more {
-        let here = listing_records::Place { at: at, left: left };
-        let next = listing_records::next_record(records, here);
-        at = next.at;
-        left = next.left;
-        more -= 1;
+    let mut here = place;
+    for _ in 0..n {
+        here = listing_records::next_record(records, here);
     }
-    listing_records::Place { at: at, left: left }
+    here
 }
 
 // A stretch of two records or more in halves.
@@ -355,22 +255,20 @@ fn halved(records: &[u8], stretch: Stretch) -> Halves
     ensures { Halved records.now stretch.left stretch.count stretch.at result.low.left
         result.low.count result.low.at result.high.left result.high.count result.high.at }
 {
-    let at = stretch.at;
-    let left = stretch.left;
-    let count = stretch.count;
+    let Stretch { at, left, count } = stretch;
     let half = count / 2;
-    let mid = skip(records, listing_records::Place { at: at, left: left }, half);
-    let a = Stretch {
-        at: at,
-        left: left,
+    let mid = skip(records, listing_records::Place { at, left }, half);
+    let low = Stretch {
+        at,
+        left,
         count: half,
     };
-    let b = Stretch {
+    let high = Stretch {
         at: mid.at,
         left: mid.left,
         count: count - half,
     };
-    Halves { low: a, high: b }
+    Halves { low, high }
 }
 
 // The record at a place entered, if it is a directory among the children of `dir` without an entry: its own children
@@ -383,18 +281,18 @@ fn enter_record(
     place: table_entries::Place,
     dir: &[u8],
     budget: MemoryBudget,
-    walked: Walked,
+    total: u64,
     depth: u64,
-) -> Walked
+) -> Result<u64, Ended>
     requires standing { listing.Standing records.now here.left here.at }
     requires left_nonzero { 0 < here.left }
     requires standing_2 { Standing table.now place.left place.at }
     ensures { walk_of result ≡ entered depth (entries_at table.now place.left place.at)
         (tree_at records.now here.left here.at) (some budget.available) dir.now
-        (tree_at records.now 1 here.at) (walk_of walked) }
+        (tree_at records.now 1 here.at) (rename.sum total) }
 {
     if depth == 0 {
-        return walked;
+        return Ok(total);
     }
     let child = bare_child(records, here, table, place, dir);
     let found = listing_records::node_at(records, here.at);
@@ -402,10 +300,10 @@ fn enter_record(
         let path = listing_records::record_path(records, here);
         let entries = child.place;
         let own = stretch_below(records, here, path);
-        let on = visit_children(records, own, table, entries, path, budget, walked);
+        let on = visit_children(records, own, table, entries, path, budget, total)?;
         return enter_stretch(records, own, table, entries, path, budget, on, depth - 1);
     }
-    walked
+    Ok(total)
 }
 
 // The directories among the children of `dir` in a stretch entered, the last found first: the second half comes before
@@ -419,33 +317,28 @@ fn enter_stretch(
     place: table_entries::Place,
     dir: &[u8],
     budget: MemoryBudget,
-    walked: Walked,
+    total: u64,
     depth: u64,
-) -> Walked
+) -> Result<u64, Ended>
     requires standing { listing.Standing records.now stretch.left stretch.at }
     requires count_le_left { stretch.count ≤ stretch.left }
     requires standing_2 { Standing table.now place.left place.at }
     ensures { walk_of result ≡ entered depth (entries_at table.now place.left place.at)
         (tree_at records.now stretch.left stretch.at) (some budget.available) dir.now
-        (tree_at records.now stretch.count stretch.at) (walk_of walked) }
+        (tree_at records.now stretch.count stretch.at) (rename.sum total) }
 {
-    let count = stretch.count;
+    let Stretch { at, left, count } = stretch;
     if count == 0 {
-        return walked;
+        return Ok(total);
     }
-    if is_ended(walked) {
-        return walked;
-    }
-    let at = stretch.at;
-    let left = stretch.left;
-    let here = listing_records::Place { at: at, left: left };
+    let here = listing_records::Place { at, left };
     let path = listing_records::record_path(records, here);
     let entries = table_entries::seek(table, place, path);
     if count == 1 {
-        return enter_record(records, here, table, entries, dir, budget, walked, depth);
+        return enter_record(records, here, table, entries, dir, budget, total, depth);
     }
     let Halves { low, high } = halved(records, stretch);
-    let on = enter_stretch(records, high, table, entries, dir, budget, walked, depth);
+    let on = enter_stretch(records, high, table, entries, dir, budget, total, depth)?;
     enter_stretch(records, low, table, entries, dir, budget, on, depth)
 }
 
@@ -459,7 +352,7 @@ pub fn collect_real_descendants(
     rec: model::Record,
     source: &[u8],
     budget: MemoryBudget,
-) -> Walked
+) -> Result<u64, Ended>
     requires listing_value { is_listing listing.now ≡ true }
     requires rec_value { is_table table.now rec ≡ true }
     requires source_value { is_path source.now ≡ true }
@@ -470,14 +363,6 @@ pub fn collect_real_descendants(
     let first = listing_records::first_record(listing);
     let entries = table_entries::first_entry(table, rec);
     let own = stretch_below(listing, first, source);
-    let on = visit_children(
-        listing,
-        own,
-        table,
-        entries,
-        source,
-        budget,
-        Walked::Sum(start),
-    );
+    let on = visit_children(listing, own, table, entries, source, budget, start)?;
     enter_stretch(listing, own, table, entries, source, budget, on, 31)
 }

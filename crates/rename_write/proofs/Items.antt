@@ -4,23 +4,20 @@ use mathlib.Core.Bool.{true}
 use mathlib.Core.List.{[], ◌++◌}
 use Prim.Native.Nat.{ℕ, ◌+◌, ◌-◌, ◌≤◌}
 use native.Mathlib.Omega.{arith}
-use lib.Dec.{leb}
-use lib.ListN.{length, take, drop, length-append, length-drop}
+use lib.ListN.{length, take, drop}
 use lib.Seq.{length-take-le}
-use borrow.Author.Tests.{leb-true}
 use Rattle.model.specs.Bytes.{Bytes, before}
 use Rattle.model.specs.Path.{Path}
 use Rattle.model.specs.Map.{put}
 use Rattle.model.specs.Tree.{Entry, Table}
 use Rattle.model.specs.Table.{type_of, mtime_of, size_of, body_of, encode, entry_of, entries_at}
 use Rattle.model.specs.Rename.{new_key}
-use Rattle.model.proofs.Orders.{and_true}
 use Rattle.model.proofs.Codec.{same_entry}
 use Rattle.table_entries.specs.Place.{end_of}
 use Rattle.table_entries.specs.Cut.{up_to}
 use Rattle.table_write.specs.Merge.{Written, Merged}
 use Rattle.table_write.specs.declared.Merge.{Merge}
-use Rattle.rename_write.specs.Stretch.{movable, Room, Put}
+use Rattle.rename_write.specs.Stretch.{Room, Put}
 
 -- the room, by the key and the body that are put
 pub room_of : (s w : Bytes) (x : Merge) (i : Path × Entry) (q : Path) (b : Bytes) → Room s w x i → q ≡ i.0 → b ≡ body_of i.1
@@ -41,17 +38,6 @@ put_of s w w' x x' i q v e f h l d =
 -- kind 4 without a body is a deleted entry's
 pub deleted_written : Written 4 0 0 []
 deleted_written = record { type = refl; time = refl; long = refl; content = refl }
-
--- a new key has room
-pub key_room : (a b q : Path) (i : Path × Entry) → movable a b i ≡ true → q ≡ i.0 → (length a ≤ length q) × (length b + (length q - length a) ≤ 512)
-key_room a b q i h e =
-    let x = and_true (leb (length a) (length i.0)) (leb (length (new_key a b i.0)) 512) h in
-    let m = leb-true (length a) (length i.0) x.0 in
-    let n = leb-true (length (new_key a b i.0)) 512 x.1 in
-    let o = length-append b (drop (length a) i.0) in
-    let p = length-drop (length a) i.0 in
-    let l = ap length e in
-    (omega arith, omega arith)
 
 -- its bytes are the first ones of the array
 pub key_bytes : (a b q k : Path) (i : Path × Entry) → q ≡ i.0 → k ≡ b ++ drop (length a) q → k ≡ new_key a b i.0

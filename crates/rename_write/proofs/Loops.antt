@@ -175,3 +175,8 @@ module _ (g : Path × Entry → Path × Entry) where
       → P (item_at own part d h) ≡ true
   good_at_first s w₀ own part a f₀ c x₀ f w x d y f' r h v T n lp u is P l b all =
       first_good s w₀ own part a f₀ c x₀ f w x d y f' r h v T lp u P (ap (every P) (is l b.up b.are) ∙ all)
+
+-- all pass where each passes
+pub all_pass : (xs : Table) → every (λ x. true) xs ≡ true
+all_pass [] = refl
+all_pass (x ∷ xs) = all_pass xs

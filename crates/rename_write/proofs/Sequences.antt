@@ -1,21 +1,23 @@
 -- Stretches one behind the other, and stretches of one entry.
 use mathlib.Core.Path.{◌≡◌, refl, ap, sym, subst, ◌∙◌}
 use mathlib.Core.Bool.{Bool, true, false, cond}
+use mathlib.Core.Logic.{◌⊎◌, inl, inr}
 use mathlib.Core.List.{List, [], ◌∷◌, ◌++◌, append_assoc, append-nil}
 use mathlib.Core.Option.{Option, none, some}
 use Prim.Native.Nat.{ℕ, zero, suc, ◌+◌, ◌-◌, ◌≤◌, ◌<◌}
 use native.Mathlib.Omega.{arith}
 use lib.Dec.{eqb}
 use lib.ListN.{length}
+use Rattle.std.specs.Prelude as maybe
 use Rattle.model.specs.Bytes.{Bytes, every, same, before}
 use Rattle.model.specs.Path.{Path}
 use Rattle.model.specs.Map.{is_none, lookup, ascends}
-use Rattle.model.specs.Tree.{Node, Entry, reference, directory, deleted, Table, Tree}
+use Rattle.model.specs.Tree.{Node, Entry, reference, directory, deleted, Table}
 use Rattle.model.specs.Listing.{ListingRecord, records, node_of, tree_from, tree_in, is_listing}
 use Rattle.model.specs.Rename.{as_entry}
 use Rattle.model.specs.Table.{key_at, entry_at, entries_at, encode, padded, table_in, is_table}
 use Rattle.model.specs.declared.Record.{Record}
-use Rattle.model.proofs.Orders.{Split, split, bot, and_true, yea, nay, test, is_none_lem, is_some, opt}
+use Rattle.model.proofs.Orders.{Split, split, bot, and_true, yea, nay, test, has_none, is_some, opt}
 use Rattle.model.proofs.Maps.{ascends_is}
 use Rattle.base_fields.specs.Read.{part}
 use Rattle.listing_records.specs.Found.{found_of}
@@ -36,10 +38,6 @@ use Rattle.rename_carried.proofs.Items.{part_of_listing}
 use Rattle.rename_write.specs.Stretch.{movable, turned, Listed, Movables, Room, Put, Puttable, Behind, PutAll}
 use Rattle.rename_write.specs.Sequence.{Fits, AllPut, lower, top_of}
 use Rattle.rename_write.proofs.Loops.{into_append}
-
--- nothing
-pub none_put : (s w : Bytes) (x : Merge) → AllPut s w w [] x x
-none_put s w x = record { merged = λ t k later m u. record { k = k; merged = m; up = u }; long = refl; end = refl }
 
 -- one entry
 pub one_room : (s w : Bytes) (x : Merge) (i : Path × Entry) → Fits s w (i ∷ []) x → Room s w x i
@@ -128,11 +126,6 @@ module _ (g : Path × Entry → Path × Entry) (s w p : Bytes) (T : Table) (a : 
         end = q.end;
       })
 
-pub lower_none : (g : Path × Entry → Path × Entry) (s w : Bytes) (T : Table) (l : Tree) (a : Path) (x : Merge) (whole : Bool) → whole ≡ false
-    → AllPut s w w (turned g (lower whole T l a)) x x
-lower_none g s w T l a x whole e =
-    subst (λ (c : Table). AllPut s w w c x x) (sym (ap (λ (b : Bool). turned g (lower b T l a)) e)) (none_put s w x)
-
 pub lower_movables : (p : Bytes) (T : Table) (a b : Path) (from to n : ℕ) (whole : Bool) → is_listing p ≡ true → PartOf p a from to n → whole ≡ true
     → every (movable a b) (lower whole T (tree_in p) a) ≡ true → Movables (part p from to) T a b n
 lower_movables p T a b from to n whole h o e m =
@@ -160,7 +153,7 @@ module _ (s : Bytes) (r : Record) (q : Place) (a : Path) (b : Bool) (e : q ≡ r
   top_listed h =
       let g : is_none (lookup (table_in s r) a) ≡ true =
       ap (λ (o : Place). is_none (lookup (entries_at s o.left o.at) a)) (sym e) ∙ sym f ∙ h in
-      elim (opt (lookup (table_in s r) a)) [ is_none_lem z ↦ cc | is_some y z ↦ absurd (bot (cc)) ]
+      elim (opt (lookup (table_in s r) a)) [ has_none z ↦ cc | is_some y z ↦ absurd (bot (cc)) ]
 
   -- the table's own, where it has one
   pub top_stored : b ≡ false → Standing s q.left q.at → (m to : ℕ) → Sought s a q.left q.at m to
@@ -182,11 +175,11 @@ pub one_done : (s w w' : Bytes) (x x' : Merge) (b : Path) (e f : Entry) → e �
 one_done s w w' x x' b e f h y = subst (λ (o : Entry). AllPut s w w' ((b, o) ∷ []) x x') h y
 
 -- what is listed, as an entry, from what `find` tells
-abbrev pub found_entry : Found → Path → Entry
-found_entry (found.Directory m) p = directory m
-found_entry (found.File m z) p = reference m z p
-found_entry found.Link p = deleted
-found_entry found.Absent p = deleted
+abbrev pub found_entry : maybe.Option Found → Path → Entry
+found_entry (maybe.Some (found.Directory m)) p = directory m
+found_entry (maybe.Some (found.File m z)) p = reference m z p
+found_entry (maybe.Some found.Link) p = deleted
+found_entry maybe.None p = deleted
 
 node_entry : (r : ListingRecord) (p : Path) → r.path ≡ p → found_entry (found_of (some (node_of r))) p ≡ as_entry (node_of r)
 node_entry r p e = elim (test (eqb r.type 1)) [
@@ -198,8 +191,17 @@ found_entry_lem : (rs : List ListingRecord) (p : Path) → found_entry (found_of
 found_entry_lem [] p = refl
 found_entry_lem (r ∷ rs) p = elim (split r.path p) [ Split.eq e w ↦ rw w (node_entry r p e) | Split.ne e w ↦ rw w (found_entry_lem rs p) ]
 
-pub told_entry : (s : Bytes) (p : Path) (f x : Found) → f ≡ found_of (lookup (tree_in s) p) → f ≡ x → found_entry x p ≡ top_of none (lookup (tree_in s) p)
-told_entry s p f x h e = ap (λ (o : Found). found_entry o p) (sym e ∙ h) ∙ found_entry_lem (records s) p
+pub told_entry : (s : Bytes) (p : Path) (f x : maybe.Option Found) → f ≡ found_of (lookup (tree_in s) p) → f ≡ x → found_entry x p ≡ top_of none (lookup (tree_in s) p)
+told_entry s p f x h e = ap (λ (o : maybe.Option Found). found_entry o p) (sym e ∙ h) ∙ found_entry_lem (records s) p
+
+pub told_some : (s : Bytes) (p : Path) (f : maybe.Option Found) (y x : Found) → f ≡ found_of (lookup (tree_in s) p) → f ≡ maybe.Some y → y ≡ x
+    → found_entry (maybe.Some x) p ≡ top_of none (lookup (tree_in s) p)
+told_some s p f y x h e d = told_entry s p f (maybe.Some x) h (e ∙ ap (λ (o : Found). maybe.Some o) d)
+
+pub told_deleted : (s : Bytes) (p : Path) (f : maybe.Option Found) → f ≡ found_of (lookup (tree_in s) p) → (f ≡ maybe.Some found.Link) ⊎ (f ≡ maybe.None)
+    → deleted ≡ top_of none (lookup (tree_in s) p)
+told_deleted s p f h (inl e) = told_entry s p f (maybe.Some found.Link) h e
+told_deleted s p f h (inr e) = told_entry s p f maybe.None h e
 
 pub directory_written : (m : ℕ) → Written 3 m 0 []
 directory_written m = record { type = refl; time = refl; long = refl; content = refl }
@@ -207,29 +209,10 @@ directory_written m = record { type = refl; time = refl; long = refl; content = 
 pub reference_written : (m z : ℕ) (b : Bytes) → Written 2 m z b
 reference_written m z b = record { type = refl; time = refl; long = refl; content = refl }
 
--- a list, by another name of it
-pub fits_as : (s w : Bytes) (xs ys : Table) (x : Merge) → xs ≡ ys → Fits s w xs x → Fits s w ys x
-fits_as s w xs ys x e f = subst (λ (o : Table). Fits s w o x) e f
-
-pub put_as : (s w w' : Bytes) (xs ys : Table) (x x' : Merge) → ys ≡ xs → AllPut s w w' xs x x' → AllPut s w w' ys x x'
-put_as s w w' xs ys x x' e f = subst (λ (o : Table). AllPut s w w' o x x') (sym e) f
-
 -- which of four lists it is
 module _ (q r o : Bool) (w x y z : Table) where
   abbrev pub chosen : Table
   chosen = cond q (cond r w x) (cond o y z)
-
-  pub pick_1 : q ≡ true → r ≡ true → chosen ≡ w
-  pick_1 i j = rw (i, j)
-
-  pub pick_2 : q ≡ true → r ≡ false → chosen ≡ x
-  pick_2 i j = rw (i, j)
-
-  pub pick_3 : q ≡ false → o ≡ true → chosen ≡ y
-  pick_3 i j = rw (i, j)
-
-  pub pick_4 : q ≡ false → o ≡ false → chosen ≡ z
-  pick_4 i j = rw (i, j)
 
 -- all of it, from the first entry on
 module _ (s w₀ : Bytes) (r : Record) (xs : Table) (h : is_table s r ≡ true) (u : ascends [] xs ≡ true) where

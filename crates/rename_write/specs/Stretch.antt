@@ -1,6 +1,7 @@
 -- Stretches of entries with ascending keys that are put into a table one after the other, each entry made of one that
 -- rename carries.
-use Rattle.std.specs.Prelude.{◌≡◌, Bool, true, ◌&&◌, [], ◌∷◌, ◌++◌, ℕ, ◌+◌, ◌≤◌, leb, length}
+use Rattle.std.specs.Prelude.{◌≡◌, Bool, true, ◌&&◌, List, [], ◌∷◌, ◌++◌, ℕ, ◌+◌, ◌≤◌, leb, length}
+use Rattle.std.specs.Borrow.{MutBor}
 use Rattle.model.specs.Bytes.{Bytes, every, before}
 use Rattle.model.specs.Path.{Path, below}
 use Rattle.model.specs.Map.{ascends, put, only}
@@ -8,12 +9,15 @@ use Rattle.model.specs.Tree.{Entry, deleted, Table, Tree}
 use Rattle.model.specs.Table.{body_of, encode, entries_at}
 use Rattle.model.specs.Rename.{new_key}
 use Rattle.listing_records.specs.Place.{tree_at}
+use Rattle.listing_records.specs.Place as listing
 use Rattle.table_entries.specs.Place.{Standing, end_of}
 use Rattle.table_entries.specs.Cut.{up_to}
 use Rattle.table_measure.specs.Into.{into}
 use Rattle.table_write.specs.Merge.{Merged}
 use Rattle.table_write.specs.declared.Merge.{Merge}
-use Rattle.rename_carried.specs.Streams.{carried_below}
+use Rattle.rename_carried.specs.Streams.{carried_below, Next, item_at}
+use Rattle.rename_carried.specs.declared.Stream.{Stream}
+use Rattle.rename_carried.specs.declared.Head.{Head}
 
 -- what is put for an entry that is carried: a deleted one at its key
 abbrev pub deletion : Path × Entry → Path × Entry
@@ -37,11 +41,15 @@ pub record Listed (p : Bytes) (a : Path) (n : ℕ) (l : Tree) : Type 0 where
   pub up : ascends [] l ≡ true
   pub are : tree_at p n 0 ≡ only (below a) l
 
--- all that is carried from below a, with T for the table and p for the listing's part, has room for its new keys
-pub record Movables (p : Bytes) (T : Table) (a b : Path) (n : ℕ) : Type 0 where
+-- all that is carried from below a passes a test, with T for the table and p for the listing's part
+pub record AllPass (fit : Path × Entry → Bool) (p : Bytes) (T : Table) (a : Path) (n : ℕ) : Type 0 where
   pub l : Tree
   pub listed : Listed p a n l
-  pub all : every (movable a b) (carried_below T l a) ≡ true
+  pub all : every fit (carried_below T l a) ≡ true
+
+-- it has room for its new keys
+abbrev pub Movables : Bytes → Table → Path → Path → ℕ → Type 0
+Movables p T a b n = AllPass (movable a b) p T a n
 
 -- the work buffer w has room up to the entry i, and for it
 pub record Room (s w : Bytes) (x : Merge) (i : Path × Entry) : Type 0 where
@@ -84,3 +92,25 @@ pub record PutAll (g : Path × Entry → Path × Entry) (s w w' p : Bytes) (T : 
       → Behind s w' (into (turned g (carried_below T l a)) t) later x'
   pub long : length w' ≡ length w
   pub end : end_of s x'.left x'.at ≡ end_of s x.left x.at
+
+-- the item that is next passes a test, and what is put for it has room
+pub record Turn (g : Path × Entry → Path × Entry) (fit : Path × Entry → Bool) (s own part w : Bytes) (d : Stream)
+    (h : Head) (x : Merge) : Type 0 where
+  pub entries : Standing own d.entries.left d.entries.at
+  pub listed : listing.Standing part d.listed.left d.listed.at
+  pub next : Next own part d h
+  pub passes : fit (item_at own part d h) ≡ true
+  pub room : Room s w x (g (item_at own part d h))
+
+-- a step, by what its calls ask for, may be called there
+abbrev pub Takes : (MutBor (List ℕ) → Stream → Head → Merge → Type 0) → (Path × Entry → Path × Entry)
+    → (Path × Entry → Bool) → Bytes → Bytes → Bytes → Type 0
+Takes pre g fit s own part =
+    (w : _) (d : Stream) (h : Head) (x : Merge) → Turn g fit s own part w.now d h x → pre w d h x
+
+-- a step, by what its calls return, puts what g makes of the item that is next
+abbrev pub Puts : (MutBor (List ℕ) → Stream → Head → Merge → Merge → MutBor (List ℕ) → Type 0)
+    → (Path × Entry → Path × Entry) → Bytes → Bytes → Bytes → Type 0
+Puts post g s own part =
+    (w : _) (d : Stream) (h : Head) (x y : Merge) (v : _) → post w d h x y v
+    → Put s w.now v.now x y (g (item_at own part d h))

@@ -4,23 +4,24 @@
 // of the new table once.
 #![tactic(auto)]
 
-ghost use Rattle.std.specs.Prelude.{◌≡◌, true, [], ◌∷◌, ◌++◌, ◌≤◌, ◌<◌, length, replicate};
+ghost use Rattle.std.specs.Prelude.{◌≡◌, Bool, true, [], ◌∷◌, ◌++◌, ◌≤◌, ◌<◌, length, replicate};
 ghost use Rattle.std.proofs.Math.Option.{none};
 ghost use Rattle.model.specs.Bytes.{every};
-ghost use Rattle.model.specs.Path.{below};
+ghost use Rattle.model.specs.Path.{Path, below};
 ghost use Rattle.model.specs.Map.{lookup, ascends, only};
-ghost use Rattle.model.specs.Tree.{deleted};
+ghost use Rattle.model.specs.Tree.{Entry, deleted};
 ghost use Rattle.model.specs.Listing.{tree_in, is_listing};
 ghost use Rattle.model.specs.Table.{encode, padded, entry_at, entries_at, table_in, is_table};
 ghost use Rattle.listing_records.specs.Place as listing;
 ghost use Rattle.table_entries.specs.Place.{Standing};
 ghost use Rattle.table_measure.specs.Into.{into};
 ghost use Rattle.rename_uncovered.specs.Ahead.{PartBelow};
-ghost use Rattle.rename_carried.specs.Streams.{remaining, Next, item_at};
+ghost use Rattle.rename_carried.specs.Streams.{Next, item_at};
 ghost use Rattle.rename_write.specs.Stretch.{deletion, move, movable, turned, Movables, Room, Put, Puttable};
-ghost use Rattle.rename_write.specs.Stretch.{PutAll};
+ghost use Rattle.rename_write.specs.Stretch.{PutAll, AllPass, Takes, Puts};
 ghost use Rattle.rename_write.specs.Sequence.{Fits, AllPut, lower, top_of, top, departures, arrivals, ordered};
 
+use listing_records::Found;
 use model::{DELETED, DIRECTORY, REFERENCE};
 use rename_carried::{Head, Stream};
 use table_write::Merge;
@@ -38,13 +39,49 @@ fn put_deletion<'a>(
     requires standing { Standing own.now stream.entries.left stream.entries.at }
     requires standing_2 { listing.Standing part.now stream.listed.left stream.listed.at }
     requires next { Next own.now part.now stream head }
-    requires stream_nonzero { 0 < remaining stream }
     requires room { Room table.now work.old merge (deletion (item_at own.now part.now stream head)) }
     ensures { Put table.now work.old work.new merge result
         (deletion (item_at own.now part.now stream head)) }
 {
     let key = rename_items::item_key(own, part, stream, head);
     table_write::put_next(work, table, merge, key, DELETED, 0, 0, &key[..0])
+}
+
+// One pass over what rename carries from below the source, the step putting one entry for each item.
+fn put_all<'a, F: Fn(&mut [u8], Stream, Head, Merge) -> Merge>(
+    flags: &mut [bool; 513],
+    work: &mut [u8],
+    own: &'a [u8],
+    count: u64,
+    part: &'a [u8],
+    records: u64,
+    table: &[u8],
+    rec: model::Record,
+    source: &[u8],
+    merge: Merge,
+    step: F,
+) -> Merge
+    requires flags_len { length flags.old ≡ 513 }
+    requires rec_value { is_table table.now rec ≡ true }
+    requires standing { Standing own.now count 0 }
+    requires count_value { entries_at own.now count 0 ≡ only (below source.now) (table_in table.now rec) }
+    requires part_below { PartBelow part.now source.now records }
+    requires step_puts { (g : Path × Entry → Path × Entry) × (fit : Path × Entry → Bool)
+        × Takes (F.pre step) g fit table.now own.now part.now
+        × Puts (F.post step) g table.now own.now part.now
+        × AllPass fit part.now (table_in table.now rec) source.now records
+        × Puttable g table.now work.old part.now (table_in table.now rec) source.now records merge }
+    ensures { (g : Path × Entry → Path × Entry) → Puts (F.post step) g table.now own.now part.now
+        → PutAll g table.now work.old work.new part.now (table_in table.now rec) source.now records merge result }
+{
+    let mut next = merge;
+    let mut stream = rename_carried::first(flags, own, count, part, records, table, rec, source);
+    while let Some(head) = rename_carried::head_at(own, part, stream) {
+        let after = rename_carried::advance(flags, own, part, table, stream, head, source);
+        next = step(work, stream, head, next);
+        stream = after;
+    }
+    next
 }
 
 // A deleted entry at each key below the source that rename carries.
@@ -70,15 +107,19 @@ pub fn put_deletions<'a>(
     ensures { PutAll deletion table.now work.old work.new part.now
         (table_in table.now rec) source.now records merge result }
 {
-    let mut next = merge;
-    let mut stream = rename_carried::first(flags, own, count, part, records, table, rec, source);
-    while rename_carried::has_next(stream) {
-        let head = rename_carried::head_at(own, part, stream);
-        let after = rename_carried::advance(flags, own, part, table, stream, head, source);
-        next = put_deletion(work, own, part, table, stream, head, next);
-        stream = after;
-    }
-    next
+    put_all(
+        flags,
+        work,
+        own,
+        count,
+        part,
+        records,
+        table,
+        rec,
+        source,
+        merge,
+        |work, stream, head, merge| put_deletion(work, own, part, table, stream, head, merge),
+    )
 }
 
 // The item that is next, at its new key.
@@ -96,7 +137,6 @@ fn put_move<'a>(
     requires standing { Standing own.now stream.entries.left stream.entries.at }
     requires standing_2 { listing.Standing part.now stream.listed.left stream.listed.at }
     requires next { Next own.now part.now stream head }
-    requires stream_nonzero { 0 < remaining stream }
     requires head_value { movable source.now destination.now (item_at own.now part.now stream head) ≡ true }
     requires room { Room table.now work.old merge (move source.now destination.now (item_at own.now part.now
         stream head)) }
@@ -107,13 +147,11 @@ fn put_move<'a>(
     let key = rename_keys::moved_key(destination, path, source.len());
     let item = rename_items::item_fields(own, part, stream, head);
     let body = rename_items::item_body(own, part, stream, head);
-    let bytes = key.bytes;
-    let len = key.len;
     table_write::put_next(
         work,
         table,
         merge,
-        &bytes[..len],
+        &key.bytes[..key.len],
         item.kind,
         item.mtime,
         item.size,
@@ -147,25 +185,31 @@ pub fn put_moves<'a>(
         work.old work.new part.now (table_in table.now rec)
         source.now records merge result }
 {
-    let mut next = merge;
-    let mut stream = rename_carried::first(flags, own, count, part, records, table, rec, source);
-    while rename_carried::has_next(stream) {
-        let head = rename_carried::head_at(own, part, stream);
-        let after = rename_carried::advance(flags, own, part, table, stream, head, source);
-        next = put_move(
-            work,
-            own,
-            part,
-            table,
-            stream,
-            head,
-            source,
-            destination,
-            next,
-        );
-        stream = after;
-    }
-    next
+    put_all(
+        flags,
+        work,
+        own,
+        count,
+        part,
+        records,
+        table,
+        rec,
+        source,
+        merge,
+        |work, stream, head, merge| {
+            put_move(
+                work,
+                own,
+                part,
+                table,
+                stream,
+                head,
+                source,
+                destination,
+                merge,
+            )
+        },
+    )
 }
 
 // A deleted entry at the source itself.
@@ -200,12 +244,8 @@ fn put_lower_deletions<'a>(
     let mut flags: [bool; 513] = [false; 513];
     let entries = table_below::below(table, rec, source);
     let records = listing_records::below(listing, source);
-    let start = entries.from;
-    let end = entries.to;
-    let from = records.from;
-    let to = records.to;
-    let own = &table[start..end];
-    let part = &listing[from..to];
+    let own = &table[entries.from..entries.to];
+    let part = &listing[records.from..records.to];
     put_deletions(
         &mut flags,
         work,
@@ -247,12 +287,8 @@ fn put_lower_moves<'a>(
     let mut flags: [bool; 513] = [false; 513];
     let entries = table_below::below(table, rec, source);
     let records = listing_records::below(listing, source);
-    let start = entries.from;
-    let end = entries.to;
-    let from = records.from;
-    let to = records.to;
-    let own = &table[start..end];
-    let part = &listing[from..to];
+    let own = &table[entries.from..entries.to];
+    let part = &listing[records.from..records.to];
     put_moves(
         &mut flags,
         work,
@@ -316,38 +352,28 @@ fn put_listed(
       top_of none (lookup (tree_in listing.now) source.now),
     ) ∷ []) merge result }
 {
-    let found = listing_dir::find(listing, source);
-    match found {
-        listing_records::Found::Directory(mtime) => {
-            return table_write::put_next(
-                work,
-                table,
-                merge,
-                destination,
-                DIRECTORY,
-                mtime,
-                0,
-                &source[..0],
-            );
-        }
-        listing_records::Found::File(mtime, size) => {
-            return table_write::put_next(
-                work,
-                table,
-                merge,
-                destination,
-                REFERENCE,
-                mtime,
-                size,
-                source,
-            );
-        }
-        listing_records::Found::Link => {
-            return put_source_deletion(work, table, destination, merge);
-        }
-        listing_records::Found::Absent => {
-            return put_source_deletion(work, table, destination, merge);
-        }
+    match listing_dir::find(listing, source) {
+        Some(Found::Directory(mtime)) => table_write::put_next(
+            work,
+            table,
+            merge,
+            destination,
+            DIRECTORY,
+            mtime,
+            0,
+            &source[..0],
+        ),
+        Some(Found::File(mtime, size)) => table_write::put_next(
+            work,
+            table,
+            merge,
+            destination,
+            REFERENCE,
+            mtime,
+            size,
+            source,
+        ),
+        Some(Found::Link) | None => put_source_deletion(work, table, destination, merge),
     }
 }
 
@@ -376,12 +402,11 @@ fn put_top(
 {
     let first = table_entries::first_entry(table, rec);
     let got = table_entries::get_from(table, first, source);
-    let entry = got.entry;
-    let place = got.place;
-    if table_entries::is_absent(entry) {
-        return put_listed(work, table, listing, source, destination, merge);
+    if table_entries::is_absent(got.entry) {
+        put_listed(work, table, listing, source, destination, merge)
+    } else {
+        put_stored(work, table, got.place, destination, merge)
     }
-    put_stored(work, table, place, destination, merge)
 }
 
 // The source and what is below it, deleted.
@@ -571,23 +596,15 @@ fn put_ordered<'a>(
 {
     if base_fields::is_before(source, destination) {
         if base_paths::is_before_with(destination, source, b'/') {
-            return put_destination_within(
-                work,
-                table,
-                rec,
-                listing,
-                source,
-                destination,
-                whole,
-                merge,
-            );
+            put_destination_within(work, table, rec, listing, source, destination, whole, merge)
+        } else {
+            put_source_first(work, table, rec, listing, source, destination, whole, merge)
         }
-        return put_source_first(work, table, rec, listing, source, destination, whole, merge);
+    } else if base_paths::is_before_with(source, destination, b'/') {
+        put_source_within(work, table, rec, listing, source, destination, whole, merge)
+    } else {
+        put_destination_first(work, table, rec, listing, source, destination, whole, merge)
     }
-    if base_paths::is_before_with(source, destination, b'/') {
-        return put_source_within(work, table, rec, listing, source, destination, whole, merge);
-    }
-    put_destination_first(work, table, rec, listing, source, destination, whole, merge)
 }
 
 // The table anew with all of it put, once it is known that it fits.
@@ -621,6 +638,5 @@ pub fn write_ordered(
         out: 0,
     };
     let end = put_ordered(work, table, rec, listing, source, destination, whole, merge);
-    let used = rec.used as usize;
-    table_write::finish(table, work, end, used);
+    table_write::finish(table, work, end, rec.used as usize);
 }

@@ -1,32 +1,23 @@
 -- The loop over a script's steps: what one step leaves, what holds before each, and what holds after the last.
-use mathlib.Core.Path.{◌≡◌, refl, ap, ap₂, sym, ◌∙◌, subst}
+use mathlib.Core.Path.{◌≡◌, ap, ap₂, sym, ◌∙◌, subst⁻¹}
 use mathlib.Core.Bool.{Bool, true, ◌&&◌}
 use Prim.Native.Nat.{ℕ, zero, suc, ◌+◌, ◌-◌, ◌*◌, ◌<◌, ◌≤◌}
 use native.Mathlib.Omega.{arith}
 use lib.ListN.{length}
 use Rattle.model.specs.Bytes.{Bytes}
 use Rattle.model.specs.Answer as answer
-use Rattle.model.specs.Outcome.{Store, Request, Outcome, outcome}
+use Rattle.model.specs.Outcome.{Outcome, outcome}
 use Rattle.model.specs.declared.Record.{Record}
 use Rattle.model.specs.declared.Answered.{Answered}
 use Rattle.model.proofs.Orders.{and_true}
 use Rattle.base_fields.specs.Write.{overwritten}
 use Rattle.base_fields.proofs.Writes.{overwritten_none}
-use Rattle.call_answer.specs.Meets.{requested, stored, Meets}
-use Rattle.call_values.specs.declared.Order.{Order}
-use Rattle.call_values.specs.Values.{call_of, row_of}
-use Rattle.run_script.specs.Script.{is_two, first_part, second_part, third_part, step_head, step_end, step_at, order_at, steps_from, step_count, steps_in, fits, headed, filled, marked, is_script}
+use Rattle.call_answer.specs.Meets.{stored, Meets}
+use Rattle.call_values.specs.Values.{row_of}
+use Rattle.run_script.specs.Script.{is_two, step_head, step_end, step_at, steps_from, step_count, fits, headed, filled, marked, is_script}
 use Rattle.run_calls.specs.Runs.{request_of, RunLeft, left_after, row_bytes, rows, Finished}
 use Rattle.run_script.proofs.Steps.{fits_is, marked_long}
 use Rattle.run_calls.proofs.Rows.{row_then}
-
-module _ (listing script : Bytes) (two : Bool) (at : ℕ) (s : Store) (work : Bytes) where
-  -- the call that is made is the step's
-  pub step_met : {o : Order} {first second third : Bytes} → o ≡ order_at two script at → first ≡ first_part two script at → second ≡ second_part two script at
-      → third ≡ third_part two script at → {a : Answered} {table' work' : Bytes} → Meets (outcome listing (requested (call_of o first second third) o.limit work) s) a table' work'
-      → Meets (outcome listing (request_of (step_at two script at) work) s) a table' work'
-  step_met e f g h {a} {table'} {work'} m =
-      subst (λ (q : Request). Meets (outcome listing q s) a table' work') (λ i. requested (call_of (e i) (f i) (g i) (h i)) (e i).limit work) m
 
 -- before a step is made: n steps stand from `at` on, and what they leave is what the script does
 pub record Going (listing script : Bytes) (two : Bool) (x : RunLeft) (table₀ work₀ report₀ : Bytes) (n at row : ℕ) (table work report : Bytes) (last : Record) : Type 0 where
@@ -43,21 +34,6 @@ pub record Going (listing script : Bytes) (two : Bool) (x : RunLeft) (table₀ w
 module _ (script : Bytes) (h : is_script script ≡ true) where
   pub script_long : 8 ≤ length script
   script_long = marked_long script (and_true (marked script) (filled (is_two script) script (step_count script) 8) h).0
-
-  pub begun : (listing table work report : Bytes) (rec : Record) (two : Bool) → two ≡ is_two script → (n : ℕ) → n ≡ step_count script → n < 0x1_0000_0000
-      → 32 * step_count script ≤ length report
-      → Going listing script two (left_after listing (steps_in script) (stored table rec) work) table work report n 8 0 table work report rec
-  begun listing table work report rec two t n e b g = record {
-    stand = rw (t, e) (and_true (marked script) (filled (is_two script) script (step_count script) 8) h).1;
-    place = omega arith;
-    small = omega arith;
-    table_long = refl;
-    work_long = refl;
-    report_long = refl;
-    store = rw (t, e);
-    buffer = rw (t, e);
-    told = rw (t, e);
-  }
 
 module _ {listing script : Bytes} {two : Bool} {x : RunLeft} {table₀ work₀ report₀ : Bytes} {n at row : ℕ} {table work report : Bytes} {last : Record}
     (k : Going listing script two x table₀ work₀ report₀ n at row table work report last) where
@@ -81,16 +57,13 @@ module _ {listing script : Bytes} {two : Bool} {x : RunLeft} {table₀ work₀ r
             let a = and_true (fits two script at && headed two script at) (filled two script m (step_end two script at)) e in
             fits_is two script at (and_true (fits two script at) (headed two script at) a.0).0
 
-    pub row_place : row + 32 ≤ length report
-    row_place = let p = k.place in omega arith
-
     -- a step is made, and its row is written: that of its answer, with the charge after it
     pub on : {made : Answered} {table' work' report' : Bytes}
         → Meets (outcome listing (request_of (step_at two script at) work) (stored table last)) made table' work'
         → report' ≡ overwritten report row (row_bytes (row_of (answer.told made.answer)) made.«record».charge)
-        → length table' ≡ length table → length work' ≡ length work → length report' ≡ length report → (to : ℕ) → to ≡ step_end two script at
-        → Going listing script two x table₀ work₀ report₀ (n - 1) to (row + 32) table' work' report' made.«record»
-    on {made} {table'} {work'} {report'} d t a b c to e = go n h k.stand k.place k.small k.store k.buffer k.told
+        → length table' ≡ length table → length work' ≡ length work → length report' ≡ length report → (left : ℕ) → left ≡ n - 1 → (to : ℕ) → to ≡ step_end two script at
+        → Going listing script two x table₀ work₀ report₀ left to (row + 32) table' work' report' made.«record»
+    on {made} {table'} {work'} {report'} d t a b c left i to e = subst⁻¹ (λ (y : ℕ). Going listing script two x table₀ work₀ report₀ y to (row + 32) table' work' report' made.«record») i (go n h k.stand k.place k.small k.store k.buffer k.told)
       where
         go : (n : ℕ) → 0 < n → filled two script n at ≡ true → row + 32 * n ≤ length report → row + 32 * n < 0x20_0000_0000
             → (left_after listing (steps_from two script n at) (stored table last) work).store ≡ x.store

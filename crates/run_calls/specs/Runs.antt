@@ -1,5 +1,6 @@
 -- What a script's calls answer and leave, and demand 3 of document 01 on them.
-use Rattle.std.specs.Prelude.{◌≡◌, cond, List, [], ◌∷◌, ◌++◌, ℕ, ◌*◌, leb, length, drop}
+use Rattle.std.specs.Prelude.{◌≡◌, cond, List, [], ◌∷◌, ◌++◌, ℕ, ◌*◌, leb, length, drop, Ok, Err}
+use Rattle.std.specs.Prelude as code
 use Rattle.model.specs.Bytes.{Bytes, bytes}
 use Rattle.model.specs.Answer.{Reply, accepted, refused}
 use Rattle.model.specs.Outcome.{Store, Request, outcome, opened}
@@ -10,10 +11,8 @@ use Rattle.call_answer.specs.Meets.{requested, stored}
 use Rattle.call_values.specs.declared.Row.{Row}
 use Rattle.call_values.specs.Values.{row_of}
 use Rattle.run_script.specs.Script.{Step, is_script, steps_in}
-use Rattle.run_calls.specs.declared.Ran.{Ran}
-use Rattle.run_calls.specs.declared.Ran.TheVariants as ran
-use Rattle.run_calls.specs.declared.RanNew.{RanNew}
-use Rattle.run_calls.specs.declared.RanNew.TheVariants as new
+use Rattle.run_calls.specs.declared.RunError.{RunError}
+use Rattle.run_calls.specs.declared.RunError.TheVariants.{MalformedTable, MalformedScript, ShortReport}
 
 abbrev pub request_of : Step → Bytes → Request
 request_of x work = requested x.call x.limit work
@@ -62,10 +61,14 @@ pub record Result (A : Type 0) : Type 0 where
   pub work : Bytes
   pub report : Bytes
 
+-- the record after the last call, or why the script is not run
+abbrev pub Ran : Type 0
+Ran = code.Result Record RunError
+
 -- a report has the rows, then the bytes that stood there
 abbrev pub done : RunLeft → Bytes → Result Ran
 done l report = record {
-  answer = ran.Done l.store.rec;
+  answer = Ok l.store.rec;
   table = l.store.table;
   work = l.work;
   report = rows l.told ++ drop (length (rows l.told)) report;
@@ -80,24 +83,19 @@ ran_on listing s work script report =
     cond (is_script script)
     (cond (leb (32 * length (steps_in script)) (length report))
     (done (left_after listing (steps_in script) s work) report)
-    (unchanged ran.ShortReport s work report))
-    (unchanged ran.MalformedScript s work report)
+    (unchanged (Err ShortReport) s work report))
+    (unchanged (Err MalformedScript) s work report)
 
-abbrev pub as_new : Ran → RanNew
-as_new (ran.Done r) = new.Done r
-as_new ran.MalformedScript = new.MalformedScript
-as_new ran.ShortReport = new.ShortReport
-
-abbrev pub if_opened : Reply → Result Ran → Result RanNew → Result RanNew
-if_opened (accepted v) x y = record { answer = as_new x.answer; table = x.table; work = x.work; report = x.report }
+abbrev pub if_opened : Reply → Result Ran → Result Ran → Result Ran
+if_opened (accepted v) x y = x
 if_opened (refused n w k) x y = y
 
 -- opening a buffer, and running the script on the empty table
-abbrev pub ran_new : Bytes → ℕ → Bytes → Bytes → Bytes → Bytes → Result RanNew
+abbrev pub ran_new : Bytes → ℕ → Bytes → Bytes → Bytes → Bytes → Result Ran
 ran_new listing E buffer work script report =
     let o = opened E buffer in
     if_opened o.reply (ran_on listing o.store work script report)
-    (record { answer = new.MalformedTable; table = buffer; work = work; report = report })
+    (record { answer = Err MalformedTable; table = buffer; work = work; report = report })
 
 -- what the code answers and leaves is the result x
 pub record Gives {A : Type 0} (x : Result A) (r : A) (table work report : Bytes) : Type 0 where

@@ -3,7 +3,7 @@
 // A run costs the check of the script, and what its calls cost.
 #![tactic(auto)]
 
-ghost use Rattle.std.specs.Prelude.{◌≡◌, true, ◌++◌, ◌+◌, ◌*◌, ◌≤◌, length};
+ghost use Rattle.std.specs.Prelude.{◌≡◌, true, ◌++◌, ◌+◌, ◌*◌, ◌≤◌, length, Ok};
 ghost use Rattle.model.specs.Bytes.{bytes};
 ghost use Rattle.model.specs.Answer.{told};
 ghost use Rattle.model.specs.Outcome.{outcome};
@@ -13,24 +13,15 @@ ghost use Rattle.base_fields.specs.Write.{overwritten};
 ghost use Rattle.call_answer.specs.Meets.{stored, Meets};
 ghost use Rattle.call_values.specs.Values.{row_of};
 ghost use Rattle.run_script.specs.Script.{step_head, step_end, step_at, step_count, steps_in, is_script};
-ghost use Rattle.run_calls.specs.Runs.{request_of, requests, row_bytes, ran_on, ran_new, left_after, as_new, Gives};
+ghost use Rattle.run_calls.specs.Runs.{request_of, requests, row_bytes, ran_on, ran_new, left_after, Gives};
 ghost use Rattle.run_calls.specs.Runs.{Holds, Finished};
 
-use model::{Answer, Answered, Record};
+use model::{Answered, Record};
 use run_script::ROW_SIZE;
 
-// What running a script gives: the record after its last call, or why it is not run.
-#[derive(Clone, Copy)]
-pub enum Ran {
-    Done(Record),
-    MalformedScript,
-    ShortReport,
-}
-
-// The same, where the table is opened first.
-#[derive(Clone, Copy)]
-pub enum RanNew {
-    Done(Record),
+// Why a script is not run. Where it is, a run answers the record after its last call.
+#[derive(Clone, Copy, Debug, PartialEq, Eq)]
+pub enum RunError {
     MalformedTable,
     MalformedScript,
     ShortReport,
@@ -50,8 +41,7 @@ fn put_row(report: &mut [u8], at: usize, answered: Answered, charge: u64)
     ensures { report.new ≡ overwritten report.old at
         (row_bytes (row_of (told answered.answer)) charge) }
 {
-    let answer = answered.answer;
-    let row = call_values::told(answer);
+    let row = call_values::told(answered.answer);
     put_pair(report, at, row.number, row.path);
     put_pair(report, at + 16, row.len, charge);
 }
@@ -95,16 +85,15 @@ fn run_steps(
 {
     let two = run_script::is_two(script);
     let mut last = rec;
-    let mut more = base_fields::le32(script, 4);
-    let mut place: usize = run_script::SCRIPT_HEAD;
-    let mut row: usize = 0;
-    while 0 < more {
+    let count = base_fields::le32(script, 4);
+    let mut place = run_script::SCRIPT_HEAD;
+    let mut row = 0;
+    for _ in 0..count {
         let answered = run_step(listing, table, last, work, script, two, place);
         put_row(report, row, answered, answered.record.charge);
         last = answered.record;
         place = run_script::end_of(script, two, place);
         row += ROW_SIZE;
-        more -= 1;
     }
     last
 }
@@ -118,35 +107,17 @@ pub fn run(
     work: &mut [u8],
     script: &[u8],
     report: &mut [u8],
-) -> Ran
+) -> Result<Record, RunError>
     ensures { Gives (ran_on listing.now (stored table.old rec) work.old
         script.now report.old) result table.new work.new report.new }
 {
     if !run_script::check(script) {
-        return Ran::MalformedScript;
+        return Err(RunError::MalformedScript);
     }
     if !run_script::has_rows(script, report.len()) {
-        return Ran::ShortReport;
+        return Err(RunError::ShortReport);
     }
-    let last = run_steps(listing, table, rec, work, script, report);
-    Ran::Done(last)
-}
-
-// A run on a table that was there, told as one on a new table is.
-pub fn as_new(ran: Ran) -> RanNew
-    ensures { result ≡ as_new ran }
-{
-    match ran {
-        Ran::Done(last) => {
-            return RanNew::Done(last);
-        }
-        Ran::MalformedScript => {
-            return RanNew::MalformedScript;
-        }
-        Ran::ShortReport => {
-            return RanNew::ShortReport;
-        }
-    }
+    Ok(run_steps(listing, table, rec, work, script, report))
 }
 
 // Opens the buffer as an empty table for entries of this size, and runs the script on it. Where it is done, demand 3 of
@@ -159,24 +130,17 @@ pub fn run_new(
     work: &mut [u8],
     script: &[u8],
     report: &mut [u8],
-) -> RanNew
+) -> Result<Record, RunError>
     ensures gives { Gives (ran_new listing.now entry_size table.old work.old
         script.now report.old) result table.new work.new report.new }
-    ensures holds { (last : model.Record) → result ≡ RanNew.Done last → Holds listing.now
+    ensures holds { (last : model.Record) → result ≡ Ok last → Holds listing.now
         (begin listing.now entry_size table.old) (requests listing.now
         (steps_in script.now) (begin listing.now entry_size table.old).store
         work.old) (stored table.new last) }
 {
     let opened = table_open::open(table, entry_size);
-    let answer = opened.answer;
-    let rec = opened.record;
-    match answer {
-        Answer::Refused(_) => {
-            return RanNew::MalformedTable;
-        }
-        Answer::Accepted(_) => {
-            let ran = run(listing, table, rec, work, script, report);
-            return as_new(ran);
-        }
+    match opened.answer {
+        Err(_) => Err(RunError::MalformedTable),
+        Ok(_) => run(listing, table, opened.record, work, script, report),
     }
 }

@@ -1,42 +1,42 @@
 -- A step's head, read as an order.
 use mathlib.Core.Path.{◌≡◌, ap, ◌∙◌}
-use mathlib.Core.Bool.{Bool}
-use Prim.Native.Nat.{ℕ, ◌+◌, ◌/◌, ◌%◌}
+use mathlib.Core.Bool.{Bool, false}
+use mathlib.Core.Logic.{inl, inr}
+use Prim.Native.Nat.{ℕ, ◌+◌, ◌/◌, ◌%◌, ◌<◌, ◌≤◌}
+use native.Mathlib.Omega.{arith}
 use lib.Dec.{eqb}
 use lib.ListN.{get_or}
-use borrow.Author.Tests.{eq-eqb, ne_eqb}
+use borrow.Author.Tests.{ne_eqb}
 use Rattle.model.specs.Bytes.{Bytes, number_at}
 use Rattle.call_values.specs.declared.Kind.{Kind}
 use Rattle.call_values.specs.declared.Kind.TheVariants.{Write, Append, WriteInside, Mkdir, Unlink, Rmdir, Rename}
 use Rattle.call_values.specs.declared.Order.{Order}
+use Rattle.call_values.specs.declared.UnknownKind.{UnknownKind}
+use Rattle.call_values.specs.Values.{OfNumber}
+use Rattle.std.specs.Prelude.{Result, Ok, Err}
+use Rattle.std.specs.Result.{result_unwrap_or}
 use Rattle.run_script.specs.Script.{offset_at, step_kind, order_at}
 
-module _ (k : ℕ) where
-  pub is_write : k ≡ 1 → Write ≡ step_kind k
-  is_write e = rw (eq-eqb k 1 e)
-
-  module _ (n₁ : k ≡ 1 → ⊥) where
-    pub is_mkdir : k ≡ 2 → Mkdir ≡ step_kind k
-    is_mkdir e = rw (ne_eqb k 1 n₁, eq-eqb k 2 e)
-
-    module _ (n₂ : k ≡ 2 → ⊥) where
-      pub is_unlink : k ≡ 3 → Unlink ≡ step_kind k
-      is_unlink e = rw (ne_eqb k 1 n₁, ne_eqb k 2 n₂, eq-eqb k 3 e)
-
-      module _ (n₃ : k ≡ 3 → ⊥) where
-        pub is_rmdir : k ≡ 4 → Rmdir ≡ step_kind k
-        is_rmdir e = rw (ne_eqb k 1 n₁, ne_eqb k 2 n₂, ne_eqb k 3 n₃, eq-eqb k 4 e)
-
-        module _ (n₄ : k ≡ 4 → ⊥) where
-          pub is_rename : k ≡ 5 → Rename ≡ step_kind k
-          is_rename e = rw (ne_eqb k 1 n₁, ne_eqb k 2 n₂, ne_eqb k 3 n₃, ne_eqb k 4 n₄, eq-eqb k 5 e)
-
-          module _ (n₅ : k ≡ 5 → ⊥) where
-            pub is_append : k ≡ 6 → Append ≡ step_kind k
-            is_append e = rw (ne_eqb k 1 n₁, ne_eqb k 2 n₂, ne_eqb k 3 n₃, ne_eqb k 4 n₄, ne_eqb k 5 n₅, eq-eqb k 6 e)
-
-            pub is_inside : (k ≡ 6 → ⊥) → WriteInside ≡ step_kind k
-            is_inside n₆ = rw (ne_eqb k 1 n₁, ne_eqb k 2 n₂, ne_eqb k 3 n₃, ne_eqb k 4 n₄, ne_eqb k 5 n₅, ne_eqb k 6 n₆)
+-- the kind that is made from a number, or writing inside, is a step's
+pub kind_is : (k : ℕ) (r : Result Kind UnknownKind) → OfNumber k r → result_unwrap_or r WriteInside ≡ step_kind k
+kind_is k (Ok Write) h = ap step_kind h
+kind_is k (Ok Mkdir) h = ap step_kind h
+kind_is k (Ok Unlink) h = ap step_kind h
+kind_is k (Ok Rmdir) h = ap step_kind h
+kind_is k (Ok Rename) h = ap step_kind h
+kind_is k (Ok Append) h = ap step_kind h
+kind_is k (Ok WriteInside) h = ap step_kind h
+kind_is k (Err e) h =
+    let other : (n : ℕ) → 0 < n → n ≤ 7 → eqb k n ≡ false
+    = λ n a b. ne_eqb k n (λ i. elim h.1 [ inl z ↦ omega (arith, z, i) | inr z ↦ omega (arith, z, i) ]) in
+    rw (
+      other 1 (omega arith) (omega arith),
+      other 2 (omega arith) (omega arith),
+      other 3 (omega arith) (omega arith),
+      other 4 (omega arith) (omega arith),
+      other 5 (omega arith) (omega arith),
+      other 6 (omega arith) (omega arith),
+    )
 
 pub order_is : (two : Bool) (s : Bytes) (at : ℕ) (x : Kind) (k f m l o : ℕ) → x ≡ step_kind k → k ≡ get_or s at 0 → f ≡ get_or s (at + 1) 0
     → m ≡ number_at s (at + 8) 8 → l ≡ number_at s (at + 16) 8 → o ≡ offset_at two s at

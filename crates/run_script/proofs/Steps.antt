@@ -1,11 +1,11 @@
 -- The rules of a script's head and of one step, by the tests that the code makes: one law for each exit.
-use mathlib.Core.Path.{◌≡◌, sym, ◌∙◌}
-use mathlib.Core.Bool.{Bool, true, false, not, ◌&&◌, ◌||◌}
+use mathlib.Core.Path.{◌≡◌, ap, ◌∙◌}
+use mathlib.Core.Bool.{Bool, true, false, ◌||◌}
 use Prim.Native.Nat.{ℕ, ◌+◌, ◌<◌, ◌≤◌}
 use native.Mathlib.Omega.{arith}
 use lib.Dec.{leb}
 use lib.ListN.{length, take, get_or}
-use borrow.Author.Tests.{le-leb, lt-leb, leb-true, not-true, not-false}
+use borrow.Author.Tests.{le-leb, lt-leb, leb-true}
 use Rattle.model.specs.Bytes.{Bytes, number_at, same}
 use Rattle.model.proofs.Orders.{and_true}
 use Rattle.run_script.specs.Script.{mark_of, is_two, offset_at, third_length, step_head, step_end, ruled, fits, headed, marked}
@@ -32,27 +32,12 @@ module _ (s : Bytes) where
   unfolding marked
   marked_long h = leb-true 8 (length s) (and_true (leb 8 (length s)) (same (take 4 s) (mark_of false) || is_two s) h).0
 
--- what only TSC2 has
-module _ (two : Bool) (s : Bytes) (at : ℕ) where
-  module _ (h : not two ≡ true) where
-    pub no_offset : 0 ≡ offset_at two s at
-    no_offset = rw (not-true two h)
-
-    pub no_third : 0 ≡ third_length two s at
-    no_third = rw (not-true two h)
-
-  module _ (h : not two ≡ false) where
-    pub long_head : step_head two ≡ 36
-    long_head = rw (not-false two h)
-
-    pub offset_is : (n : ℕ) → n ≡ number_at s (at + 24) 8 → n ≡ offset_at two s at
-    offset_is n e = rw (not-false two h) e
-
-    pub third_is : (n : ℕ) → n ≡ number_at s (at + 32) 4 → n ≡ third_length two s at
-    third_is n e = rw (not-false two h) e
+-- in TSC2
+pub long_head : (two : Bool) → two ≡ true → step_head two ≡ 36
+long_head two h = ap step_head h
 
 module _ (two : Bool) (s : Bytes) (at : ℕ) where
-  pub no_head : (n : ℕ) → n ≡ step_head two → length s < at + n → false ≡ fits two s at
+  pub no_head : (n : ℕ) → n ≡ step_head two → length s < at + n → leb (at + n) (length s) ≡ fits two s at
   unfolding fits
   no_head n e h = rw (← e, lt-leb (at + n) (length s) h)
 
@@ -71,13 +56,3 @@ module _ (two : Bool) (s : Bytes) (at : ℕ) where
       → o ≡ offset_at two s at → n ≡ third_length two s at → r ≡ ruled two k f m t o n → r ≡ headed two s at
   unfolding headed
   by_numbers k f m t o n r a b c d x y e = e ∙ rw (a, b, c, d, x, y)
-
-  module _ {b : Bool} (e : b ≡ fits two s at) where
-    pub not_fitting : not b ≡ true → false ≡ (fits two s at && headed two s at)
-    not_fitting h = rw (sym e ∙ not-true b h)
-
-    pub fitting : not b ≡ false → fits two s at ≡ true
-    fitting h = sym e ∙ not-false b h
-
-    pub by_head : not b ≡ false → (r : Bool) → r ≡ headed two s at → r ≡ (fits two s at && headed two s at)
-    by_head h r f = f ∙ rw (fitting h)

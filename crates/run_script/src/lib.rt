@@ -23,14 +23,10 @@ pub const ROW_SIZE: usize = 32;
 
 const ROW_BYTES: u64 = ROW_SIZE as u64;
 
-// The kinds of steps, and the numbers behind the last: in TSC1, then in TSC2.
+// The kinds of steps that the rules of a step name, and the numbers behind the last kind: in TSC1, then in TSC2.
 const WRITE: u64 = 1;
 
 const MKDIR: u64 = 2;
-
-const UNLINK: u64 = 3;
-
-const RMDIR: u64 = 4;
 
 const RENAME: u64 = 5;
 
@@ -88,10 +84,7 @@ fn is_marked(script: &[u8]) -> bool
 pub fn step_head(two: bool) -> usize
     ensures { (result ≡ step_head two) × ((24 ≤ result) × (result ≤ 36)) }
 {
-    if two {
-        return STEP_HEAD_TWO;
-    }
-    STEP_HEAD
+    if two { STEP_HEAD_TWO } else { STEP_HEAD }
 }
 
 // The offset of the step at `at`, then the length of its third part: 0 in TSC1, which has neither.
@@ -99,20 +92,22 @@ fn offset_at(script: &[u8], two: bool, at: usize) -> u64
     requires { at + step_head two ≤ length script.now }
     ensures { result ≡ offset_at two script.now at }
 {
-    if !two {
-        return 0;
+    if two {
+        base_fields::le64(script, at + 24)
+    } else {
+        0
     }
-    base_fields::le64(script, at + 24)
 }
 
 fn third_length(script: &[u8], two: bool, at: usize) -> u64
     requires { at + step_head two ≤ length script.now }
     ensures { (result ≡ third_length two script.now at) × (result < 0x1_0000_0000) }
 {
-    if !two {
-        return 0;
+    if two {
+        base_fields::le32(script, at + 32)
+    } else {
+        0
     }
-    base_fields::le32(script, at + 32)
 }
 
 // Where the third part of the step at `at` begins, then where the step ends.
@@ -140,10 +135,7 @@ fn is_inside(script: &[u8], two: bool, at: usize) -> bool
     requires { at ≤ length script.now }
     ensures { result ≡ fits two script.now at }
 {
-    if script.len() < at + step_head(two) {
-        return false;
-    }
-    end_of(script, two, at) <= script.len()
+    at + step_head(two) <= script.len() && end_of(script, two, at) <= script.len()
 }
 
 // Whether the numbers of the step at `at` go together.
@@ -165,10 +157,7 @@ fn is_step(script: &[u8], two: bool, at: usize) -> bool
     requires { at ≤ length script.now }
     ensures { result ≡ (fits two script.now at && headed two script.now at) }
 {
-    if !is_inside(script, two, at) {
-        return false;
-    }
-    is_headed(script, two, at)
+    is_inside(script, two, at) && is_headed(script, two, at)
 }
 
 // Whether the bytes are a script. What does not stand there ends the pass, so the time is linear in the bytes, whatever
@@ -180,14 +169,13 @@ pub fn check(script: &[u8]) -> bool
         return false;
     }
     let two = is_two(script);
-    let mut left = base_fields::le32(script, 4);
-    let mut at: usize = SCRIPT_HEAD;
-    while 0 < left {
+    let count = base_fields::le32(script, 4);
+    let mut at = SCRIPT_HEAD;
+    for _step in 0..count {
         if !is_step(script, two, at) {
             return false;
         }
         at = end_of(script, two, at);
-        left -= 1;
     }
     at == script.len()
 }
@@ -203,40 +191,22 @@ pub fn wrong_from(script: &[u8]) -> usize
         return 0;
     }
     let two = is_two(script);
-    let mut left = base_fields::le32(script, 4);
-    let mut at: usize = SCRIPT_HEAD;
-    while 0 < left {
+    let count = base_fields::le32(script, 4);
+    let mut at = SCRIPT_HEAD;
+    for _step in 0..count {
         if !is_step(script, two, at) {
             return at;
         }
         at = end_of(script, two, at);
-        left -= 1;
     }
     at
 }
 
+// The kind of a step with this number. In a script it is from 1 to 7.
 fn kind_of(kind: u64) -> Kind
     ensures { result ≡ step_kind kind }
 {
-    if kind == WRITE {
-        return Kind::Write;
-    }
-    if kind == MKDIR {
-        return Kind::Mkdir;
-    }
-    if kind == UNLINK {
-        return Kind::Unlink;
-    }
-    if kind == RMDIR {
-        return Kind::Rmdir;
-    }
-    if kind == RENAME {
-        return Kind::Rename;
-    }
-    if kind == APPEND {
-        return Kind::Append;
-    }
-    Kind::WriteInside
+    Kind::try_from(kind).unwrap_or(Kind::WriteInside)
 }
 
 // The call of the step at `at`, without its paths and data.
@@ -253,9 +223,9 @@ pub fn order_at(script: &[u8], two: bool, at: usize) -> Order
         kind: kind_of(kind),
         parents: flags % 2 == 1,
         exist_ok: flags / 2 == 1,
-        mtime: mtime,
-        limit: limit,
-        offset: offset,
+        mtime,
+        limit,
+        offset,
     }
 }
 

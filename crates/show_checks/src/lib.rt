@@ -20,20 +20,7 @@ use model::{Record, Refusal};
 fn is_link(target: RealTarget) -> bool
     ensures { result ≡ is_link (target_kind target) }
 {
-    match target {
-        RealTarget::Dir => {
-            return false;
-        }
-        RealTarget::File => {
-            return false;
-        }
-        RealTarget::Symlink => {
-            return true;
-        }
-        RealTarget::Absent => {
-            return false;
-        }
-    }
+    matches!(target, RealTarget::Symlink)
 }
 
 // Whether some ancestor of a path is listed as a link. It goes from the top down, and all steps together read the
@@ -66,7 +53,7 @@ pub fn check_shown(listing: &[u8], table: &[u8], rec: Record, path: &[u8]) -> Ju
 {
     let entry = table_entries::get(table, rec, path);
     if table_entries::is_absent(entry) & has_link_on_way(listing, path) {
-        return Judged::Refused(Refusal::LinkOrRoot(0, path.len() as u64));
+        return Err(Refusal::LinkOrRoot(0, path.len() as u64));
     }
     let visible = view_at::visible_at(listing, table, rec, path);
     check_one_path::check_directory(visible, path.len() as u64)

@@ -36,10 +36,7 @@ fn span_below(listing: &[u8], table: &[u8], rec: Record, dir: &[u8]) -> Span
         let entries = table_entries::first_entry(table, rec);
         let records = listing_records::first_record(listing);
         return Span {
-            merge: Merge {
-                entries: entries,
-                records: records,
-            },
+            merge: Merge { entries, records },
             from: 0,
             to: listing.len(),
         };
@@ -68,10 +65,7 @@ fn may_show(listing: &[u8], table: &[u8], rec: Record, path: &[u8]) -> Judged
         then unless 2 (is_listing listing.now) then form 0 path.now then show_checks
         (table_in table.now rec) (tree_in listing.now) path.now) }
 {
-    let judged = check_lent::ready(listing, table, rec, table.len(), path);
-    if check_judged::is_refused(judged) {
-        return judged;
-    }
+    check_lent::ready(listing, table, rec, table.len(), path)?;
     show_checks::check_shown(listing, table, rec, path)
 }
 
@@ -96,10 +90,10 @@ fn show_admitted<'a>(
     let part = &listing[from..to];
     let len = show_write::measure_names(table, part, merge, path);
     if output.len() < len {
-        return Answer::Refused(Refusal::NoRoom);
+        return Err(Refusal::NoRoom);
     }
     show_write::put_names(output, table, part, merge, path);
-    Answer::Accepted(len as u64)
+    Ok(len as u64)
 }
 
 // Writes the names of a directory's visible children, each with its length before it, and zeros behind them, and
@@ -118,13 +112,6 @@ pub fn show<'a>(
     ensures output_after { output.new ≡ (showing listing.now table.now rec path.now
         output.old).output }
 {
-    let judged = may_show(listing, table, rec, path);
-    match judged {
-        Judged::Refused(refusal) => {
-            return Answer::Refused(refusal);
-        }
-        Judged::Pass => {
-            return show_admitted(listing, table, rec, path, output);
-        }
-    }
+    may_show(listing, table, rec, path)?;
+    show_admitted(listing, table, rec, path, output)
 }

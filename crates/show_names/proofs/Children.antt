@@ -18,7 +18,7 @@ use Rattle.model.specs.Tree.{Node, dir, file, link, Table, Tree, shown, kind_of}
 use Rattle.model.specs.Calls.{exists, says}
 use Rattle.model.specs.Plain.{visible_tree}
 use Rattle.model.proofs.Orders.{bot, yea, nay, test, eqb_true, eqb_eq, and_true, same_refl, Split, split, Lt, Lt_after}
-use Rattle.model.proofs.Orders.{is_none_lem, is_some, opt}
+use Rattle.model.proofs.Orders.{has_none, is_some, opt}
 use Rattle.model.proofs.Maps.{Above, Ascending, above_trans, lookup_low, ascends_is}
 use Rattle.model.proofs.Codec.{number_bytes, path_short}
 use Rattle.model.proofs.Texts.{path_moved}
@@ -149,7 +149,7 @@ module _ (t : Table) (l : Tree) (at : ascends [] t ≡ true) (al : ascends [] l 
       let y = ascends_is [] l al in
       cc (visible_is t l [], lookup_low [] t x.0 x.1, lookup_low [] l y.0 y.1)
   nameless (c ∷ p) h = elim (opt (lookup (visible_tree t l) (child_path (c ∷ p) []))) [
-    | is_none_lem e ↦ e
+    | has_none e ↦ e
     | is_some v e ↦ absurd (no_slash_last (c ∷ p) h (λ z. bot (cc)) (formed (child_path (c ∷ p) []) v e))
   ]
 

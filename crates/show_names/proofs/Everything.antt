@@ -20,7 +20,7 @@ use Rattle.model.specs.Outcome.{Given, shown_in}
 use Rattle.model.specs.Plain.{visible_tree}
 use Rattle.model.specs.declared.Record.{Record}
 use Rattle.model.specs.Runs.{State, Built, entries_of}
-use Rattle.model.proofs.Orders.{bot, yea, nay, test, eqb_eq, eqb_true, is_none_lem, is_some, opt}
+use Rattle.model.proofs.Orders.{bot, yea, nay, test, eqb_eq, eqb_true, has_none, is_some, opt}
 use Rattle.model.proofs.Maps.{map_ext}
 use Rattle.model.proofs.Words.{IsBytes}
 use Rattle.model.proofs.Texts.{path_ancestor, proper_ancestor}
@@ -90,7 +90,7 @@ found_in f k v c r h e = go (parted k)
 -- at a path but the root at which something is shown stands a node
 shows_some : (f : View) (k : Path) → (k ≡ [] → ⊥) → shows_at f k ≡ true → (v : Node) × (f k ≡ some v)
 shows_some f [] r h = absurd (r refl)
-shows_some f (c ∷ k) r h = elim (opt (f (c ∷ k))) [ is_none_lem e ↦ absurd (bot (cc)) | is_some v e ↦ (v, e) ]
+shows_some f (c ∷ k) r h = elim (opt (f (c ∷ k))) [ has_none e ↦ absurd (bot (cc)) | is_some v e ↦ (v, e) ]
 
 module _ (listing : Bytes) (E : ℕ) (x : State) (bytes : IsBytes listing) (l : is_listing listing ≡ true)
     (built : Built listing E x) where

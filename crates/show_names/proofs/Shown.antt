@@ -22,7 +22,7 @@ use Rattle.model.specs.Outcome.{Given, shown_in}
 use Rattle.model.specs.Output.{written_by}
 use Rattle.model.specs.Plain.{visible_tree}
 use Rattle.model.specs.declared.Record.{Record}
-use Rattle.model.proofs.Orders.{bot, yea, nay, test, and_true, Split, split, is_none_lem, is_some, opt}
+use Rattle.model.proofs.Orders.{bot, yea, nay, test, and_true, Split, split, has_none, is_some, opt}
 use Rattle.model.proofs.Maps.{ascends_is}
 use Rattle.model.proofs.Codec.{decoded}
 use Rattle.model.proofs.Invariant.{then_pass, unless_pass, form_is}
@@ -94,7 +94,7 @@ module _ (listing table : Bytes) (rec : Record) (given : Given listing table rec
       let g = visible_is t l k in
       elim (opt (lookup t k)) [
         | is_some e w ↦ entry_path t k e (decoded table rec given.table_is).formed w
-        | is_none_lem w ↦ (listing_in_lem listing given.listing_is k v (cc)).0
+        | has_none w ↦ (listing_in_lem listing given.listing_is k v (cc)).0
       ]
 
   -- every name that is shown has a length of 16 bits
@@ -116,8 +116,8 @@ module _ (listing table : Bytes) (rec : Record) (given : Given listing table rec
   no_link [] h = elim (test (is_none (lookup (table_in table rec) []))) [ yea e ↦ cc | nay e ↦ cc ]
   no_link (c ∷ p) h = elim (opt (lookup (table_in table rec) (c ∷ p))) [
     | is_some e w ↦ cc
-    | is_none_lem w ↦ elim (opt (lookup (tree_in listing) (c ∷ p))) [
-      | is_none_lem u ↦ absurd (h (cc))
+    | has_none w ↦ elim (opt (lookup (tree_in listing) (c ∷ p))) [
+      | has_none u ↦ absurd (h (cc))
       | is_some n u ↦
           let d = listing_in_lem listing given.listing_is (c ∷ p) n u in
           cc (none_link (kind (lookup (tree_in listing))) (ancestors (c ∷ p)) d.1)

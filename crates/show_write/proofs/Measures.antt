@@ -1,21 +1,20 @@
 -- The bytes that the name of what is next takes, and the sums and the writes of a whole pass.
 use mathlib.Core.Path.{◌≡◌, refl, ap, sym, ◌∙◌}
-use mathlib.Core.List.{List, [], ◌∷◌, ◌++◌, append_assoc, append-nil}
+use mathlib.Core.List.{List, [], ◌∷◌, ◌++◌, append_assoc}
 use mathlib.Core.Bool.{Bool, true, false, not}
-use Prim.Native.Nat.{ℕ, zero, suc, ◌+◌, ◌-◌, ◌<◌, ◌≤◌}
+use Prim.Native.Nat.{ℕ, zero, suc, ◌+◌, ◌-◌, ◌≤◌}
 use native.Mathlib.Omega.{arith}
-use lib.ListN.{length, drop, take, replicate, length-drop, length-append}
-use borrow.Author.Tests.{not-true, not-false}
+use lib.ListN.{length, drop, length-drop, length-append}
+use borrow.Author.Tests.{not-false}
 use Rattle.model.specs.Bytes.{Bytes, every, bytes}
 use Rattle.model.specs.Path.{Path, slashless}
 use Rattle.model.specs.Map.{keys}
 use Rattle.model.specs.Tree.{Tree, kind_of}
-use Rattle.model.specs.Table.{padded, entries_at}
+use Rattle.model.specs.Table.{entries_at}
 use Rattle.model.specs.Plain.{visible_tree}
 use Rattle.model.specs.Calls.{exists, says}
 use Rattle.base_fields.specs.Write.{overwritten}
-use Rattle.base_fields.proofs.Writes.{overwritten_none, length_overwritten, two_writes}
-use Rattle.base_fields.proofs.Zeros.{zeroed_behind}
+use Rattle.base_fields.proofs.Writes.{length_overwritten, two_writes}
 use Rattle.listing_records.specs.Place.{tree_at}
 use Rattle.view_merge.specs.Merges.{ahead, remaining, passed, Merging, head_path, head_node, tree_of}
 use Rattle.view_merge.proofs.Steps.{merge_within}
@@ -23,7 +22,7 @@ use Rattle.view_merge.specs.declared.Merge.{Merge}
 use Rattle.view_merge.specs.declared.Head.{Head}
 use Rattle.show_names.specs.Names.{name_start, names, name_bytes}
 use Rattle.show_write.specs.Sizes.{inside, Showing, head_names, Sized}
-use Rattle.show_write.proofs.Parts.{names_parts, bytes_parts, inside_parts, inside_child, nothing_named, is_inside, one_named, none_named}
+use Rattle.show_write.proofs.Parts.{names_parts, bytes_parts, inside_parts, inside_child, is_inside, one_named, none_named}
 
 module _ (p : Path) (own part : Bytes) (m : Merge) (h : Head) where
   abbrev path : Path
@@ -38,9 +37,6 @@ module _ (p : Path) (own part : Bytes) (m : Merge) (h : Head) where
 
   -- b is whether something other than a link is visible
   module _ (b : Bool) (e : b ≡ says exists (kind_of (head_node own part m h))) where
-    pub size_hidden : not b ≡ true → Sized p own part m h 0
-    size_hidden z = unnamed (nothing_named p path (head_node own part m h) (sym e ∙ not-true b z))
-
     module _ (u : Below) (x : not b ≡ false) (k : Path) (f : k ≡ path) (s : ℕ) (g : s ≡ name_start p) where
       z : b ≡ true
       z = not-false b x
@@ -133,9 +129,6 @@ pub record Summing (own part : Bytes) (p : Path) (start m : Merge) (sum : ℕ) :
   pub total : sum + length (name_bytes (names p (ahead own part m))) ≡ length (name_bytes (names p (ahead own part start)))
   pub short : sum ≤ passed m
 
-pub sum_begun : (own part : Bytes) (p : Path) (m : Merge) → Showing own part p m → Summing own part p m m 0
-sum_begun own part p m w = record { showing = w; total = omega arith; short = omega arith }
-
 module _ (own part : Bytes) (p : Path) (start m : Merge) (sum : ℕ) (w : Summing own part p start m sum) where
   pub sum_on : (h : Head) (r : Merge) → Merging own part r → passed m + length (head_path own part m h) + 2 ≤ passed r
       → ahead own part m ≡ tree_of (head_path own part m h) (head_node own part m h) ++ ahead own part r
@@ -153,15 +146,6 @@ module _ (own part : Bytes) (p : Path) (start m : Merge) (sum : ℕ) (w : Summin
         record { showing = still_showing own part p m h r e w.showing v; total = omega arith; short = omega arith },
       )
 
-  pub sum_ended : remaining m ≤ 0
-      → (sum ≡ length (name_bytes (names p (ahead own part start)))) × (sum ≤ length own + length part)
-  sum_ended h =
-      let t = w.total in
-      let z : length (name_bytes (names p (ahead own part m))) ≡ 0 = ap (λ (s : Tree). length (name_bytes (names p s))) (ended own part m h) in
-      let b = (merge_within own part m w.showing.merging).0 in
-      let s = w.short in
-      (omega arith, omega arith)
-
 -- the bytes `done` were written to the output's start; the names that the merge shows follow
 pub record Putting (output own part : Bytes) (p : Path) (start m : Merge) (now : Bytes) (at : ℕ) : Type 0 where
   pub showing : Showing own part p m
@@ -172,9 +156,6 @@ pub record Putting (output own part : Bytes) (p : Path) (start m : Merge) (now :
 
 module _ (output own part : Bytes) (p : Path) (start : Merge)
     (fits : length (name_bytes (names p (ahead own part start))) ≤ length output) where
-  pub put_begun : Showing own part p start → Putting output own part p start start output 0
-  put_begun w = record { showing = w; done = []; there = sym (overwritten_none output 0); end = refl; whole = refl }
-
   module _ (m : Merge) (now : Bytes) (at : ℕ) (w : Putting output own part p start m now at) where
     done_within : length w.done + length (name_bytes (names p (ahead own part m))) ≤ length output
     done_within =
@@ -209,50 +190,6 @@ module _ (output own part : Bytes) (p : Path) (start : Merge)
             whole = append_assoc w.done n (name_bytes (names p (ahead own part r)))
                 ∙ sym (ap (λ (s : Bytes). w.done ++ s) (step_bytes_lem own part p m h r e)) ∙ w.whole;
           }
-
-    pub end_within : at ≤ length now
-    end_within = let d = done_within in let e = w.end in let s = same_size in omega arith
-
-    pub put_ended : remaining m ≤ 0 → (new : Bytes) → new ≡ take at now ++ replicate (length now - at) 0
-        → new ≡ padded (length output) (name_bytes (names p (ahead own part start)))
-    put_ended h new f =
-        let d = done_within in
-        let x = w.end in
-        let z : name_bytes (names p (ahead own part m)) ≡ [] = ap (λ (s : Tree). name_bytes (names p s)) (ended own part m h) in
-        let all : w.done ≡ name_bytes (names p (ahead own part start)) =
-        sym (append-nil w.done) ∙ sym (ap (λ (s : Bytes). w.done ++ s) z) ∙ w.whole in
-        f
-        ∙ ap (λ (s : Bytes). take at s ++ replicate (length s - at) 0) w.there
-        ∙ zeroed_behind output w.done at (sym x) (omega arith)
-        ∙ ap (padded (length output)) all
-
--- length and name are written one behind the other
-module _ (p : Path) (own part : Bytes) (m : Merge) (h : Head) (n : ℕ) (w : Sized p own part m h n) where
-  pub unwritten : n ≡ 0 → (t : Bytes) (at : ℕ) → t ≡ overwritten t at (name_bytes (head_names p own part m h))
-  unwritten z t at = sym (ap (λ (ns : List Bytes). overwritten t at (name_bytes ns)) (w.absent z) ∙ overwritten_none t at)
-
-  module _ (z : 0 < n) (k : Path) (f : k ≡ head_path own part m h) where
-    pub size_bounds : (2 ≤ n) × (n ≤ length k + 2)
-    size_bounds = let x = w.named z in (x.0, let l = ap (length {A = ℕ}) f in let y = x.1 in omega arith)
-
-    -- where the name begins, and its length
-    pub name_part : (s : Bytes) → s ≡ drop (length k + 2 - n) k → length s + 2 ≡ n
-    name_part s e =
-        let x = size_bounds in
-        let a = x.0 in
-        let b = x.1 in
-        let q = length-drop (length k + 2 - n) k in
-        let l = ap (length {A = ℕ}) e in
-        omega arith
-
-    pub name_put : (t t₁ : Bytes) (at : ℕ) (s : Bytes) → s ≡ drop (length k + 2 - n) k
-        → t₁ ≡ overwritten t at (bytes 2 (length s) ++ s) → t₁ ≡ overwritten t at (name_bytes (head_names p own part m h))
-    name_put t t₁ at s es e =
-        let r : Path = head_path own part m h in
-        let g : s ≡ drop (length r + 2 - n) r = es ∙ (λ j. drop (length (f j) + 2 - n) (f j)) in
-        e
-        ∙ ap (λ (v : Bytes). overwritten t at (bytes 2 (length s) ++ v)) (sym (append-nil s))
-        ∙ sym (ap (λ (ns : List Bytes). overwritten t at (name_bytes ns)) ((w.named z).2 ∙ ap (λ (v : Bytes). v ∷ []) (sym g)))
 
 -- the length, then the name
 pub sized_put : (t t₁ t₂ s : Bytes) (at : ℕ) → at + 2 + length s ≤ length t → t₁ ≡ overwritten t at (bytes 2 (length s))

@@ -3,11 +3,10 @@ use mathlib.Core.Path.{◌≡◌, refl, ap, sym, ◌∙◌}
 use mathlib.Core.List.{List, [], ◌∷◌, ◌++◌, append_assoc}
 use mathlib.Core.Bool.{Bool, true, false, not, ◌&&◌}
 use mathlib.Core.Option.{Option, none, some}
-use Prim.Native.Nat.{ℕ, suc, ◌+◌, ◌-◌, ◌≤◌}
+use Prim.Native.Nat.{ℕ, suc, ◌+◌, ◌≤◌}
 use native.Mathlib.Omega.{arith}
 use lib.Dec.{eqb}
-use lib.ListN.{length, take, drop, length-drop}
-use lib.Seq.{take_all}
+use lib.ListN.{length, drop, length-drop}
 use borrow.Author.Tests.{eq-eqb, ne_eqb}
 use Rattle.model.specs.Bytes.{Bytes, every, cons_if, bytes}
 use Rattle.model.specs.Path.{Path, slashless, below, child}
@@ -65,19 +64,6 @@ module _ (p k : Path) where
       go [] h = (refl, omega arith)
       go (c ∷ p) h = let e : length (c ∷ p) + 1 ≡ suc (length (c ∷ p)) = omega arith in rw e (below_child (c ∷ p) k h)
 
--- what ends a path, as the code cuts it out
-pub rest_of : (k : Path) (s : ℕ) → take (length k - s) (drop s k) ≡ drop s k
-rest_of k s = let e = length-drop s k in take_all (length k - s) (drop s k) (omega arith)
-
--- where it begins, by the length of the directory's path
-pub start_root : (p : Path) → length p ≡ 0 → 0 ≡ name_start p
-start_root [] h = refl
-start_root (c ∷ p) h = absurd (omega arith)
-
-pub start_below : (p : Path) → (length p ≡ 0 → ⊥) → length p + 1 ≡ name_start p
-start_below [] h = absurd (h refl)
-start_below (c ∷ p) h = refl
-
 -- no slash from a place on, by where the next one is
 slash_at : (n i : ℕ) (s : Bytes) → n ≡ i + length s → eqb (first_or n (slashes_in i s)) n ≡ slashless s
 slash_at n i [] e = eq-eqb n n refl
@@ -93,16 +79,6 @@ no_slash_lem k i h r e =
 
 -- the names of k alone, with what is visible there
 module _ (p k : Path) where
-  pub nothing_named : (o : Option Node) → says exists (kind_of o) ≡ false → names p (tree_of k o) ≡ []
-  nothing_named none h = refl
-  nothing_named (some n) h =
-      let e : not (is_link (kind_of (some n))) ≡ false = shows_node n ∙ h in
-      rw e (and_false (child_of p k))
-    where
-      and_false : (b : Bool) → cons_if (b && false) (drop (name_start p) k) [] ≡ []
-      and_false true = refl
-      and_false false = refl
-
   named_if : (n : Node) → says exists (kind_of (some n)) ≡ true → inside p k ≡ true
       → names p (tree_of k (some n)) ≡ cons_if (slashless (drop (name_start p) k)) (drop (name_start p) k) []
   named_if n h i =

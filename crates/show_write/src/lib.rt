@@ -66,8 +66,7 @@ pub fn measure_names<'a>(own: &'a [u8], part: &'a [u8], first: Merge, dir: &[u8]
 {
     let mut merge = first;
     let mut sum: usize = 0;
-    while view_merge::has_next(merge) {
-        let head = view_merge::head_at(own, part, merge);
+    while let Some(head) = view_merge::head_at(own, part, merge) {
         let next = view_merge::advance(own, part, merge, head);
         sum += name_size(own, part, merge, head, dir);
         merge = next;
@@ -127,8 +126,7 @@ pub fn put_names<'a>(output: &mut [u8], own: &'a [u8], part: &'a [u8], first: Me
 {
     let mut merge = first;
     let mut at: usize = 0;
-    while view_merge::has_next(merge) {
-        let head = view_merge::head_at(own, part, merge);
+    while let Some(head) = view_merge::head_at(own, part, merge) {
         let next = view_merge::advance(own, part, merge, head);
         at = put_name(output, at, own, part, merge, head, dir);
         merge = next;

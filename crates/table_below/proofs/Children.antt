@@ -1,7 +1,7 @@
 -- Whether a path is a child of a directory, by the bytes in common and the slashes behind them; whether a part has a child that is not deleted.
-use mathlib.Core.Path.{◌≡◌, refl, ap, sym, ◌∙◌}
+use mathlib.Core.Path.{◌≡◌, refl, ap, sym, ◌∙◌, subst}
 use mathlib.Core.Bool.{Bool, true, false, not, ◌&&◌, ◌||◌}
-use Prim.Native.Nat.{ℕ, zero, suc, ◌+◌, ◌-◌, ◌<◌, ◌≤◌}
+use Prim.Native.Nat.{ℕ, ◌+◌, ◌-◌, ◌<◌, ◌≤◌}
 use native.Mathlib.Omega.{arith}
 use lib.Dec.{eqb}
 use Rattle.model.specs.Bytes.{Bytes, number_at}
@@ -10,7 +10,7 @@ use Rattle.model.specs.Tree.{Entry, own, reference, directory, deleted}
 use Rattle.model.specs.Table.{type_of, key_at, entry_at, entry_end, entries_at}
 use Rattle.table_entries.specs.Place.{Standing}
 use Rattle.table_entries.specs.declared.Place.{Place}
-use Rattle.table_entries.proofs.Entries.{first_entry, stands_here}
+use Rattle.table_entries.proofs.Entries.{first_entry, stands_here, left_some, left_next}
 use Rattle.table_below.specs.Parts.{is_deleted, visible_in}
 
 -- kind 4 is that of a deleted entry, and of no others
@@ -33,27 +33,29 @@ pub record Looking (s : Bytes) (d : Path) (n m at : ℕ) : Type 0 where
   pub stand : Standing s m at
   pub are : visible_in d (entries_at s m at) ≡ visible_in d (entries_at s n 0)
 
-pub look_start : (s : Bytes) (d : Path) (n : ℕ) → Standing s n 0 → Looking s d n n 0
-look_start s d n w = record { stand = w; are = refl }
+pub look_start : (s : Bytes) (d : Path) (n : ℕ) → Standing s n 0 → Looking s d n (n - 0) 0
+look_start s d n w = subst (λ (m : ℕ). Looking s d n m 0) (omega arith) (record { stand = w; are = refl })
 
-module _ (s : Bytes) (d : Path) (n m at : ℕ) (w : Looking s d n m at) (h : 0 < m) (b : Bool)
-    (e : b ≡ (child d (key_at s at) && not (is_deleted (entry_at s at)))) where
-  opened : visible_in d (entries_at s m at) ≡ (b || visible_in d (entries_at s (m - 1) (entry_end s at)))
-  opened = rw (first_entry s m at h, e)
+module _ (s : Bytes) (d : Path) (n i at : ℕ) (w : Looking s d n (n - i) at) where
+  module _ (h : i < n) (b : Bool) (e : b ≡ (child d (key_at s at) && not (is_deleted (entry_at s at)))) where
+    opened : visible_in d (entries_at s (n - i) at) ≡ (b || visible_in d (entries_at s (n - i - 1) (entry_end s at)))
+    opened = rw (first_entry s (n - i) at (left_some n i h), e)
 
-  pub look_found : b ≡ true → true ≡ visible_in d (entries_at s n 0)
-  look_found z = sym (opened ∙ ap (λ (t : Bool). t || visible_in d (entries_at s (m - 1) (entry_end s at))) z) ∙ w.are
+    passed : b ≡ false → visible_in d (entries_at s (n - i - 1) (entry_end s at)) ≡ visible_in d (entries_at s n 0)
+    passed z = sym (opened ∙ ap (λ (t : Bool). t || visible_in d (entries_at s (n - i - 1) (entry_end s at))) z) ∙ w.are
 
-  pub look_on : b ≡ false → (q : Place) → q ≡ record { at = entry_end s at; left = m - 1 } → Standing s q.left q.at → Looking s d n q.left q.at
-  look_on z q f g = record {
-    stand = g;
-    are = ap (λ (p : Place). visible_in d (entries_at s p.left p.at)) f
-        ∙ sym (opened ∙ ap (λ (t : Bool). t || visible_in d (entries_at s (m - 1) (entry_end s at))) z) ∙ w.are;
-  }
+    pub look_found : b ≡ true → true ≡ visible_in d (entries_at s n 0)
+    look_found z = sym (opened ∙ ap (λ (t : Bool). t || visible_in d (entries_at s (n - i - 1) (entry_end s at))) z) ∙ w.are
 
-pub look_less : (m to : ℕ) → 0 < m → (q : Place) → q ≡ record { at = to; left = m - 1 } → q.left < m
-look_less m to h q e = let f : q.left ≡ m - 1 = ap (λ (p : Place). p.left) e in omega arith
+    pub look_on : b ≡ false → (q : Place) → q ≡ record { at = entry_end s at; left = n - i - 1 } → Standing s q.left q.at → Looking s d n (n - (i + 1)) q.at
+    look_on z q f g =
+        let l : q.left ≡ n - (i + 1) = ap (λ (p : Place). p.left) f ∙ left_next n i in
+        subst (λ (m : ℕ). Looking s d n m q.at) l (record {
+          stand = g;
+          are = ap (λ (p : Place). visible_in d (entries_at s p.left p.at)) f ∙ passed z;
+        })
 
-pub look_end : (s : Bytes) (d : Path) (n m at : ℕ) → Looking s d n m at → m ≤ 0 → false ≡ visible_in d (entries_at s n 0)
-look_end s d n zero at w h = w.are
-look_end s d n (suc m) at w h = absurd (omega arith)
+  pub look_end : n ≤ i → false ≡ visible_in d (entries_at s n 0)
+  look_end h =
+      let z : n - i ≡ 0 = omega (arith, h) in
+      sym (ap (λ (m : ℕ). visible_in d (entries_at s m at)) z) ∙ w.are

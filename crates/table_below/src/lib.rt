@@ -14,7 +14,7 @@ ghost use Rattle.table_entries.specs.Place.{Standing, Sought};
 ghost use Rattle.table_below.specs.Parts.{PartOf, is_deleted, visible_in};
 
 // A part in the middle of a table: `count` entries in the bytes from `from` up to `to`.
-#[derive(Clone, Copy)]
+#[derive(Clone, Copy, Debug, PartialEq, Eq)]
 pub struct Part {
     pub from: usize,
     pub to: usize,
@@ -27,20 +27,7 @@ fn seek_with(table: &[u8], place: table_entries::Place, dir: &[u8], b: u8) -> ta
     ensures { Sought table.now (dir.now ++ (b ∷ [])) place.left place.at result.left
         result.at }
 {
-    let mut at = place.at;
-    let mut left = place.left;
-    while 0 < left {
-        let start = at + model::ENTRY_HEAD;
-        let to = start + base_fields::le16(table, at) as usize;
-        let part = &table[start..to];
-        if base_paths::is_before_with(part, dir, b) {
-            at = to + base_fields::le32(table, at + 4) as usize;
-            left -= 1;
-        } else {
-            return table_entries::Place { at: at, left: left };
-        }
-    }
-    table_entries::Place { at: at, left: left }
+    table_entries::seek_while(table, place, |key| base_paths::is_before_with(key, dir, b))
 }
 
 // The entries below a directory: from its path with a slash up to, not including, its path with '0', the byte behind
@@ -67,11 +54,9 @@ fn is_visible_child(part: &[u8], place: table_entries::Place, dir: &[u8]) -> boo
     ensures { result ≡ (child dir.now (key_at part.now place.at)
         && not (is_deleted (entry_at part.now place.at))) }
 {
-    let at = place.at;
-    let kind = base_fields::le16(part, at + 2);
+    let kind = base_fields::le16(part, place.at + 2);
     let key = table_entries::entry_key(part, place);
-    let child = base_paths::is_child(dir, key);
-    child & (kind != model::DELETED)
+    base_paths::is_child(dir, key) && kind != model::DELETED
 }
 
 // Whether some entry of a part is a child of the directory and not deleted.
@@ -80,15 +65,15 @@ pub fn has_visible_child(part: &[u8], count: u64, dir: &[u8]) -> bool
     ensures { result ≡ visible_in dir.now (entries_at part.now count 0) }
 {
     let mut at = 0;
-    let mut left = count;
-    while 0 < left {
-        let place = table_entries::Place { at: at, left: left };
+    for i in 0..count {
+        let place = table_entries::Place {
+            at,
+            left: count - i,
+        };
         if is_visible_child(part, place, dir) {
             return true;
         }
-        let next = table_entries::next_entry(part, place);
-        at = next.at;
-        left = next.left;
+        at = table_entries::next_entry(part, place).at;
     }
     false
 }
@@ -100,9 +85,10 @@ fn plan_of(n: u64, from: u64, to: u64) -> u64
     ensures { (from ≤ n → result ≡ 2 * n + (to + (n - from)) + 256) × (result ≤ 2304) }
 {
     if n < from {
-        return 0;
+        0
+    } else {
+        2 * n + (to + (n - from)) + model::ENTRY_MEMORY_USAGE
     }
-    2 * n + (to + (n - from)) + model::ENTRY_MEMORY_USAGE
 }
 
 // The plan's sum over a part: what moving its keys from below a path of `from` bytes to below one of `to` bytes may
@@ -116,14 +102,12 @@ pub fn plan_sum(part: &[u8], count: u64, from: u64, to: u64) -> u64
     ensures upper_bound { result ≤ 0x1_0000_0000 }
 {
     let mut at = 0;
-    let mut left = count;
-    let mut sum: u64 = 0;
-    while 0 < left {
+    let mut sum = 0;
+    for _i in 0..count {
         let n = base_fields::le16(part, at);
         let m = base_fields::le32(part, at + 4);
         sum += plan_of(n, from, to);
-        at = at + model::ENTRY_HEAD + n as usize + m as usize;
-        left -= 1;
+        at += model::ENTRY_HEAD + n as usize + m as usize;
     }
     sum
 }

@@ -15,19 +15,17 @@ pub fn body_charge(len: u64) -> u64
     ensures { result ≡ capped (body_charge len) }
 {
     if 0xFFFF_FFFF_FFFF_FFF0 < len {
-        return 0xFFFF_FFFF_FFFF_FFFF;
+        u64::MAX
+    } else {
+        (len + 15) / 16 * 16
     }
-    (len + 15) / 16 * 16
 }
 
 // The Rust's `saturating_add`.
 pub fn saturating_add(x: u64, y: u64) -> u64
     ensures { result ≡ capped (x + y) }
 {
-    if 0xFFFF_FFFF_FFFF_FFFF - x < y {
-        return 0xFFFF_FFFF_FFFF_FFFF;
-    }
-    x + y
+    x.saturating_add(y)
 }
 
 // What an entry is charged without its body.

@@ -1,13 +1,13 @@
 -- The prefixes of a path by where they end: where the ends climb, the prefixes ascend, and none is empty.
-use mathlib.Core.Path.{◌≡◌, refl, ap, sym, ◌∙◌}
+use mathlib.Core.Path.{◌≡◌, refl, sym}
 use mathlib.Core.List.{List, [], ◌∷◌}
 use mathlib.Core.Bool.{true, ◌&&◌}
 use Prim.Native.Nat.{ℕ, zero, suc, ◌+◌, ◌<◌, ◌≤◌}
 use native.Mathlib.Omega.{arith}
 use native.Mathlib.Numerals.{add-one}
 use lib.Dec.{leb, ltb}
-use lib.ListN.{length, get_or, take, drop, drop_of_length-le}
-use lib.Seq.{drop-cons, get_or-take, length-take-le}
+use lib.ListN.{length, get_or, take, drop}
+use lib.Seq.{drop-cons, length-take-le}
 use borrow.Author.Tests.{leb-true, ltb-true}
 use Rattle.model.specs.Path.{Path}
 use Rattle.model.specs.Map.{ascends, each}
@@ -32,25 +32,9 @@ climb_end a n (e ∷ es) (suc i) h g =
     let x = and_true (ltb a e) (leb e n && climbs e n es) h in
     climb_end e n es i (and_true (leb e n) (climbs e n es) x.1).1 (omega arith)
 
--- the first `count` of the ends, from number i on
-module _ (ends : List ℕ) (count i : ℕ) where
-  end_within : (a n : ℕ) → climbs a n (take count ends) ≡ true → i < count → count ≤ length ends → get_or ends i 0 ≤ n
-  end_within a n h g l =
-      let e = length-take-le count ends l in
-      let d = get_or-take count ends i 0 g in
-      let c = climb_end a n (take count ends) i h (omega arith) in
-      omega arith
+-- the end number i, at which a key is cut
+pub ends_on : (es : List ℕ) (i : ℕ) → i < length es → drop i es ≡ get_or es i 0 ∷ drop (i + 1) es
+ends_on es i h = rw (add-one i) (drop-cons es i 0 h)
 
-  pub ends_on : i < count → count ≤ length ends → drop i (take count ends) ≡ get_or ends i 0 ∷ drop (i + 1) (take count ends)
-  ends_on g l =
-      let e = length-take-le count ends l in
-      rw (add-one i) (drop-cons (take count ends) i 0 (omega arith) ∙ ap (λ (x : ℕ). x ∷ drop (suc i) (take count ends)) (get_or-take count ends i 0 g))
-
-  pub ends_over : count ≤ i → count ≤ length ends → drop i (take count ends) ≡ []
-  ends_over g l =
-      let e = length-take-le count ends l in
-      drop_of_length-le (take count ends) {i = i} (omega arith)
-
-pub key_length : (p : Path) (ends : List ℕ) (count i : ℕ) → climbs 0 (length p) (take count ends) ≡ true → i < count → count ≤ length ends
-    → get_or ends i 0 ≡ length (take (get_or ends i 0) p)
-key_length p ends count i h g l = sym (length-take-le (get_or ends i 0) p (end_within ends count i 0 (length p) h g l))
+pub key_length : (p : Path) (es : List ℕ) (i : ℕ) → climbs 0 (length p) es ≡ true → i < length es → get_or es i 0 ≡ length (take (get_or es i 0) p)
+key_length p es i h g = sym (length-take-le (get_or es i 0) p (climb_end 0 (length p) es i h g))

@@ -28,25 +28,17 @@ pub fn check_replacements(
     ensures { (m : ℕ) → result ≡ record_of rec.entry_size (puts (each (directory m) (prefixes path.now
         (ends_of dirs))) (table_in table.now rec)) }
 {
-    let ends = dirs.ends;
-    let count = dirs.count;
     let mut place = table_entries::first_entry(table, rec);
     let mut after = rec;
-    let mut i: usize = 0;
-    while i < count {
-        let end = ends[i];
-        let key = &path[..end];
-        let next = table_measure::projected(table, place, after, key, 0);
+    for &end in &dirs.ends[..dirs.count] {
+        let next = table_measure::projected(table, place, after, &path[..end], 0);
         place = next.place;
         after = next.rec;
-        i += 1;
     }
     // Each step changes the three sums; the entry size stays the table's own.
     model::Record {
-        used: after.used,
-        count: after.count,
-        charge: after.charge,
         entry_size: rec.entry_size,
+        ..after
     }
 }
 
@@ -70,30 +62,15 @@ fn insert_all_unchecked(
         (prefixes path.now (ends_of dirs))) (table_in table.old rec))) }
     ensures work_after { work.new ≡ replicate (length work.old) 0 }
 {
-    let ends = dirs.ends;
-    let count = dirs.count;
     let mut merge = table_write::Merge {
         at: 0,
         left: rec.count,
         out: 0,
     };
-    let mut i: usize = 0;
-    while i < count {
-        let end = ends[i];
-        merge = table_write::put_next(
-            work,
-            table,
-            merge,
-            &path[..end],
-            DIRECTORY,
-            mtime,
-            0,
-            &path[..0],
-        );
-        i += 1;
+    for &end in &dirs.ends[..dirs.count] {
+        merge = table_write::put_next(work, table, merge, &path[..end], DIRECTORY, mtime, 0, &[]);
     }
-    let used = rec.used as usize;
-    table_write::finish(table, work, merge, used);
+    table_write::finish(table, work, merge, rec.used as usize);
 }
 
 // These directories inserted, if the charge then is within the limit and the table then fits its buffer; else all stays
@@ -106,7 +83,7 @@ pub fn insert_all(
     dirs: base_paths::Dirs,
     mtime: u64,
     limit: u64,
-) -> table_insert::Inserted
+) -> Result<model::Record, table_insert::InsertError>
     requires rec_value { is_table table.old rec ≡ true }
     requires path_value { is_path path.now ≡ true }
     requires count_bound { (dirs.count ≤ 32) × (climbs 0 (length path.now) (ends_of dirs) ≡ true)
@@ -118,18 +95,8 @@ pub fn insert_all(
         (table_in table.old rec)))) table.old }
     ensures work_after { work.new ≡ if_done result (replicate (length work.old) 0) work.old }
 {
-    let after = check_replacements(table, rec, path, dirs);
-    let answer = table_insert::judge(after, limit, table.len() as u64);
-    match answer {
-        table_insert::Inserted::Done(_) => {
-            insert_all_unchecked(table, work, rec, path, dirs, mtime);
-            return answer;
-        }
-        table_insert::Inserted::MemoryUsageLimitExceeded => {
-            return answer;
-        }
-        table_insert::Inserted::NoRoom => {
-            return answer;
-        }
-    }
+    let projected = check_replacements(table, rec, path, dirs);
+    let after = table_insert::judge(projected, limit, table.len() as u64)?;
+    insert_all_unchecked(table, work, rec, path, dirs, mtime);
+    Ok(after)
 }

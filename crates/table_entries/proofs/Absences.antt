@@ -1,34 +1,29 @@
 -- What an answer says of an entry tells whether there is one.
 use mathlib.Core.Path.{◌≡◌, refl}
-use mathlib.Core.Bool.{true, false}
+use mathlib.Core.Bool.{Bool, true, false, not}
 use mathlib.Core.Option.{Option, none, some}
-use Prim.Native.Nat.{ℕ}
-use lib.Ieee.{Float}
+use Rattle.std.specs.Prelude.{Some, None, is_some}
+use Rattle.std.specs.Prelude as code
 use Rattle.model.specs.Bytes.{Bytes}
 use Rattle.model.specs.Map.{is_none}
 use Rattle.model.specs.Tree.{Entry, own, reference, directory, deleted}
 use Rattle.model.proofs.Orders.{bot}
-use Rattle.table_entries.specs.Said.{said, a_file, a_reference, a_directory, is_deleted, no_entry}
+use Rattle.table_entries.specs.Said.{said, said_of}
+use Rattle.table_entries.specs.declared.OverlayEntry.{OverlayEntry}
+use Rattle.table_entries.specs.declared.OverlayEntry.TheVariants.{File, RealFileRef, Directory, Deleted}
 
-pub of_file : (e : Option Entry) (m : Float) (c : Bytes) → a_file m c ≡ said e → false ≡ is_none e
-of_file none m c h = absurd (bot (cc))
-of_file (some e) m c h = refl
+absent_as : (s : Bytes) (a : code.Option OverlayEntry) (e : Option Entry) → said_of s a ≡ said e → not (is_some a) ≡ is_none e
+absent_as s None none h = refl
+absent_as s None (some (own m c)) h = absurd (bot (cc))
+absent_as s None (some (reference m z p)) h = absurd (bot (cc))
+absent_as s None (some (directory m)) h = absurd (bot (cc))
+absent_as s None (some deleted) h = absurd (bot (cc))
+absent_as s (Some (File m at n)) none h = absurd (bot (cc))
+absent_as s (Some (RealFileRef m z at n)) none h = absurd (bot (cc))
+absent_as s (Some (Directory m)) none h = absurd (bot (cc))
+absent_as s (Some Deleted) none h = absurd (bot (cc))
+absent_as s (Some x) (some e) h = refl
 
-pub of_reference : (e : Option Entry) (m : Float) (z : ℕ) (c : Bytes) → a_reference m z c ≡ said e → false ≡ is_none e
-of_reference none m z c h = absurd (bot (cc))
-of_reference (some e) m z c h = refl
-
-pub of_directory : (e : Option Entry) (m : Float) → a_directory m ≡ said e → false ≡ is_none e
-of_directory none m h = absurd (bot (cc))
-of_directory (some e) m h = refl
-
-pub of_deleted : (e : Option Entry) → is_deleted ≡ said e → false ≡ is_none e
-of_deleted none h = absurd (bot (cc))
-of_deleted (some e) h = refl
-
-pub of_absent : (e : Option Entry) → no_entry ≡ said e → true ≡ is_none e
-of_absent none h = refl
-of_absent (some (own a d)) h = absurd (bot (cc))
-of_absent (some (reference a y d)) h = absurd (bot (cc))
-of_absent (some (directory a)) h = absurd (bot (cc))
-of_absent (some deleted) h = absurd (bot (cc))
+pub absent : (s : Bytes) (a : code.Option OverlayEntry) (e : Option Entry) → said_of s a ≡ said e → (b : Bool) → is_some a ≡ not b → b ≡ is_none e
+absent s a e h true k = (let g = absent_as s a e h in cc)
+absent s a e h false k = (let g = absent_as s a e h in cc)

@@ -195,6 +195,20 @@ pub stands_here : (s : Bytes) (n at : ℕ) → 0 < n → Standing s n at → Sta
 stands_here s zero at h w = absurd (omega arith)
 stands_here s (suc m) at h w = let d : suc m - 1 ≡ m = omega arith in rw d (stands s m at w)
 
+-- and the numbers in its head are inside the bytes, and so what they count
+pub entry_inside : (s : Bytes) (n at : ℕ) → Standing s n at → 0 < n → at + 24 + number_at s at 2 + number_at s (at + 4) 4 ≤ length s
+entry_inside s n at w h = (stands_here s n at h w).inside
+
+-- n entries are counted, and the i first are passed: some are left, and behind the next one less
+pub left_some : (n i : ℕ) → i < n → 0 < n - i
+left_some n i h = omega (arith, h)
+
+pub left_next : (n i : ℕ) → n - i - 1 ≡ n - (i + 1)
+left_next n i = omega arith
+
+pub left_none : (n i : ℕ) → n ≤ i → n - i ≤ 0
+left_none n i h = omega (arith, h)
+
 -- as many as are counted, and none is longer than the bytes that they stand in
 pub count_is : (s : Bytes) (n at : ℕ) → length (entries_at s n at) ≡ n
 count_is s zero at = refl

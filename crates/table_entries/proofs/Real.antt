@@ -1,9 +1,9 @@
--- Which 64 bits are a NaN's, and that zero by zero is the one NaN.
+-- Which 64 bits are a NaN's, and that all of them are the one NaN.
 use mathlib.Core.Path.{◌≡◌, refl, sym, ◌∙◌, subst}
 use mathlib.Core.Bool.{Bool, true, false, not}
 use Prim.Native.Nat.{ℕ, ◌≤◌, ◌<◌, ◌%◌}
 use lib.Dec.{T}
-use lib.Ieee.{Float, nan, inf, fin, div, binary64, nan_bits, is_nan, of_bits}
+use lib.Ieee.{Float, nan, inf, fin, binary64, nan_bits, is_nan, of_bits}
 use lib.Ieee.Bits.{nan_bits_above, nan_bits_is}
 use borrow.Author.Tests.{le-ltb, lt-ltb}
 
@@ -19,7 +19,7 @@ one_nan nan h = refl
 one_nan (inf s) h = absurd (subst (λ (b : Bool). T (not b)) h tt)
 one_nan (fin s m e) h = absurd (subst (λ (b : Bool). T (not b)) h tt)
 
--- all others are, and zero by zero is what they are
-pub not_real : (n : ℕ) → 0x7ff0_0000_0000_0000 < n % 0x8000_0000_0000_0000 → div binary64 (of_bits binary64 0) (of_bits binary64 0) ≡ of_bits binary64 n
-unfolding div of_bits
+-- all others are, and what they are is the constant's NaN
+pub not_real : (n : ℕ) → 0x7ff0_0000_0000_0000 < n % 0x8000_0000_0000_0000 → of_bits binary64 0x7ff8_0000_0000_0000 ≡ of_bits binary64 n
+unfolding of_bits
 not_real n h = one_nan (of_bits binary64 n) (sym (nan_bits_is binary64 n) ∙ nan_bits_above binary64 n ∙ lt-ltb 0x7ff0_0000_0000_0000 (n % 0x8000_0000_0000_0000) h)

@@ -1,19 +1,19 @@
 -- What the code reads at a place is the entry's: its key, its body, and what its kind makes of the rest.
 use mathlib.Core.Path.{◌≡◌, sym, ◌∙◌}
-use mathlib.Core.Bool.{true, false}
+use mathlib.Core.Bool.{false}
 use mathlib.Core.Option.{some}
 use Prim.Native.Nat.{ℕ, ◌+◌, ◌-◌, ◌<◌}
 use native.Mathlib.Nat.{add-sub_cancel_left}
 use lib.Dec.{eqb}
 use lib.Ieee.{Float, of_bits, binary64}
 use lib.ListN.{length, take, drop}
-use borrow.Author.Tests.{eq-eqb, ne_eqb}
+use borrow.Author.Tests.{ne_eqb}
 use Rattle.model.specs.Bytes.{Bytes, number_at}
 use Rattle.model.specs.Table.{body_of, key_at, body_at, entry_of, entry_at}
 use Rattle.model.proofs.Orders.{test, yea, nay}
 use Rattle.table_entries.specs.Place.{Standing}
-use Rattle.table_entries.specs.Said.{said, said_of}
-use Rattle.table_entries.specs.declared.OverlayEntry.TheVariants.{File, RealFileRef, Directory, Deleted}
+use Rattle.table_entries.specs.Said.{said, said_by}
+use Rattle.table_entries.specs.declared.OverlayEntry.TheVariants.{RealFileRef, Directory}
 use Rattle.table_entries.proofs.Entries.{stands_here}
 
 -- the key, as the code cuts it out
@@ -43,24 +43,14 @@ body_here s left at n m h w e f =
 
 -- what is said of the entry, by its kind
 module _ (s : Bytes) (at k : ℕ) (e : k ≡ number_at s (at + 2) 2) where
-  yes : (j : ℕ) → k ≡ j → eqb (number_at s (at + 2) 2) j ≡ true
-  yes j h = eq-eqb (number_at s (at + 2) 2) j (sym e ∙ h)
-
   no : (j : ℕ) → (k ≡ j → ⊥) → eqb (number_at s (at + 2) 2) j ≡ false
   no j h = ne_eqb (number_at s (at + 2) 2) j (λ f. h (e ∙ f))
 
-  pub is_file_lem : k ≡ 1 → (n m : ℕ) → n ≡ number_at s at 2 → m ≡ number_at s (at + 4) 4 → (x : Float) → x ≡ of_bits binary64 (number_at s (at + 8) 8)
-      → said_of s (File x (at + 24 + n) m) ≡ said (some (entry_at s at))
-  is_file_lem h n m f g x p = rw (yes 1 h, p, f, g)
-
-  pub is_reference : (k ≡ 1 → ⊥) → k ≡ 2 → (n m : ℕ) → n ≡ number_at s at 2 → m ≡ number_at s (at + 4) 4
+  pub is_reference : k ≡ 2 → (n m : ℕ) → n ≡ number_at s at 2 → m ≡ number_at s (at + 4) 4
       → (x : Float) (z : ℕ) → x ≡ of_bits binary64 (number_at s (at + 8) 8) → z ≡ number_at s (at + 16) 8
-      → said_of s (RealFileRef x z (at + 24 + n) m) ≡ said (some (entry_at s at))
-  is_reference a h n m f g x z p q = rw (no 1 a, yes 2 h, p, q, f, g)
+      → said_by s (RealFileRef x z (at + 24 + n) m) ≡ said (some (entry_at s at))
+  is_reference h n m f g x z p q = rw (sym e ∙ h, p, q, f, g)
 
-  pub is_directory_lem : (k ≡ 1 → ⊥) → (k ≡ 2 → ⊥) → k ≡ 3 → (x : Float) → x ≡ of_bits binary64 (number_at s (at + 8) 8)
-      → said_of s (Directory x) ≡ said (some (entry_at s at))
-  is_directory_lem a b h x p = rw (no 1 a, no 2 b, yes 3 h, p)
-
-  pub is_deleted_lem : (k ≡ 1 → ⊥) → (k ≡ 2 → ⊥) → (k ≡ 3 → ⊥) → said_of s Deleted ≡ said (some (entry_at s at))
-  is_deleted_lem a b c = rw (no 1 a, no 2 b, no 3 c)
+  pub is_directory_lem : k ≡ 3 → (x : Float) → x ≡ of_bits binary64 (number_at s (at + 8) 8)
+      → said_by s (Directory x) ≡ said (some (entry_at s at))
+  is_directory_lem h x p = rw (sym e ∙ h, p)

@@ -1,8 +1,9 @@
 -- The search forward over a table's entries: its invariant, where it ends, and what stands there.
-use mathlib.Core.Path.{◌≡◌, refl, ap, sym, ◌∙◌}
+use mathlib.Core.Path.{◌≡◌, refl, ap, sym, ◌∙◌, subst}
 use mathlib.Core.List.{[]}
 use mathlib.Core.Bool.{Bool, true, false, cond}
 use mathlib.Core.Option.{some, none}
+use Rattle.std.specs.Prelude as code
 use Prim.Native.Nat.{ℕ, zero, suc, ◌+◌, ◌-◌, ◌<◌, ◌≤◌}
 use native.Mathlib.Omega.{arith}
 use lib.ListN.{length, take, drop, length-append}
@@ -18,7 +19,7 @@ use Rattle.table_entries.specs.Cut.{up_to, since, first_if}
 use Rattle.table_entries.specs.Said.{no_entry, said, said_of}
 use Rattle.table_entries.specs.declared.Place.{Place}
 use Rattle.table_entries.specs.declared.OverlayEntry.{OverlayEntry}
-use Rattle.table_entries.proofs.Entries.{first_entry, stands_here}
+use Rattle.table_entries.proofs.Entries.{first_entry, stands_here, left_some, left_next, left_none}
 use Rattle.table_entries.proofs.Cuts.{lookup_first}
 use Rattle.table_entries.proofs.Says.{key_here}
 
@@ -86,6 +87,31 @@ pub seek_end : (s : Bytes) (k : Path) (n at m to : ℕ) → Seeking s k n at m t
 seek_end s k n at zero to w h = sought_here s k n at zero to w refl refl
 seek_end s k n at (suc m) to w h = absurd (omega arith)
 
+-- a search by a test, for each path k of which T k says that the test tells whether a key is before it
+pub record Passing (T : Path → Type 0) (s : Bytes) (n at m to : ℕ) : Type 0 where
+  pub stand : Standing s m to
+  pub seeks : (k : Path) → T k → Seeking s k n at m to
+
+module _ (T : Path → Type 0) (s : Bytes) (n at : ℕ) where
+  module _ (i to : ℕ) (w : Passing T s n at (n - i) to) where
+    module _ (h : i < n) (x : ℕ) (e : x ≡ number_at s to 2) (b : Bool)
+        (c : (k : Path) → T k → b ≡ before (take (to + 24 + x - (to + 24)) (drop (to + 24) s)) k) where
+      pub pass_on : b ≡ true → (j : ℕ) → j ≡ number_at s (to + 4) 4 → Passing T s n at (n - (i + 1)) (to + 24 + x + j)
+      pass_on z j f =
+          let l = left_some n i h in
+          subst (λ (m : ℕ). Passing T s n at m (to + 24 + x + j)) (left_next n i) (record {
+            stand = stands_next s (n - i) to l w.stand x e j f;
+            seeks = λ k t. seek_on s k n at (n - i) to (w.seeks k t) l x e b (c k t) z j f;
+          })
+
+      pub pass_stop : b ≡ false → (k : Path) → T k → Sought s k n at (n - i) to
+      pass_stop z k t = seek_stop s k n at (n - i) to (w.seeks k t) (left_some n i h) x e b (c k t) z
+
+    pub pass_end : n ≤ i → (k : Path) → T k → Sought s k n at 0 to
+    pass_end h k t =
+        let z : n - i ≡ 0 = omega (arith, h) in
+        subst (λ (m : ℕ). Sought s k n at m to) z (seek_end s k n at (n - i) to (w.seeks k t) (left_none n i h))
+
 -- the entry where it ends, if that has the key
 module _ (s : Bytes) (k : Path) (m to : ℕ) (h : m ≡ 0 → ⊥) where
   some_left : 0 < m
@@ -107,12 +133,12 @@ module _ (s : Bytes) (k : Path) (m to : ℕ) (h : m ≡ 0 → ⊥) where
 
 -- and so what all the entries from the start on have there
 pub found : (s : Bytes) (k : Path) (n at m to : ℕ) → Standing s n at → Sought s k n at m to
-    → (r : OverlayEntry) → said_of s r ≡ said (first_if k (entries_at s m to)) → said_of s r ≡ said (lookup (entries_at s n at) k)
+    → (r : code.Option OverlayEntry) → said_of s r ≡ said (first_if k (entries_at s m to)) → said_of s r ≡ said (lookup (entries_at s n at) k)
 found s k n at m to w g r e =
     let t : Table = entries_at s n at in
     e ∙ ap (λ (l : Table). said (first_if k l)) g.are ∙ sym (ap said (lookup_first k t (ascends_is [] t w.up).1))
 
 -- from the first entry on, what the table has
 pub found_all : (s : Bytes) (k : Path) (c : Record) (q : Place) → q ≡ record { at = 0; left = c.count }
-    → (r : OverlayEntry) → said_of s r ≡ said (lookup (entries_at s q.left q.at) k) → said_of s r ≡ said (lookup (table_in s c) k)
+    → (r : code.Option OverlayEntry) → said_of s r ≡ said (lookup (entries_at s q.left q.at) k) → said_of s r ≡ said (lookup (table_in s c) k)
 found_all s k c q e r h = h ∙ ap (λ (p : Place). said (lookup (entries_at s p.left p.at) k)) e

@@ -1,13 +1,14 @@
 // The entries of a checked table: a cursor over them, and the entry at a key; OverlayEntry of overlay_state.rs.
 // Assumes bytes in which entries stand: only this repository's crates call, after a check.
 // Each function is one pass forward over the entries up to its answer, and reads no body.
-#![tactic(auto)]
+#![tactic(auto, using(crate::proofs::Entries::entry_inside))]
 
-ghost use Rattle.std.specs.Prelude.{◌≡◌, true, ◌+◌, ◌-◌, ◌≤◌, ◌<◌, length};
+ghost use Rattle.std.specs.Prelude.{◌≡◌, true, ◌+◌, ◌-◌, ◌≤◌, ◌<◌, length, Some};
 ghost use Rattle.std.proofs.Math.Option.{Option, some};
 ghost use Rattle.std.specs.Float.Ieee.{of_bits};
 ghost use Rattle.std.specs.Float.{binary64};
-ghost use Rattle.model.specs.Bytes.{Bytes, number_at};
+ghost use Rattle.model.specs.Bytes.{Bytes, number_at, before};
+ghost use Rattle.model.specs.Path.{Path};
 ghost use Rattle.model.specs.Map.{is_none, lookup};
 ghost use Rattle.model.specs.Tree.{Entry};
 ghost use Rattle.model.specs.Table.{type_of, mtime_of, size_of, body_of, key_at, entry_at, entry_end};
@@ -19,7 +20,7 @@ ghost use Rattle.table_entries.specs.Said.{said, said_of};
 
 // What the table has at a path. A file's content and a reference's listed path stay in the table: `len` bytes from `at`
 // on. The mtime is the float of the stored bits, for whoever computes with it; what is stored again is copied as bits.
-#[derive(Clone, Copy)]
+#[derive(Clone, Copy, Debug)]
 pub enum OverlayEntry {
     File {
         mtime: f64,
@@ -36,28 +37,27 @@ pub enum OverlayEntry {
         mtime: f64,
     },
     Deleted,
-    Absent,
 }
 
 // A place in a table: `left` entries stand from `at` on.
-#[derive(Clone, Copy)]
+#[derive(Clone, Copy, Debug, PartialEq, Eq)]
 pub struct Place {
     pub at: usize,
     pub left: u64,
 }
 
 // An entry's fields as they are stored, for whoever writes the entry again.
-#[derive(Clone, Copy)]
+#[derive(Clone, Copy, Debug, PartialEq, Eq)]
 pub struct Fields {
     pub kind: u64,
     pub mtime: u64,
     pub size: u64,
 }
 
-// The entry at a key, and the place from that key on.
-#[derive(Clone, Copy)]
+// The entry at a key, if there is one, and the place from that key on.
+#[derive(Clone, Copy, Debug)]
 pub struct Got {
-    pub entry: OverlayEntry,
+    pub entry: Option<OverlayEntry>,
     pub place: Place,
 }
 
@@ -66,18 +66,17 @@ fn f64_of(bits: u64) -> f64
     ensures { result ≡ of_bits binary64 bits }
 {
     if bits % 0x8000_0000_0000_0000 <= 0x7ff0_0000_0000_0000 {
-        return f64::from_bits(bits);
+        f64::from_bits(bits)
+    } else {
+        f64::NAN
     }
-    let zero: f64 = 0.0;
-    zero / zero
 }
 
 fn mtime_at(table: &[u8], at: usize) -> f64
     requires { at + 24 ≤ length table.now }
     ensures { result ≡ of_bits binary64 (number_at table.now (at + 8) 8) }
 {
-    let bits = base_fields::le64(table, at + 8);
-    f64_of(bits)
+    f64_of(base_fields::le64(table, at + 8))
 }
 
 // The place of the first entry.
@@ -100,12 +99,11 @@ pub fn next_entry(table: &[u8], place: Place) -> Place
     ensures standing_2 { Standing table.now result.left result.at }
 {
     let at = place.at;
-    let left = place.left;
     let n = base_fields::le16(table, at) as usize;
     let m = base_fields::le32(table, at + 4) as usize;
     Place {
         at: at + model::ENTRY_HEAD + n + m,
-        left: left - 1,
+        left: place.left - 1,
     }
 }
 
@@ -141,49 +139,62 @@ pub fn entry_fields(table: &[u8], place: Place) -> Fields
     ensures size_value { result.size ≡ size_of (entry_at table.now place.at) }
 {
     let at = place.at;
-    let kind = base_fields::le16(table, at + 2);
-    let mtime = base_fields::le64(table, at + 8);
-    let size = base_fields::le64(table, at + 16);
     Fields {
-        kind: kind,
-        mtime: mtime,
-        size: size,
+        kind: base_fields::le16(table, at + 2),
+        mtime: base_fields::le64(table, at + 8),
+        size: base_fields::le64(table, at + 16),
     }
 }
 
 pub fn entry_at(table: &[u8], place: Place) -> OverlayEntry
     requires standing { Standing table.now place.left place.at }
     requires left_nonzero { 0 < place.left }
-    ensures { said_of table.now result ≡ said (some (entry_at table.now place.at)) }
+    ensures { said_of table.now (Some result) ≡ said (some (entry_at table.now place.at)) }
 {
     let at = place.at;
     let n = base_fields::le16(table, at);
-    let kind = base_fields::le16(table, at + 2);
     let len = base_fields::le32(table, at + 4);
     let body = at as u64 + model::ENTRY_HEAD_64 + n;
-    if kind == model::OWN_FILE {
-        let mtime = mtime_at(table, at);
-        return OverlayEntry::File {
-            mtime: mtime,
+    match base_fields::le16(table, at + 2) {
+        model::OWN_FILE => OverlayEntry::File {
+            mtime: mtime_at(table, at),
             at: body,
-            len: len,
-        };
-    }
-    if kind == model::REFERENCE {
-        let mtime = mtime_at(table, at);
-        let size = base_fields::le64(table, at + 16);
-        return OverlayEntry::RealFileRef {
-            mtime: mtime,
-            size: size,
+            len,
+        },
+        model::REFERENCE => OverlayEntry::RealFileRef {
+            mtime: mtime_at(table, at),
+            size: base_fields::le64(table, at + 16),
             at: body,
-            len: len,
-        };
+            len,
+        },
+        model::DIRECTORY => OverlayEntry::Directory {
+            mtime: mtime_at(table, at),
+        },
+        _ => OverlayEntry::Deleted,
     }
-    if kind == model::DIRECTORY {
-        let mtime = mtime_at(table, at);
-        return OverlayEntry::Directory { mtime: mtime };
+}
+
+// The first entry from a place on that does not pass a test of its key; the end where there is none. Where the test is
+// whether a key is before some path, that is the first from this path on.
+pub fn seek_while<F: Fn(&[u8]) -> bool>(table: &[u8], place: Place, is_low: F) -> Place
+    requires standing { Standing table.now place.left place.at }
+    requires callable { F.IsAlwaysCallable is_low }
+    ensures { (k : Path) → ((q : _) (b : _) → F.post is_low q b → b ≡ before q.now k)
+        → Sought table.now k place.left place.at result.left result.at }
+{
+    let mut at = place.at;
+    for i in 0..place.left {
+        let start = at + model::ENTRY_HEAD;
+        let to = start + base_fields::le16(table, at) as usize;
+        if !is_low(&table[start..to]) {
+            return Place {
+                at,
+                left: place.left - i,
+            };
+        }
+        at = to + base_fields::le32(table, at + 4) as usize;
     }
-    OverlayEntry::Deleted
+    Place { at, left: 0 }
 }
 
 // The first entry from a place on whose key is not before `key`; the end where there is none.
@@ -191,37 +202,20 @@ pub fn seek(table: &[u8], place: Place, key: &[u8]) -> Place
     requires { Standing table.now place.left place.at }
     ensures { Sought table.now key.now place.left place.at result.left result.at }
 {
-    let mut at = place.at;
-    let mut left = place.left;
-    while 0 < left {
-        let start = at + model::ENTRY_HEAD;
-        let to = start + base_fields::le16(table, at) as usize;
-        let part = &table[start..to];
-        if base_fields::is_before(part, key) {
-            at = to + base_fields::le32(table, at + 4) as usize;
-            left -= 1;
-        } else {
-            return Place { at: at, left: left };
-        }
-    }
-    Place { at: at, left: left }
+    seek_while(table, place, |part| base_fields::is_before(part, key))
 }
 
 // The entry at a place, if it has this key.
-fn entry_if(table: &[u8], place: Place, key: &[u8]) -> OverlayEntry
+fn entry_if(table: &[u8], place: Place, key: &[u8]) -> Option<OverlayEntry>
     requires { Standing table.now place.left place.at }
     ensures { said_of table.now result ≡ said (first_if key.now (entries_at table.now
         place.left place.at)) }
 {
-    let left = place.left;
-    if left == 0 {
-        return OverlayEntry::Absent;
+    if place.left != 0 && base_fields::is_same(entry_key(table, place), key) {
+        Some(entry_at(table, place))
+    } else {
+        None
     }
-    let part = entry_key(table, place);
-    if base_fields::is_same(part, key) {
-        return entry_at(table, place);
-    }
-    OverlayEntry::Absent
 }
 
 // The entry at a key among those from a place on. Keys that ascend are looked up one behind the other in one pass, each
@@ -234,48 +228,24 @@ pub fn get_from(table: &[u8], place: Place, key: &[u8]) -> Got
         result.place.at }
 {
     let found = seek(table, place, key);
-    let entry = entry_if(table, found, key);
     Got {
-        entry: entry,
+        entry: entry_if(table, found, key),
         place: found,
     }
 }
 
 // The entry at a key.
-pub fn get(table: &[u8], rec: model::Record, key: &[u8]) -> OverlayEntry
+pub fn get(table: &[u8], rec: model::Record, key: &[u8]) -> Option<OverlayEntry>
     requires { is_table table.now rec ≡ true }
     ensures { said_of table.now result ≡ said (lookup (table_in table.now rec)
         key.now) }
 {
-    let first = first_entry(table, rec);
-    let got = get_from(table, first, key);
-    got.entry
+    get_from(table, first_entry(table, rec), key).entry
 }
 
 // Whether there is no entry.
-pub fn is_absent(entry: OverlayEntry) -> bool
+pub fn is_absent(entry: Option<OverlayEntry>) -> bool
     ensures { (s : Bytes) (e : Option Entry) → said_of s entry ≡ said e → result ≡ is_none e }
 {
-    match entry {
-        OverlayEntry::File { mtime, at, len } => {
-            return false;
-        }
-        OverlayEntry::RealFileRef {
-            mtime,
-            size,
-            at,
-            len,
-        } => {
-            return false;
-        }
-        OverlayEntry::Directory { mtime } => {
-            return false;
-        }
-        OverlayEntry::Deleted => {
-            return false;
-        }
-        OverlayEntry::Absent => {
-            return true;
-        }
-    }
+    entry.is_none()
 }

@@ -23,9 +23,9 @@ use Rattle.table_entries.proofs.Cuts.{put_cut, encode_append}
 use Rattle.table_measure.specs.Measure.{Measured, Counts}
 use Rattle.table_measure.proofs.Passes.{measure_begun}
 use Rattle.table_write.specs.Merge.{Written, Merged}
-use Rattle.table_insert.specs.Insert.{judged, insertion, is_done, if_done}
-use Rattle.table_insert.specs.declared.Inserted.{Inserted}
-use Rattle.table_insert.specs.declared.Inserted.TheVariants.{Done, MemoryUsageLimitExceeded, NoRoom}
+use Rattle.table_insert.specs.Insert.{Inserted, judged, insertion}
+use Rattle.table_insert.specs.declared.InsertError.TheVariants.{MemoryUsageLimitExceeded, NoRoom}
+use Rattle.std.specs.Prelude.{is_ok, Ok, Err}
 
 pub counts_all : (s : Bytes) (r : Record) → is_table s r ≡ true → Counts s r.count 0 r
 counts_all s r h =
@@ -104,17 +104,17 @@ pub zeros_as_long : (w w₁ w₂ : Bytes) → w₂ ≡ replicate (length w₁) 0
 zeros_as_long w w₁ w₂ e l = e ∙ ap (λ (n : ℕ). replicate n 0) l
 
 -- the three answers, by the two tests
-pub over_limit_lem : (r : Record) (limit n : ℕ) → limit < capped r.charge → MemoryUsageLimitExceeded ≡ judged r limit n
+pub over_limit_lem : (r : Record) (limit n : ℕ) → limit < capped r.charge → Err MemoryUsageLimitExceeded ≡ judged r limit n
 over_limit_lem r limit n h = rw (lt-leb (capped r.charge) limit h)
 
-pub no_room : (r : Record) (limit n : ℕ) → capped r.charge ≤ limit → n < r.used → NoRoom ≡ judged r limit n
+pub no_room : (r : Record) (limit n : ℕ) → capped r.charge ≤ limit → n < r.used → Err NoRoom ≡ judged r limit n
 no_room r limit n h g = rw (le-leb (capped r.charge) limit h, lt-leb r.used n g)
 
-pub in_both : (r : Record) (limit n : ℕ) → capped r.charge ≤ limit → r.used ≤ n → Done r ≡ judged r limit n
+pub in_both : (r : Record) (limit n : ℕ) → capped r.charge ≤ limit → r.used ≤ n → Ok r ≡ judged r limit n
 in_both r limit n h g = rw (le-leb (capped r.charge) limit h, le-leb r.used n g)
 
 -- it is done only in the room that there is
-pub done_fits : (r : Record) (limit n : ℕ) → is_done (judged r limit n) ≡ true → r.used ≤ n
+done_fits : (r : Record) (limit n : ℕ) → is_ok (judged r limit n) ≡ true → r.used ≤ n
 done_fits r limit n h =
     elim (test (leb (capped r.charge) limit)) [
       | yea a ↦ elim (test (leb r.used n)) [ yea b ↦ leb-true r.used n b | nay b ↦ absurd (bot (cc)) ]
@@ -125,17 +125,5 @@ done_fits r limit n h =
 pub answered : (E limit n : ℕ) (t : Table) (x : Record) (a : Inserted) → x ≡ record_of E t → a ≡ judged x limit n → a ≡ insertion E limit n t
 answered E limit n t x a e h = h ∙ ap (λ (r : Record). judged r limit n) e
 
-pub fits_done : (E limit n : ℕ) (t : Table) (x p : Record) (a : Inserted) → x ≡ record_of E t → a ≡ judged x limit n → a ≡ Done p → length (encode t) ≤ n
-fits_done E limit n t x p a e h d =
-    let f = done_fits x limit n (ap is_done (sym h ∙ d)) in
-    let u : x.used ≡ length (encode t) = ap (λ (r : Record). r.used) e in
-    omega arith
-
-pub if_done_lem : (a : Inserted) (p : Record) (u new old : Bytes) → a ≡ Done p → u ≡ new → u ≡ if_done a new old
-if_done_lem a p u new old d e = e ∙ sym (ap (λ (x : Inserted). if_done x new old) d)
-
-pub if_over : (a : Inserted) (new old : Bytes) → a ≡ MemoryUsageLimitExceeded → old ≡ if_done a new old
-if_over a new old d = sym (ap (λ (x : Inserted). if_done x new old) d)
-
-pub if_full : (a : Inserted) (new old : Bytes) → a ≡ NoRoom → old ≡ if_done a new old
-if_full a new old d = sym (ap (λ (x : Inserted). if_done x new old) d)
+pub fits_done : (E limit n : ℕ) (t : Table) (p : Record) → Ok p ≡ insertion E limit n t → length (encode t) ≤ n
+fits_done E limit n t p h = done_fits (record_of E t) limit n (ap is_ok (sym h))

@@ -10,14 +10,25 @@ ghost use Rattle.model.specs.Map.{put};
 ghost use Rattle.model.specs.Tree.{Entry};
 ghost use Rattle.model.specs.Table.{body_of, encode, padded, charge, record_of, entry_of, table_in, is_table};
 ghost use Rattle.table_write.specs.Merge.{Written};
-ghost use Rattle.table_insert.specs.Insert.{judged, insertion, if_done};
+ghost use Rattle.table_insert.specs.Insert.{refusal_of, judged, insertion, if_done};
 
-// The Rust's Result of `insert`, with the record that the table then has; `NoRoom` is the port's own.
-#[derive(Clone, Copy)]
-pub enum Inserted {
-    Done(model::Record),
+// Why nothing was inserted: the Rust's error, and `NoRoom`, the port's own. Where an insertion is done, it answers with
+// the record that the table then has.
+#[derive(Clone, Copy, Debug, PartialEq, Eq)]
+pub enum InsertError {
     MemoryUsageLimitExceeded,
     NoRoom,
+}
+
+impl From<InsertError> for model::Refusal {
+    ghost from_gives = { λ e r. r ≡ refusal_of e };
+
+    fn from(e: InsertError) -> model::Refusal {
+        match e {
+            InsertError::MemoryUsageLimitExceeded => model::Refusal::Limit,
+            InsertError::NoRoom => model::Refusal::NoRoom,
+        }
+    }
 }
 
 // The table's charge.
@@ -69,18 +80,16 @@ pub fn check_file_replacement(
 }
 
 // What inserting will answer: the limit first, then the room.
-pub fn judge(after: model::Record, limit: u64, room: u64) -> Inserted
+pub fn judge(after: model::Record, limit: u64, room: u64) -> Result<model::Record, InsertError>
     ensures { result ≡ judged after limit room }
 {
-    let charge = after.charge;
-    if limit < charge {
-        return Inserted::MemoryUsageLimitExceeded;
+    if limit < after.charge {
+        return Err(InsertError::MemoryUsageLimitExceeded);
     }
-    let used = after.used;
-    if room < used {
-        return Inserted::NoRoom;
+    if room < after.used {
+        return Err(InsertError::NoRoom);
     }
-    Inserted::Done(after)
+    Ok(after)
 }
 
 // The table anew with the entry in it, once it is known that it fits.
@@ -126,7 +135,7 @@ pub fn insert(
     size: u64,
     body: &[u8],
     limit: u64,
-) -> Inserted
+) -> Result<model::Record, InsertError>
     requires rec_value { is_table table.old rec ≡ true }
     requires key_value { (before [] key.now ≡ true) × (length key.now ≤ 512) }
     requires written { Written kind mtime size body.now × (length table.old ≤ length work.old) }
@@ -136,18 +145,8 @@ pub fn insert(
         (entry_of kind mtime size body.now) (table_in table.old rec)))) table.old }
     ensures work_after { work.new ≡ if_done result (replicate (length work.old) 0) work.old }
 {
-    let after = projected_record(table, rec, key, body.len() as u64);
-    let answer = judge(after, limit, table.len() as u64);
-    match answer {
-        Inserted::Done(_) => {
-            insert_unchecked(table, work, rec, key, kind, mtime, size, body);
-            return answer;
-        }
-        Inserted::MemoryUsageLimitExceeded => {
-            return answer;
-        }
-        Inserted::NoRoom => {
-            return answer;
-        }
-    }
+    let projected = projected_record(table, rec, key, body.len() as u64);
+    let after = judge(projected, limit, table.len() as u64)?;
+    insert_unchecked(table, work, rec, key, kind, mtime, size, body);
+    Ok(after)
 }

@@ -25,12 +25,7 @@ pub fn has_key(table: &[u8], place: table_entries::Place, key: &[u8]) -> bool
     requires { Standing table.now place.left place.at }
     ensures { result ≡ starts_at key.now (entries_at table.now place.left place.at) }
 {
-    let left = place.left;
-    if left == 0 {
-        return false;
-    }
-    let part = table_entries::entry_key(table, place);
-    base_fields::is_same(part, key)
+    place.left != 0 && base_fields::is_same(table_entries::entry_key(table, place), key)
 }
 
 // The place itself, or the one behind it where the entry has this key.
@@ -43,9 +38,10 @@ pub fn behind_key(table: &[u8], place: table_entries::Place, key: &[u8]) -> tabl
         place.at }
 {
     if has_key(table, place, key) {
-        return table_entries::next_entry(table, place);
+        table_entries::next_entry(table, place)
+    } else {
+        place
     }
-    place
 }
 
 // The record with one entry more, of n bytes of key and m of body.
@@ -55,13 +51,13 @@ fn with_entry(rec: model::Record, n: u64, m: u64) -> model::Record
     requires entry_size_bound { (rec.entry_size ≤ 4096) × (n ≤ 512) × (m ≤ 0x8000_0000_0000_0000) }
     ensures { result ≡ added rec n m }
 {
-    let e = rec.entry_size;
-    let usage = table_charge::entry_memory_usage(e, n, m);
+    let entry_size = rec.entry_size;
+    let usage = table_charge::entry_memory_usage(entry_size, n, m);
     model::Record {
         used: rec.used + model::ENTRY_HEAD_64 + n + m,
         count: rec.count + 1,
         charge: rec.charge + usage,
-        entry_size: e,
+        entry_size,
     }
 }
 
@@ -100,18 +96,15 @@ pub fn projected(
 {
     let found = table_entries::seek(table, place, key);
     if has_key(table, found, key) {
-        let at = found.at;
-        let old = base_fields::le32(table, at + 4);
-        let next = table_entries::next_entry(table, found);
-        let after = with_body(rec, old, len);
-        return Projection {
-            place: next,
-            rec: after,
-        };
-    }
-    let after = with_entry(rec, key.len() as u64, len);
-    Projection {
-        place: found,
-        rec: after,
+        let old = base_fields::le32(table, found.at + 4);
+        Projection {
+            place: table_entries::next_entry(table, found),
+            rec: with_body(rec, old, len),
+        }
+    } else {
+        Projection {
+            place: found,
+            rec: with_entry(rec, key.len() as u64, len),
+        }
     }
 }

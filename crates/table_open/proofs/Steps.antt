@@ -1,11 +1,11 @@
 -- The rules of one entry, by the tests that the code makes: one law for each exit.
-use mathlib.Core.Path.{◌≡◌, sym, ◌∙◌}
-use mathlib.Core.Bool.{Bool, true, false, not, ◌&&◌}
+use mathlib.Core.Path.{◌≡◌, sym, ◌∙◌, refl}
+use mathlib.Core.Bool.{Bool, true, false, ◌&&◌}
 use Prim.Native.Nat.{ℕ, ◌+◌, ◌<◌, ◌≤◌}
 use native.Mathlib.Nat.{add-sub_cancel_left}
 use lib.Dec.{leb, ltb}
 use lib.ListN.{length}
-use borrow.Author.Tests.{le-leb, lt-leb, leb-true, eq-eqb, ne_eqb, not-true, not-false}
+use borrow.Author.Tests.{le-leb, lt-leb, leb-true, eq-eqb, ne_eqb, le-ltb}
 use Rattle.model.specs.Bytes.{Bytes, number_at, before}
 use Rattle.model.specs.Path.{Path, is_path}
 use Rattle.model.specs.Table.{key_at, body_at, entry_end}
@@ -54,34 +54,31 @@ module _ (s : Bytes) (at : ℕ) where
   unfolding referring
   no_reference k g n = rw (ne_eqb (number_at s (at + 2) 2) 2 (λ e. n (g ∙ e)))
 
--- the tests of an entry in their order: what each refusal gives, and what is known once it is passed
+-- the tests of an entry in their order: the first refuses, and those behind it are one chain
 module _ (s : Bytes) (at : ℕ) (p : Path) {a : Bool} (ea : a ≡ fits s at) where
-  pub not_fitting : not a ≡ true → false ≡ in_order s at p
+  pub not_fitting : a ≡ false → false ≡ in_order s at p
   unfolding in_order
-  not_fitting h = rw (sym ea ∙ not-true a h)
+  not_fitting h = rw (sym ea ∙ h)
 
-  module _ (ha : not a ≡ false) where
-    pub fitting : fits s at ≡ true
-    fitting = sym ea ∙ not-false a ha
+  pub by_chain : a ≡ true → (((headed s at && is_path (key_at s at)) && referring s at) && before p (key_at s at)) ≡ in_order s at p
+  unfolding in_order
+  by_chain h = rw (sym ea ∙ h) (grouped (headed s at) (is_path (key_at s at)) (referring s at) (before p (key_at s at)))
+    where
+      grouped : (b c d e : Bool) → (((b && c) && d) && e) ≡ (b && (c && (d && e)))
+      grouped true true d e = refl
+      grouped true false d e = refl
+      grouped false c d e = refl
 
-    module _ {b : Bool} (eb : b ≡ headed s at) where
-      pub not_headed : not b ≡ true → false ≡ in_order s at p
-      unfolding in_order
-      not_headed h = rw (fitting, sym eb ∙ not-true b h)
+-- a body of no bytes is no path, whatever is tested behind its length
+pub empty_body : (m : ℕ) → m ≤ 0 → (r v : Bool) → (ltb 0 m && r) ≡ v → ltb 0 m ≡ v
+empty_body m h r v q = (let e = le-ltb 0 m h in e ∙ rw e at q)
 
-      module _ (hb : not b ≡ false) {c : Bool} (ec : c ≡ is_path (key_at s at)) where
-        pub not_keyed : not c ≡ true → false ≡ in_order s at p
-        unfolding in_order
-        not_keyed h = rw (fitting, sym eb ∙ not-false b hb, sym ec ∙ not-true c h)
+-- a test a of A with the next one behind it, where it is passed and where it is not
+pub then_next : {a A : Bool} → a ≡ A → a ≡ true → {v b B : Bool} → v ≡ b → b ≡ B → v ≡ (A && B)
+then_next e h f g = rw (sym e ∙ h, f, g)
 
-        module _ (hc : not c ≡ false) {d : Bool} (ed : d ≡ referring s at) where
-          pub not_referring : not d ≡ true → false ≡ in_order s at p
-          unfolding in_order
-          not_referring h = rw (fitting, sym eb ∙ not-false b hb, sym ec ∙ not-false c hc, sym ed ∙ not-true d h)
-
-          pub by_order : not d ≡ false → (r : Bool) → r ≡ before p (key_at s at) → r ≡ in_order s at p
-          unfolding in_order
-          by_order h r e = e ∙ rw (fitting, sym eb ∙ not-false b hb, sym ec ∙ not-false c hc, sym ed ∙ not-false d h)
+pub else_next : {a A : Bool} → a ≡ A → a ≡ false → {v : Bool} (B : Bool) → v ≡ a → v ≡ (A && B)
+else_next e h B f = rw (sym e ∙ h, f, h)
 
 -- what is known of an entry in order, both ways
 pub record Ordered (s : Bytes) (at : ℕ) (p : Path) : Type 0 where

@@ -14,17 +14,20 @@ ghost use Rattle.table_open.specs.Pass.{type_rule, fits, headed, referring, in_o
 fn is_sized(entry_size: u64, len: usize) -> bool
     ensures { result ≡ sized entry_size len }
 {
-    (entry_size <= model::MAX_ENTRY_SIZE) & (len <= model::MAX_BUFFER)
+    entry_size <= model::MAX_ENTRY_SIZE && len <= model::MAX_BUFFER
 }
 
 // Whether an entry's type, body length, mtime bits and size go together.
 fn is_ruled(kind: u64, body: u64, mtime: u64, size: u64) -> bool
     ensures { result ≡ type_rule kind body mtime size }
 {
-    (((kind == model::OWN_FILE) & (size == 0))
-        | ((kind == model::REFERENCE) & (size < model::SIGN))
-        | ((kind == model::DIRECTORY) & ((body == 0) & (size == 0))))
-        | ((kind == model::DELETED) & ((body == 0) & ((size == 0) & (mtime == 0))))
+    match kind {
+        model::OWN_FILE => size == 0,
+        model::REFERENCE => size < model::SIGN,
+        model::DIRECTORY => body == 0 && size == 0,
+        model::DELETED => body == 0 && size == 0 && mtime == 0,
+        _ => false,
+    }
 }
 
 // Whether the entry that starts at `at` ends within the table.
@@ -45,11 +48,12 @@ fn is_headed(table: &[u8], at: usize) -> bool
     requires { at + 24 ≤ length table.now }
     ensures { result ≡ headed table.now at }
 {
-    let kind = base_fields::le16(table, at + 2);
-    let body = base_fields::le32(table, at + 4);
-    let mtime = base_fields::le64(table, at + 8);
-    let size = base_fields::le64(table, at + 16);
-    is_ruled(kind, body, mtime, size)
+    is_ruled(
+        base_fields::le16(table, at + 2),
+        base_fields::le32(table, at + 4),
+        base_fields::le64(table, at + 8),
+        base_fields::le64(table, at + 16),
+    )
 }
 
 // Whether the key of the entry at `at` is a path.
@@ -57,11 +61,9 @@ fn is_keyed(table: &[u8], at: usize) -> bool
     requires { (at + 24 ≤ length table.now) × (entry_end table.now at ≤ length table.now) }
     ensures { result ≡ is_path (key_at table.now at) }
 {
-    let n = base_fields::le16(table, at) as usize;
     let from = at + model::ENTRY_HEAD;
-    let to = from + n;
-    let key = &table[from..to];
-    base_paths::is_path(key)
+    let to = from + base_fields::le16(table, at) as usize;
+    base_paths::is_path(&table[from..to])
 }
 
 // Whether the body of the entry at `at`, if it is a reference, is a path that is not empty.
@@ -69,16 +71,14 @@ fn is_referring(table: &[u8], at: usize) -> bool
     requires { (at + 24 ≤ length table.now) × (entry_end table.now at ≤ length table.now) }
     ensures { result ≡ referring table.now at }
 {
-    let kind = base_fields::le16(table, at + 2);
-    if kind == model::REFERENCE {
-        let n = base_fields::le16(table, at) as usize;
-        let m = base_fields::le32(table, at + 4) as usize;
-        let from = at + model::ENTRY_HEAD + n;
-        let to = from + m;
-        let body = &table[from..to];
-        return (0 < m) & base_paths::is_path(body);
+    if base_fields::le16(table, at + 2) != model::REFERENCE {
+        return true;
     }
-    true
+    let n = base_fields::le16(table, at) as usize;
+    let m = base_fields::le32(table, at + 4) as usize;
+    let from = at + model::ENTRY_HEAD + n;
+    let to = from + m;
+    0 < m && base_paths::is_path(&table[from..to])
 }
 
 // Whether the key of the entry at `at` is behind the key that stands from `from` up to `to`.
@@ -104,16 +104,10 @@ fn is_in_order(table: &[u8], at: usize, from: usize, to: usize) -> bool
     if !is_inside(table, at) {
         return false;
     }
-    if !is_headed(table, at) {
-        return false;
-    }
-    if !is_keyed(table, at) {
-        return false;
-    }
-    if !is_referring(table, at) {
-        return false;
-    }
-    is_behind(table, at, from, to)
+    is_headed(table, at)
+        && is_keyed(table, at)
+        && is_referring(table, at)
+        && is_behind(table, at, from, to)
 }
 
 // Whether the bytes are a table and the record is its own. The entries are read once, from the first to the last, and
@@ -129,12 +123,11 @@ pub fn check(table: &[u8], rec: model::Record) -> bool
     }
     // The key before the entry at `at` stands from `from` up to `to`. At first that is the empty one, and so no key is
     // empty.
-    let mut left = rec.count;
     let mut at: usize = 0;
     let mut from: usize = 0;
     let mut to: usize = 0;
     let mut charge: u64 = 0;
-    while 0 < left {
+    for _i in 0..rec.count {
         if !is_in_order(table, at, from, to) {
             return false;
         }
@@ -144,9 +137,8 @@ pub fn check(table: &[u8], rec: model::Record) -> bool
         to = from + n as usize;
         at = to + m as usize;
         charge += table_charge::entry_memory_usage(entry_size, n, m);
-        left -= 1;
     }
-    (at as u64 == rec.used) & (charge == rec.charge) & base_fields::all_zero(table, at)
+    at as u64 == rec.used && charge == rec.charge && base_fields::all_zero(table, at)
 }
 
 // Makes the buffer an empty table for entries of this size, and gives its record. What is too large is refused, and
@@ -160,17 +152,17 @@ pub fn open(buffer: &mut [u8], entry_size: u64) -> model::Answered
         used: 0,
         count: 0,
         charge: 0,
-        entry_size: entry_size,
+        entry_size,
     };
     if !is_sized(entry_size, buffer.len()) {
         return model::Answered {
-            answer: model::Answer::Refused(model::Refusal::MalformedTable),
+            answer: Err(model::Refusal::MalformedTable),
             record: empty,
         };
     }
     base_fields::zero_from(buffer, 0);
     model::Answered {
-        answer: model::Answer::Accepted(0),
+        answer: Ok(0),
         record: empty,
     }
 }

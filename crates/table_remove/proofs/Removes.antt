@@ -4,7 +4,7 @@ use mathlib.Core.List.{[], ◌∷◌, ◌++◌}
 use mathlib.Core.Bool.{Bool, true, false}
 use Prim.Native.Nat.{ℕ, ◌+◌, ◌-◌, ◌<◌, ◌≤◌}
 use native.Mathlib.Omega.{arith}
-use lib.ListN.{length, take, drop, length-append}
+use lib.ListN.{length, take, length-append}
 use Rattle.model.specs.Bytes.{Bytes, number_at, same, before}
 use Rattle.model.specs.Path.{Path}
 use Rattle.model.specs.Map.{del}
@@ -217,13 +217,6 @@ module _ (s : Bytes) (r : Record) (k : Path) (first found next : Place) (h : is_
   ascending : Ascending t
   ascending = table_ascends s r h
 
-  gone_up : found.at ≤ next.at
-  gone_up =
-      let a = ap bytes_of ahead in
-      let b = ap bytes_of sought.are in
-      let l = behind_less k t in
-      omega arith
-
   whole_end : end_of s next.left next.at ≡ end_of s r.count 0
   whole_end = end ∙ sought_end s k r.count 0 found.left found.at sought
 
@@ -239,14 +232,15 @@ module _ (s : Bytes) (r : Record) (k : Path) (first found next : Place) (h : is_
       omega arith
 
   -- what is before k is copied into the work buffer w
-  module _ (w w₁ : Bytes) (long : length s ≤ length w) (copied : w₁ ≡ overwritten w 0 (take (found.at - 0) (drop 0 s))) where
+  module _ (w w₁ : Bytes) (long : length s ≤ length w) (copied : w₁ ≡ overwritten w 0 (take found.at s)) where
     front : take found.at w₁ ≡ encode (up_to k t)
     front =
         let u : Bytes = encode (up_to k t) in
         let there : found.at ≡ 0 + length u = sought.there in
         let a = bytes_cut 0 t k in
         let f = (decoded s r h).fits in
-        let e : w₁ ≡ overwritten w 0 u = copied ∙ ap (overwritten w 0) (stretch s k r.count 0 found.at (table_stands s r h) there) in
+        let z : found.at - 0 ≡ found.at = omega arith in
+        let e : w₁ ≡ overwritten w 0 u = copied ∙ sym (ap (λ (n : ℕ). overwritten w 0 (take n s)) z) ∙ ap (overwritten w 0) (stretch s k r.count 0 found.at (table_stands s r h) there) in
         ap₂ take there e ∙ take_overwritten w 0 u (omega arith)
 
     pub merged : Merged s w₁ (del k t) k next.left next.at found.at
@@ -264,7 +258,5 @@ module _ (s : Bytes) (r : Record) (k : Path) (first found next : Place) (h : is_
         }
 
     -- all that `finish` writes fits
-    pub fits_back : (found.at ≤ next.at) × (next.at ≤ r.used) × (r.used ≤ length s) × (found.at + (r.used - next.at) ≤ length s)
-    fits_back =
-        let f = rest_fits s w₁ r (del k t) k next.left next.at found.at h merged whole_end del_fits in
-        (gone_up, f.0.0, f.0.1, f.1)
+    pub fits_back : ((next.at ≤ r.used) × (r.used ≤ length s)) × (found.at + (r.used - next.at) ≤ length s)
+    fits_back = rest_fits s w₁ r (del k t) k next.left next.at found.at h merged whole_end del_fits

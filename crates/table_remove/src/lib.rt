@@ -17,13 +17,12 @@ fn without(rec: model::Record, key_len: u64, body_len: u64) -> model::Record
         body_len ≤ rec.charge) }
     ensures { result ≡ lessened rec key_len body_len }
 {
-    let e = rec.entry_size;
-    let usage = table_charge::entry_memory_usage(e, key_len, body_len);
+    let usage = table_charge::entry_memory_usage(rec.entry_size, key_len, body_len);
     model::Record {
         used: rec.used - (model::ENTRY_HEAD_64 + key_len + body_len),
         count: rec.count - 1,
         charge: rec.charge - usage,
-        entry_size: e,
+        ..rec
     }
 }
 
@@ -39,11 +38,11 @@ fn record_without(
     ensures { result ≡ record_of rec.entry_size (del key.now (table_in table.now rec)) }
 {
     if table_measure::has_key(table, place, key) {
-        let at = place.at;
-        let body_len = base_fields::le32(table, at + 4);
-        return without(rec, key.len() as u64, body_len);
+        let body_len = base_fields::le32(table, place.at + 4);
+        without(rec, key.len() as u64, body_len)
+    } else {
+        rec
     }
-    rec
 }
 
 // The table anew without the entry at the key, if there is one; the record that it then has.
@@ -59,15 +58,12 @@ pub fn remove(table: &mut [u8], work: &mut [u8], rec: model::Record, key: &[u8])
     let found = table_entries::seek(table, first, key);
     let after = record_without(table, rec, found, key);
     let next = table_measure::behind_key(table, found, key);
-    let to = found.at;
-    let on = next.at;
-    base_fields::copy_in(work, 0, &table[0..to]);
+    base_fields::copy_in(work, 0, &table[..found.at]);
     let merge = table_write::Merge {
-        at: on,
+        at: next.at,
         left: next.left,
-        out: to,
+        out: found.at,
     };
-    let used = rec.used as usize;
-    table_write::finish(table, work, merge, used);
+    table_write::finish(table, work, merge, rec.used as usize);
     after
 }

@@ -5,29 +5,19 @@ use Prim.Native.Nat.{ℕ, ◌+◌, ◌-◌, ◌<◌, ◌≤◌}
 use native.Mathlib.Omega.{arith}
 use lib.Dec.{leb}
 use lib.ListN.{length}
-use borrow.Author.Tests.{leb-true, leb-false, not-true, not-false, le-leb, lt-leb}
+use borrow.Author.Tests.{leb-true, leb-false, not-true, not-false}
 use Rattle.model.specs.Path.{Path}
 use Rattle.model.specs.Map.{put}
 use Rattle.model.specs.Tree.{Entry, deleted, Table}
 use Rattle.model.specs.Table.{body_of, encode, body_charge, charge_sum, capped, record_of, sized}
 use Rattle.model.specs.declared.Record.{Record}
-use Rattle.model.proofs.Orders.{test, yea, nay}
 use Rattle.model.proofs.Codec.{charge_exact}
 use Rattle.table_measure.specs.Measure.{replaced}
 use Rattle.table_measure.proofs.Passes.{other_body}
 use Rattle.table_insert.specs.Insert.{insertion}
-use Rattle.table_insert.specs.declared.Inserted.TheVariants.{Done, MemoryUsageLimitExceeded, NoRoom}
+use Rattle.table_insert.specs.declared.InsertError.TheVariants.{MemoryUsageLimitExceeded, NoRoom}
+use Rattle.std.specs.Prelude.{Ok, Err}
 use Rattle.table_insert.proofs.Inserts.{over_limit_lem, no_room, in_both, answered}
-
-pub sum_over : (x y bound : ℕ) → bound < y → false ≡ leb (x + y) bound
-sum_over x y bound h = sym (lt-leb (x + y) bound (omega arith))
-
-pub sum_left : (x y bound : ℕ) → y ≤ bound → leb x (bound - y) ≡ leb (x + y) bound
-sum_left x y bound h =
-    elim (test (leb x (bound - y))) [
-      | yea a ↦ let l = leb-true x (bound - y) a in a ∙ sym (le-leb (x + y) bound (omega arith))
-      | nay a ↦ let l = leb-false x (bound - y) a in a ∙ sym (lt-leb (x + y) bound (omega arith))
-    ]
 
 -- both ways by the test's answer
 pub beyond : (s bound : ℕ) (b : Bool) → b ≡ leb s bound → not b ≡ true → bound < s
@@ -51,27 +41,27 @@ module _ (E limit room : ℕ) (k : Path) (t : Table) (x : Record) (n z : ℕ) (e
   counts_as_lem : z ≡ capped after.charge
   counts_as_lem = omega (arith, c)
 
-  pub over : limit < z → (v : Entry) → length (body_of v) ≡ n → MemoryUsageLimitExceeded ≡ insertion E limit room (put k v t)
+  pub over : limit < z → (v : Entry) → length (body_of v) ≡ n → Err MemoryUsageLimitExceeded ≡ insertion E limit room (put k v t)
   over g v l =
-      answered E limit room (put k v t) after MemoryUsageLimitExceeded (after_is v l)
+      answered E limit room (put k v t) after (Err MemoryUsageLimitExceeded) (after_is v l)
       (over_limit_lem after limit room (subst (λ (m : ℕ). limit < m) counts_as_lem g))
 
   module _ (g : z ≤ limit) (d : Bool) (h : d ≡ leb (x.used + n) room) where
     counted : capped after.charge ≤ limit
     counted = subst (λ (m : ℕ). m ≤ limit) counts_as_lem g
 
-    pub full : not d ≡ true → (v : Entry) → length (body_of v) ≡ n → NoRoom ≡ insertion E limit room (put k v t)
+    pub full : not d ≡ true → (v : Entry) → length (body_of v) ≡ n → Err NoRoom ≡ insertion E limit room (put k v t)
     full i v l =
-        answered E limit room (put k v t) after NoRoom (after_is v l) (no_room after limit room counted (beyond (x.used + n) room d h i))
+        answered E limit room (put k v t) after (Err NoRoom) (after_is v l) (no_room after limit room counted (beyond (x.used + n) room d h i))
 
     -- in the room that a table has, nothing is cut
     pub within_both : not d ≡ false → sized E room ≡ true → (v : Entry) → length (body_of v) ≡ n
-        → Done (record { used = x.used + n; count = x.count; charge = z; entry_size = x.entry_size }) ≡ insertion E limit room (put k v t)
+        → Ok (record { used = x.used + n; count = x.count; charge = z; entry_size = x.entry_size }) ≡ insertion E limit room (put k v t)
     within_both i y v l =
         let w = within (x.used + n) room d h i in
         let a = after_is v l in
         let u : x.used + n ≡ length (encode (put k v t)) = ap (λ (r : Record). r.used) a in
         let q : x.charge + body_charge n ≡ charge_sum E (put k v t) = ap (λ (r : Record). r.charge) a in
         let m : z ≡ after.charge = counts_as_lem ∙ ap capped q ∙ charge_exact E room (put k v t) y (omega arith) ∙ sym q in
-        (λ j. Done (record { used = x.used + n; count = x.count; charge = m j; entry_size = x.entry_size }))
-        ∙ answered E limit room (put k v t) after (Done after) a (in_both after limit room counted w)
+        (λ j. Ok (record { used = x.used + n; count = x.count; charge = m j; entry_size = x.entry_size }))
+        ∙ answered E limit room (put k v t) after (Ok after) a (in_both after limit room counted w)

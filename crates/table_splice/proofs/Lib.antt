@@ -1,4 +1,4 @@
 pub mod Splices
 pub mod Lengths
-pub mod Begins
 pub mod Places
+pub mod Begins

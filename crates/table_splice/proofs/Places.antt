@@ -7,9 +7,10 @@ use Prim.Native.Nat.{ℕ, zero, suc, ◌<◌}
 use native.Mathlib.Omega.{arith}
 use Rattle.model.specs.Bytes.{Bytes, same}
 use Rattle.model.specs.Path.{Path}
-use Rattle.model.specs.Map.{lookup}
+use Rattle.model.specs.Map.{lookup, put}
 use Rattle.model.specs.Tree.{Entry, own, Table}
 use Rattle.model.specs.Table.{body_of, key_at, entry_at, entries_at, table_in, is_table}
+use Rattle.model.specs.Content.{spliced}
 use Rattle.model.specs.declared.Record.{Record}
 use Rattle.model.proofs.Orders.{bot}
 use Rattle.model.proofs.Maps.{ascends_is}
@@ -46,3 +47,8 @@ module _ (s : Bytes) (r : Record) (k : Path) (left at : ℕ) (table : is_table s
     pub body_there : (m : ℕ) (c : Bytes) → lookup t k ≡ some (own m c) → body_of (entry_at s at) ≡ c
     body_there m c l =
         first_body (same (key_at s at) k) (entry_at s at) m c (sym (ap (first_if k) (first_entry s left at some_there)) ∙ sym first ∙ l)
+
+    -- what is put with the content x that is read there is what is put with the file's own
+    pub put_there : (x d : Bytes) (mtime o : ℕ) → x ≡ body_of (entry_at s at) → (m : ℕ) (c : Bytes) → lookup t k ≡ some (own m c)
+        → put k (own mtime (spliced o d x)) t ≡ put k (own mtime (spliced o d c)) t
+    put_there x d mtime o e m c l = ap (λ (b : Bytes). put k (own mtime (spliced o d b)) t) (e ∙ body_there m c l)

@@ -5,7 +5,8 @@
 // buffer, data and lent bytes.
 #![tactic(auto)]
 
-ghost use Rattle.std.specs.Prelude.{◌≡◌, true, [], ◌++◌, ℕ, ◌+◌, ◌-◌, ◌≤◌, ◌<◌, leb, length, take, drop, replicate};
+ghost use Rattle.std.specs.Prelude.{◌≡◌, true, [], ◌++◌, ℕ, ◌+◌, ◌-◌, ◌≤◌, ◌<◌, leb, length, take, drop};
+ghost use Rattle.std.specs.Prelude.{replicate, IfOk, OnErr};
 ghost use Rattle.std.proofs.Math.Option.{some};
 ghost use Rattle.model.specs.Bytes.{Bytes, before};
 ghost use Rattle.model.specs.Path.{Path};
@@ -17,13 +18,15 @@ ghost use Rattle.base_fields.specs.Write.{overwritten};
 ghost use Rattle.table_entries.specs.Place.{Standing, Sought, end_of};
 ghost use Rattle.table_entries.specs.Cut.{up_to};
 ghost use Rattle.table_write.specs.Merge.{Merged};
-ghost use Rattle.table_insert.specs.Insert.{insertion, is_done, if_done};
-ghost use Rattle.table_splice.specs.Splice.{is_own_file, Fitting, Begun};
+ghost use Rattle.table_insert.specs.Insert.{insertion, if_done};
+ghost use Rattle.table_splice.specs.Splice.{is_own_file, answer_of};
 
-// What inserting will answer, and how far the new table is written to the work buffer if it is done.
+use table_insert::InsertError;
+
+// The record that the new table will have, and how far it is written to the work buffer.
 #[derive(Clone, Copy)]
-struct Splice {
-    answer: table_insert::Inserted,
+struct Begun {
+    after: model::Record,
     merge: table_write::Merge,
 }
 
@@ -33,20 +36,14 @@ fn spliced_len(len: u64, offset: u64, added: u64) -> u64
     ensures { (c d : Bytes) → length c ≡ len → length d ≡ added → result ≡ length (spliced offset d c) }
 {
     let end = offset + added;
-    if end < len {
-        return len;
-    }
-    end
+    if end < len { len } else { end }
 }
 
 // Whether the sum is within the bound, also where it has more than 64 bits.
 fn sum_within(x: u64, y: u64, bound: u64) -> bool
     ensures { result ≡ leb (x + y) bound }
 {
-    if bound < y {
-        return false;
-    }
-    x <= bound - y
+    y <= bound && x <= bound - y
 }
 
 // What inserting an entry with a body of `len` bytes will answer, for any `len`: the limit first, then the room. The
@@ -58,7 +55,7 @@ fn judge_length(
     key: &[u8],
     len: u64,
     limit: u64,
-) -> table_insert::Inserted
+) -> Result<model::Record, InsertError>
     requires rec_value { is_table table.now rec ≡ true }
     requires key_value { (before [] key.now ≡ true) × (length key.now ≤ 512) }
     ensures { (v : Entry) → length (body_of v) ≡ len → result ≡ insertion rec.entry_size limit
@@ -68,16 +65,15 @@ fn judge_length(
     let charged = table_charge::body_charge(len);
     let charge = table_charge::saturating_add(bare.charge, charged);
     if limit < charge {
-        return table_insert::Inserted::MemoryUsageLimitExceeded;
+        return Err(InsertError::MemoryUsageLimitExceeded);
     }
     if !sum_within(bare.used, len, table.len() as u64) {
-        return table_insert::Inserted::NoRoom;
+        return Err(InsertError::NoRoom);
     }
-    table_insert::Inserted::Done(model::Record {
+    Ok(model::Record {
         used: bare.used + len,
-        count: bare.count,
-        charge: charge,
-        entry_size: bare.entry_size,
+        charge,
+        ..bare
     })
 }
 
@@ -89,11 +85,11 @@ fn put_front(work: &mut [u8], at: usize, content: &[u8], offset: usize)
 {
     let n = content.len();
     if offset <= n {
-        base_fields::copy_in(work, at, &content[0..offset]);
-        return;
+        base_fields::copy_in(work, at, &content[..offset]);
+    } else {
+        base_fields::copy_in(work, at, content);
+        base_fields::zero_to(work, at + n, at + offset);
     }
-    base_fields::copy_in(work, at, content);
-    base_fields::zero_to(work, at + n, at + offset);
 }
 
 // What of the content stands from `from` on, if any.
@@ -101,11 +97,9 @@ fn put_tail(work: &mut [u8], at: usize, content: &[u8], from: usize)
     requires { at + (length content.now - from) ≤ length work.old }
     ensures { work.new ≡ overwritten work.old at (drop from content.now) }
 {
-    let n = content.len();
-    if n <= from {
-        return;
+    if from < content.len() {
+        base_fields::copy_in(work, at, &content[from..]);
     }
-    base_fields::copy_in(work, at, &content[from..n]);
 }
 
 // The content with the data at the offset, from `at` on.
@@ -168,30 +162,11 @@ fn put_next_spliced(
 {
     let behind = table_write::copy_up_to(work, table, merge, key);
     let out = put_spliced(work, behind.out, key, mtime, content, offset, data);
-    table_write::Merge {
-        at: behind.at,
-        left: behind.left,
-        out: out,
-    }
+    table_write::Merge { out, ..behind }
 }
 
-fn is_done(answer: table_insert::Inserted) -> bool
-    ensures { result ≡ is_done answer }
-{
-    match answer {
-        table_insert::Inserted::Done(_) => {
-            return true;
-        }
-        table_insert::Inserted::MemoryUsageLimitExceeded => {
-            return false;
-        }
-        table_insert::Inserted::NoRoom => {
-            return false;
-        }
-    }
-}
-
-// What inserting will answer; if it is done, the new table is written to the work buffer up to and with the entry.
+// The new table written to the work buffer up to and with the entry, if inserting it will be done; else nothing is
+// written.
 fn write_spliced(
     work: &mut [u8],
     table: &[u8],
@@ -202,27 +177,26 @@ fn write_spliced(
     offset: u64,
     data: &[u8],
     limit: u64,
-) -> Splice
+) -> Result<Begun, InsertError>
     requires rec_value { is_table table.now rec ≡ true }
     requires key_value { (before [] key.now ≡ true) × (length key.now ≤ 512) }
     requires data_bound { (offset + length «data».now < 0x1_0000_0000_0000_0000)
         × (length table.now ≤ length work.old) }
-    ensures { Begun table.now rec limit key.now (own mtime (spliced offset
-        «data».now content.now)) work.old work.new result }
+    ensures judged { answer_of result ≡ insertion rec.entry_size limit (length table.now) (put key.now
+        (own mtime (spliced offset «data».now content.now)) (table_in table.now rec)) }
+    ensures merged { IfOk result (λ x. Merged table.now work.new (put key.now (own mtime
+        (spliced offset «data».now content.now)) (table_in table.now rec)) key.now x.merge.left x.merge.at
+        x.merge.out) }
+    ensures end { IfOk result (λ x. end_of table.now x.merge.left x.merge.at ≡ end_of table.now rec.count 0) }
+    ensures kept { OnErr result (work.new ≡ work.old) }
 {
     let len = spliced_len(content.len() as u64, offset, data.len() as u64);
-    let answer = judge_length(table, rec, key, len, limit);
+    let after = judge_length(table, rec, key, len, limit)?;
     let start = table_write::Merge {
         at: 0,
         left: rec.count,
         out: 0,
     };
-    if !is_done(answer) {
-        return Splice {
-            answer: answer,
-            merge: start,
-        };
-    }
     let merge = put_next_spliced(
         work,
         table,
@@ -233,59 +207,7 @@ fn write_spliced(
         offset as usize,
         data,
     );
-    Splice {
-        answer: answer,
-        merge: merge,
-    }
-}
-
-// What is left of the old table, and the new one back into its buffer, if it is done.
-fn settle(
-    table: &mut [u8],
-    work: &mut [u8],
-    rec: model::Record,
-    splice: Splice,
-) -> table_insert::Inserted
-    requires fitting { is_done splice.answer ≡ true → Fitting (length table.old) splice.merge.at splice.merge.out
-        rec.used }
-    requires table_in_bounds { length table.old ≤ length work.old }
-    ensures { (limit : ℕ) (k : Path) (v : Entry) (w : Bytes) → Begun table.old rec limit k v w
-        work.old splice → (result ≡ insertion rec.entry_size limit (length table.old)
-        (put k v (table_in table.old rec))) × (table.new ≡ if_done result
-        (padded (length table.old) (encode (put k v (table_in table.old rec))))
-        table.old) × (work.new ≡ if_done result (replicate (length w) 0) w) }
-{
-    let answer = splice.answer;
-    if !is_done(answer) {
-        return answer;
-    }
-    table_write::finish(table, work, splice.merge, rec.used as usize);
-    answer
-}
-
-// The same where the content is the body of the entry at a place.
-fn write_inside(
-    work: &mut [u8],
-    table: &[u8],
-    rec: model::Record,
-    key: &[u8],
-    mtime: u64,
-    place: table_entries::Place,
-    offset: u64,
-    data: &[u8],
-    limit: u64,
-) -> Splice
-    requires rec_value { is_table table.now rec ≡ true }
-    requires key_value { (before [] key.now ≡ true) × (length key.now ≤ 512) }
-    requires data_bound { (offset + length «data».now < 0x1_0000_0000_0000_0000)
-        × (length table.now ≤ length work.old) }
-    requires standing { Standing table.now place.left place.at × (0 < place.left) }
-    ensures { Begun table.now rec limit key.now (own mtime (spliced offset
-        «data».now (body_of (entry_at table.now place.at)))) work.old
-        work.new result }
-{
-    let content = table_entries::entry_body(table, place);
-    write_spliced(work, table, rec, key, mtime, content, offset, data, limit)
+    Ok(Begun { after, merge })
 }
 
 // The data written at the offset into the own file whose entry, with this key, stands at the place, if the charge then
@@ -300,7 +222,7 @@ pub fn insert_parts(
     offset: u64,
     data: &[u8],
     limit: u64,
-) -> table_insert::Inserted
+) -> Result<model::Record, InsertError>
     requires rec_value { is_table table.old rec ≡ true }
     requires key_value { (before [] key.now ≡ true) × (length key.now ≤ 512) }
     requires data_bound { (offset + length «data».now < 0x1_0000_0000_0000_0000)
@@ -315,8 +237,10 @@ pub fn insert_parts(
         (own mtime (spliced offset «data».now c)) (table_in table.old rec)))) table.old }
     ensures work_after { work.new ≡ if_done result (replicate (length work.old) 0) work.old }
 {
-    let splice = write_inside(work, table, rec, key, mtime, place, offset, data, limit);
-    settle(table, work, rec, splice)
+    let content = table_entries::entry_body(table, place);
+    let begun = write_spliced(work, table, rec, key, mtime, content, offset, data, limit)?;
+    table_write::finish(table, work, begun.merge, rec.used as usize);
+    Ok(begun.after)
 }
 
 // An own file put with the lent bytes and the data behind them as its content, under the same conditions.
@@ -329,7 +253,7 @@ pub fn insert_lent(
     lent: &[u8],
     data: &[u8],
     limit: u64,
-) -> table_insert::Inserted
+) -> Result<model::Record, InsertError>
     requires rec_value { is_table table.old rec ≡ true }
     requires key_value { (before [] key.now ≡ true) × (length key.now ≤ 512) }
     requires table_in_bounds { length table.old ≤ length work.old }
@@ -340,6 +264,7 @@ pub fn insert_lent(
     ensures work_after { work.new ≡ if_done result (replicate (length work.old) 0) work.old }
 {
     let offset = lent.len() as u64;
-    let splice = write_spliced(work, table, rec, key, mtime, lent, offset, data, limit);
-    settle(table, work, rec, splice)
+    let begun = write_spliced(work, table, rec, key, mtime, lent, offset, data, limit)?;
+    table_write::finish(table, work, begun.merge, rec.used as usize);
+    Ok(begun.after)
 }

@@ -155,15 +155,14 @@ module _ (t w w₁ t₁ t₂ : Bytes) (left at out used : ℕ) (a : at ≤ used)
       let l = rest_length in
       ap length e₁ ∙ length_overwritten w out (take (used - at) (drop at t)) (omega arith)
 
-  pub finished : t₁ ≡ overwritten t 0 (take (n - 0) w₁) → t₂ ≡ take n t₁ ++ replicate (length t₁ - n) 0
+  pub finished : t₁ ≡ overwritten t 0 (take n w₁) → t₂ ≡ take n t₁ ++ replicate (length t₁ - n) 0
       → (x : Table) (k : Path) → Merged t w x k left at out → used ≡ at + length (encode (entries_at t left at)) → t₂ ≡ padded (length t) (encode x)
   finished e₂ e₃ x k m e =
       let l = rest_length in
       let lw = work_length in
       let whole : take n w₁ ≡ encode x =
       ap₂ (λ (i : ℕ) (u : Bytes). take (out + i) u) (sym l) e₁ ∙ front_whole t w x k left at out used m e (omega arith) in
-      let all : n - 0 ≡ n = omega arith in
       e₃
-      ∙ ap (λ (u : Bytes). take n u ++ replicate (length u - n) 0) (e₂ ∙ ap (λ (i : ℕ). overwritten t 0 (take i w₁)) all)
+      ∙ ap (λ (u : Bytes). take n u ++ replicate (length u - n) 0) e₂
       ∙ zeroed_behind t (take n w₁) n (length-take-le n w₁ (omega arith)) c
       ∙ ap (padded (length t)) whole

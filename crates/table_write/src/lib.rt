@@ -80,18 +80,17 @@ pub fn copy_up_to(work: &mut [u8], table: &[u8], merge: Merge, key: &[u8]) -> Me
     ensures { Copied table.now work.old work.new key.now merge.left
         merge.at merge.out result.left result.at result.out }
 {
-    let at = merge.at;
-    let left = merge.left;
-    let out = merge.out;
-    let place = table_entries::Place { at: at, left: left };
+    let place = table_entries::Place {
+        at: merge.at,
+        left: merge.left,
+    };
     let found = table_entries::seek(table, place, key);
-    let to = found.at;
-    base_fields::copy_in(work, out, &table[at..to]);
+    base_fields::copy_in(work, merge.out, &table[merge.at..found.at]);
     let next = table_measure::behind_key(table, found, key);
     Merge {
         at: next.at,
         left: next.left,
-        out: out + (to - at),
+        out: merge.out + (found.at - merge.at),
     }
 }
 
@@ -119,12 +118,10 @@ pub fn put_next(
         merge.at }
 {
     let behind = copy_up_to(work, table, merge, key);
-    let out = behind.out;
-    put_entry(work, out, key, kind, mtime, size, body);
+    put_entry(work, behind.out, key, kind, mtime, size, body);
     Merge {
-        at: behind.at,
-        left: behind.left,
-        out: out + model::ENTRY_HEAD + key.len() + body.len(),
+        out: behind.out + model::ENTRY_HEAD + key.len() + body.len(),
+        ..behind
     }
 }
 
@@ -138,11 +135,9 @@ pub fn finish(table: &mut [u8], work: &mut [u8], merge: Merge, used: usize)
         ≡ padded (length table.old) (encode t) }
     ensures work_after { work.new ≡ replicate (length work.old) 0 }
 {
-    let at = merge.at;
-    let out = merge.out;
-    base_fields::copy_in(work, out, &table[at..used]);
-    let n = out + (used - at);
-    base_fields::copy_in(table, 0, &work[0..n]);
+    base_fields::copy_in(work, merge.out, &table[merge.at..used]);
+    let n = merge.out + (used - merge.at);
+    base_fields::copy_in(table, 0, &work[..n]);
     base_fields::zero_from(table, n);
     base_fields::zero_from(work, 0);
 }

@@ -22,19 +22,8 @@ pub fn run(
     let mut table = [255u8; 4096];
     let mut old = [0u8; 4096];
     let mut work = [255u8; 4096];
-    if n <= 4096 {
-        if m <= 4096 {
-            return script::run(
-                rt,
-                first,
-                second,
-                &mut table[0..n],
-                &mut old,
-                &mut work[0..m],
-                entry_size,
-                list,
-            );
-        }
-    }
-    Ok(())
+    let (Some(table), Some(work)) = (table.get_mut(..n), work.get_mut(..m)) else {
+        return Ok(());
+    };
+    script::run(rt, first, second, table, &mut old, work, entry_size, list)
 }

@@ -19,86 +19,52 @@ const MTIME: u64 = 0x3FF0_0000_0000_0000;
 const MTIME_ADDED: u64 = 0x4000_0000_0000_0000;
 
 fn byte_at(s: &[u8], i: usize) -> u8 {
-    if i < s.len() {
-        return s[i];
-    }
-    0
-}
-
-// Where the next `mark` stands from `from` on, or where the text ends.
-fn find(s: &[u8], from: usize, mark: u8) -> usize
-    requires { from ≤ length s.now }
-    ensures { (from ≤ result) × (result ≤ length s.now) }
-{
-    let mut i = from;
-    while i < s.len() {
-        if s[i] == mark {
-            return i;
-        }
-        i += 1;
-    }
-    i
+    s.get(i).copied().unwrap_or(0)
 }
 
 fn digit(s: &[u8], i: usize) -> u64
     ensures { result ≤ 9 }
 {
-    let b = byte_at(s, i);
-    if b < 48 {
-        return 0;
-    }
-    ((b - 48) % 10) as u64
+    u64::from(byte_at(s, i).saturating_sub(b'0') % 10)
 }
 
 fn limit(s: &[u8]) -> u64 {
-    let letter = byte_at(s, 14);
-    if letter == b'-' {
-        return 1_000_000;
+    match byte_at(s, 14) {
+        b'-' => 1_000_000,
+        b'm' => u64::MAX - digit(s, 18),
+        _ => {
+            let high = 100 * digit(s, 14) + 10 * digit(s, 15) + digit(s, 16);
+            100 * high + 10 * digit(s, 17) + digit(s, 18)
+        }
     }
-    if letter == b'm' {
-        return 0xFFFF_FFFF_FFFF_FFFF - digit(s, 18);
-    }
-    let high = 100 * digit(s, 14) + 10 * digit(s, 15) + digit(s, 16);
-    100 * high + 10 * digit(s, 17) + digit(s, 18)
 }
 
 // The call, by the letters in which their names differ.
 fn kind(s: &[u8]) -> Kind {
-    let letter = byte_at(s, 0);
-    if letter == b'w' {
-        return Kind::Write;
+    match (byte_at(s, 0), byte_at(s, 1)) {
+        (b'w', _) => Kind::Write,
+        (b'm', _) => Kind::Mkdir,
+        (b'u', _) => Kind::Unlink,
+        (b'a', _) => Kind::Append,
+        (b'i', _) => Kind::WriteInside,
+        (_, b'm') => Kind::Rmdir,
+        _ => Kind::Rename,
     }
-    if letter == b'm' {
-        return Kind::Mkdir;
-    }
-    if letter == b'u' {
-        return Kind::Unlink;
-    }
-    if letter == b'a' {
-        return Kind::Append;
-    }
-    if letter == b'i' {
-        return Kind::WriteInside;
-    }
-    if byte_at(s, 1) == b'm' {
-        return Kind::Rmdir;
-    }
-    Kind::Rename
 }
 
 fn mtime(letter: u8) -> u64 {
-    if (letter == b'a') | (letter == b'i') {
-        return MTIME_ADDED;
+    match letter {
+        b'a' | b'i' => MTIME_ADDED,
+        _ => MTIME,
     }
-    MTIME
 }
 
 // An offset, by what stands behind the path.
 fn offset(s: &[u8]) -> u64 {
-    if byte_at(s, 0) == b'-' {
-        return 0xFFFF_FFFF_FFFF_FFFF - digit(s, 1);
+    match byte_at(s, 0) {
+        b'-' => u64::MAX - digit(s, 1),
+        _ => digit(s, 0),
     }
-    digit(s, 0)
 }
 
 // A call's order; `behind` is what stands behind its path.
@@ -106,8 +72,8 @@ fn order(s: &[u8], behind: &[u8]) -> Order {
     let flag = byte_at(s, 8);
     Order {
         kind: kind(s),
-        parents: (flag == b'p') | (flag == b'b'),
-        exist_ok: (flag == b'e') | (flag == b'b'),
+        parents: matches!(flag, b'p' | b'b'),
+        exist_ok: matches!(flag, b'e' | b'b'),
         mtime: mtime(byte_at(s, 0)),
         limit: limit(s),
         offset: offset(behind),
@@ -116,30 +82,22 @@ fn order(s: &[u8], behind: &[u8]) -> Order {
 
 // The first bytes, as many as a call's data have.
 fn data(bytes: &[u8], n: usize) -> &[u8] {
-    if n <= bytes.len() {
-        return &bytes[0..n];
-    }
-    &bytes[..0]
-}
-
-// What stands behind a place and the byte there.
-fn behind(s: &[u8], at: usize) -> &[u8] {
-    if at < s.len() {
-        return &s[at + 1..];
-    }
-    &s[..0]
+    bytes.get(..n).unwrap_or(&[])
 }
 
 // The record that a call is given.
 fn given(rec: Record, wrong: u8) -> Record {
-    let mut new = rec;
-    if wrong == b'u' {
-        new.used = std::num::wrapping_add_u64(rec.used, 1);
+    match wrong {
+        b'u' => Record {
+            used: rec.used.wrapping_add(1),
+            ..rec
+        },
+        b'e' => Record {
+            entry_size: 4097,
+            ..rec
+        },
+        _ => rec,
     }
-    if wrong == b'e' {
-        new.entry_size = 4097;
-    }
-    new
 }
 
 // What a call answered, and whether it kept what it must; a refused call's record is not handed on, since it may be a
@@ -157,12 +115,12 @@ fn reported(
     tell::answer(rt, answer)?;
     tell::rec(rt, after)?;
     match answer {
-        Answer::Accepted(_) => {
+        Ok(_) => {
             let right = test_kept::is_clean(table, work, after);
             tell::end(rt, right, b", work 0\n")?;
             Ok(after)
         }
-        Answer::Refused(_) => {
+        Err(_) => {
             let right = test_kept::is_kept(table, old, work, after, before_call);
             tell::end(rt, right, b", all kept\n")?;
             Ok(rec)
@@ -188,20 +146,25 @@ fn change(
     let order = order(s, third);
     test_kept::prepare(table, old, work);
     let done = call_order::make(listing, table, rec_given, work, path, second, third, order);
-    let after = done.record;
-    let answer = done.answer;
-    reported(rt, table, old, work, answer, after, rec_given, rec)
+    reported(
+        rt,
+        table,
+        old,
+        work,
+        done.answer,
+        done.record,
+        rec_given,
+        rec,
+    )
 }
 
 // exists, is_file or is_dir, by the letter in which their names differ.
 fn asked(listing: &[u8], table: &[u8], rec: Record, letter: u8, path: &[u8]) -> Finding {
-    if letter == b's' {
-        return call_queries::exists(listing, table, rec, path);
+    match letter {
+        b's' => call_queries::exists(listing, table, rec, path),
+        b'f' => call_queries::is_file(listing, table, rec, path),
+        _ => call_queries::is_dir(listing, table, rec, path),
     }
-    if letter == b'f' {
-        return call_queries::is_file(listing, table, rec, path);
-    }
-    call_queries::is_dir(listing, table, rec, path)
 }
 
 fn query(
@@ -232,25 +195,17 @@ fn change_by(
     path: &[u8],
     third: &[u8],
 ) -> io::Result<Record> {
-    let letter = byte_at(s, 0);
     let n = (10 * digit(s, 7) + digit(s, 8)) as usize;
-    if letter == b'r' {
-        return change(rt, listing, table, old, work, rec, s, path, third, third);
-    }
-    if letter == b'w' {
-        let sevens = data(
-            b"\x07\x07\x07\x07\x07\x07\x07\x07\x07\x07\x07\x07\x07\x07\x07\x07\
-            \x07\x07\x07\x07\x07\x07\x07\x07\x07\x07\x07\x07\x07\x07\x07\x07",
+    let second = match byte_at(s, 0) {
+        b'r' => third,
+        b'w' => data(&[7; 32], n),
+        _ => data(
+            b"\x01\x02\x03\x04\x05\x06\x07\x08\x09\x0A\x0B\x0C\x0D\x0E\x0F\x10\
+            \x11\x12\x13\x14\x15\x16\x17\x18\x19\x1A\x1B\x1C\x1D\x1E\x1F\x20",
             n,
-        );
-        return change(rt, listing, table, old, work, rec, s, path, sevens, third);
-    }
-    let counting = data(
-        b"\x01\x02\x03\x04\x05\x06\x07\x08\x09\x0A\x0B\x0C\x0D\x0E\x0F\x10\
-        \x11\x12\x13\x14\x15\x16\x17\x18\x19\x1A\x1B\x1C\x1D\x1E\x1F\x20",
-        n,
-    );
-    change(rt, listing, table, old, work, rec, s, path, counting, third)
+        ),
+    };
+    change(rt, listing, table, old, work, rec, s, path, second, third)
 }
 
 fn called(
@@ -262,55 +217,48 @@ fn called(
     rec: Record,
     s: &[u8],
 ) -> io::Result<Record> {
-    if s.len() < 20 {
+    let Some(places) = s.get(20..) else {
         return Ok(rec);
-    }
+    };
     tell::text(rt, s)?;
-    let end = find(s, 20, b' ');
-    let path = &s[20..end];
+    let mut places = places.splitn(2, |b| *b == b' ');
+    let path = places.next().unwrap_or(&[]);
+    let third = places.next().unwrap_or(&[]);
     if (byte_at(s, 0) == b'e') | (byte_at(s, 1) == b's') {
         query(rt, listing, table, rec, s, path)?;
         return Ok(rec);
     }
-    let third = behind(s, end);
     change_by(rt, listing, table, old, work, rec, s, path, third)
 }
 
 fn flip(table: &mut [u8]) {
-    let n = table.len();
-    if 0 < n {
-        let last = table[n - 1];
-        table[n - 1] = 1 - last % 2;
+    if let Some(last) = table.last_mut() {
+        *last = 1 - *last % 2;
     }
 }
 
 fn entries(rt: &impl Print, table: &[u8], used: u64) -> io::Result<()> {
-    if used <= table.len() as u64 {
-        let n = used as usize;
-        return tell::bytes(rt, &table[0..n]);
+    match table.get(..used as usize) {
+        Some(entries) => tell::bytes(rt, entries),
+        None => Ok(()),
     }
-    Ok(())
 }
 
 // A title, which opens the table anew, the table's entries, or its last byte changed.
 fn marked(rt: &impl Print, table: &mut [u8], rec: Record, s: &[u8]) -> io::Result<Record> {
     tell::text(rt, s)?;
-    let letter = byte_at(s, 0);
-    if letter == b'#' {
-        let opened = table_open::open(table, rec.entry_size);
-        let answer = opened.answer;
-        tell::answer(rt, answer)?;
-        tell::text(rt, b"\n")?;
-        return Ok(opened.record);
+    let mut after = rec;
+    match byte_at(s, 0) {
+        b'#' => {
+            let opened = table_open::open(table, rec.entry_size);
+            tell::answer(rt, opened.answer)?;
+            after = opened.record;
+        }
+        b'+' => entries(rt, table, rec.used)?,
+        _ => flip(table),
     }
-    if letter == b'+' {
-        entries(rt, table, rec.used)?;
-        tell::text(rt, b"\n")?;
-        return Ok(rec);
-    }
-    flip(table);
     tell::text(rt, b"\n")?;
-    Ok(rec)
+    Ok(after)
 }
 
 fn item(
@@ -323,20 +271,15 @@ fn item(
     rec: Record,
     s: &[u8],
 ) -> io::Result<Record> {
-    let which = byte_at(s, 10);
-    let n = first.len();
     if byte_at(s, 0) < b'a' {
         return marked(rt, table, rec, s);
     }
-    if which == b'M' {
-        return called(rt, second, table, old, work, rec, s);
-    }
-    if which == b'X' {
-        if 0 < n {
-            return called(rt, &first[0..n - 1], table, old, work, rec, s);
-        }
-    }
-    called(rt, first, table, old, work, rec, s)
+    let listing = match (byte_at(s, 10), first) {
+        (b'M', _) => second,
+        (b'X', [without_last @ .., _]) => without_last,
+        _ => first,
+    };
+    called(rt, listing, table, old, work, rec, s)
 }
 
 pub fn run(
@@ -353,14 +296,12 @@ pub fn run(
         used: 0,
         count: 0,
         charge: 0,
-        entry_size: entry_size,
+        entry_size,
     };
-    let mut from = 0;
-    let mut end = find(list, 0, b'|');
-    while end < list.len() {
-        rec = item(rt, first, second, table, old, work, rec, &list[from..end])?;
-        from = end + 1;
-        end = find(list, from, b'|');
+    let mut rest = list;
+    while let Some(n) = rest.iter().position(|b| *b == b'|') {
+        rec = item(rt, first, second, table, old, work, rec, &rest[..n])?;
+        rest = &rest[n + 1..];
     }
     Ok(())
 }

@@ -5,7 +5,6 @@
 
 ghost use Rattle.std.specs.Prelude.{◌<◌};
 
-use std::env::FillError;
 use std::rt::Env;
 use std::time::CpuClock;
 
@@ -24,16 +23,13 @@ fn told(micros: u128) -> u64
     ensures { result < 0x8000_0000_0000_0000 }
 {
     if micros < 0x8000_0000_0000_0000 {
-        return micros as u64;
+        micros as u64
+    } else {
+        0
     }
-    0
 }
 
 // Whether times are asked for: whether there is an argument behind the program's name.
 pub fn is_timed(rt: &impl Env) -> bool {
-    let mut start = [0u8; 1];
-    match rt.arg(1, &mut start) {
-        Ok(_) | Err(FillError::TooLong) => true,
-        Err(FillError::NotPresent) => false,
-    }
+    test_args::is_given(rt, 1)
 }

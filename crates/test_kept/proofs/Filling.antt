@@ -1,50 +1,23 @@
--- Bytes that are all 165: the loops that write and test them.
-use mathlib.Core.Path.{◌≡◌, refl, sym, ap, ◌∙◌}
-use mathlib.Core.Bool.{true, false}
-use mathlib.Core.List.{[], ◌∷◌, ◌++◌}
-use Prim.Native.Nat.{ℕ, ◌+◌, ◌<◌, ◌≤◌}
-use native.Mathlib.Omega.{arith}
-use native.Mathlib.Numerals.{add-one}
-use lib.ListN.{length, get_or, take, drop, set, replicate, length-set, drop_of_length-le, replicate-append-replicate}
-use lib.Seq.{drop-cons, take-suc-set, take_all}
-use borrow.Author.Tests.{eq-eqb, ne_eqb}
-use Rattle.model.specs.Bytes.{Bytes}
+-- std's tests over bytes are the definition's.
+use Rattle.std.proofs.Common.{◌≡◌, refl, ap, ◌∙◌, [], ◌∷◌, ◌&&◌, eqb, nat_eq}
+use Prim.Native.Nat.{Ordering, compare}
+use lib.Dec.{compare_is_eq}
+use Rattle.std.specs.List.{list_all}
+use Rattle.std.specs.Cmp.Lexicographic.{pointwise}
+use Rattle.model.specs.Bytes.{Bytes, same, by_order, order}
 use Rattle.test_kept.specs.Left.{filled}
 
--- the loop of `fill`: the first i bytes are written
-pub record Filled (t₀ t : Bytes) (i : ℕ) : Type 0 where
-  pub end : i ≤ length t₀
-  pub size : length t ≡ length t₀
-  pub front : take i t ≡ replicate i 165
+pub filled_all : (w : Bytes) → list_all (λ b. eqb b 165) w ≡ filled w
+filled_all [] = refl
+filled_all (b ∷ w) = ap (λ r. eqb b 165 && r) (filled_all w)
 
-pub begun : (t : Bytes) → Filled t t 0
-begun t = record { end = omega arith; size = refl; front = refl }
+by_first : (o q : Ordering) → (compare_is_eq o && compare_is_eq q) ≡ compare_is_eq (by_order o Ordering.lt q Ordering.gt)
+by_first Ordering.lt q = refl
+by_first Ordering.eq q = refl
+by_first Ordering.gt q = refl
 
-module _ (t₀ t : Bytes) (i : ℕ) (z : Filled t₀ t i) where
-  pub one_more : i < length t → Filled t₀ (set t i 165) (i + 1)
-  one_more h =
-      record {
-        end = omega arith;
-        size = length-set t i 165 ∙ z.size;
-        front =
-            ap (λ (k : ℕ). take k (set t i 165)) (add-one i)
-            ∙ take-suc-set t i 165 h
-            ∙ ap (λ (s : Bytes). s ++ (165 ∷ [])) z.front
-            ∙ replicate-append-replicate {A = ℕ} i 1 165;
-      }
-
-  pub all_written : length t ≤ i → t ≡ replicate (length t₀) 165
-  all_written h =
-      let e : i ≡ length t₀ = omega arith in
-      sym (take_all i t h) ∙ z.front ∙ ap (λ (k : ℕ). replicate k 165) e
-
--- the loop of `is_filled` at its i-th byte
-module _ (s : Bytes) (i : ℕ) where
-  pub not_filled : i < length s → (get_or s i 0 ≡ 165 → ⊥) → false ≡ filled (drop i s)
-  not_filled h n = rw (drop-cons s i 0 h, ne_eqb (get_or s i 0) 165 n)
-
-  pub one_filled : i < length s → get_or s i 0 ≡ 165 → filled (drop (i + 1) s) ≡ filled (drop i s)
-  one_filled h e = rw (drop-cons s i 0 h, eq-eqb (get_or s i 0) 165 e, add-one i)
-
-  pub no_more : length s ≤ i → true ≡ filled (drop i s)
-  no_more h = rw (drop_of_length-le s h)
+pub same_bytes : (s t : Bytes) → pointwise nat_eq s t ≡ same s t
+same_bytes [] [] = refl
+same_bytes [] (b ∷ t) = refl
+same_bytes (a ∷ s) [] = refl
+same_bytes (a ∷ s) (b ∷ t) = ap (λ r. eqb a b && r) (same_bytes s t) ∙ by_first (compare a b) (order s t)

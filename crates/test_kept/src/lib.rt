@@ -14,27 +14,10 @@ use model::Record;
 // What the work buffer is filled with.
 const FILL: u8 = 165;
 
-fn fill(s: &mut [u8])
-    ensures { s.new ≡ replicate (length s.old) 165 }
-{
-    let mut i = 0;
-    while i < s.len() {
-        s[i] = FILL;
-        i += 1;
-    }
-}
-
 fn is_filled(s: &[u8]) -> bool
     ensures { result ≡ filled s.now }
 {
-    let mut i = 0;
-    while i < s.len() {
-        if s[i] != FILL {
-            return false;
-        }
-        i += 1;
-    }
-    true
+    s.iter().all(|b| *b == FILL)
 }
 
 // Copies the table to the start of `old`, where it has room for it, and fills the work buffer.
@@ -43,7 +26,7 @@ pub fn prepare(table: &[u8], old: &mut [u8], work: &mut [u8])
         (overwritten old.old 0 table.now) old.old }
     ensures full { work.new ≡ replicate (length work.old) 165 }
 {
-    fill(work);
+    work.fill(FILL);
     if table.len() <= old.len() {
         base_fields::copy_in(old, 0, table);
     }
@@ -53,11 +36,7 @@ pub fn prepare(table: &[u8], old: &mut [u8], work: &mut [u8])
 fn is_same_table(table: &[u8], old: &[u8]) -> bool
     ensures { result ≡ same table.now (take (length table.now) old.now) }
 {
-    let n = table.len();
-    if n <= old.len() {
-        return base_fields::is_same(table, &old[0..n]);
-    }
-    base_fields::is_same(table, old)
+    old.starts_with(table)
 }
 
 fn is_same_record(a: Record, b: Record) -> bool

@@ -20,25 +20,25 @@ fn counted(counts: Counts, mark: Mark) -> Counts
     requires { total counts ≤ 0x1_0000_0000 }
     ensures { total result ≤ total counts + 1 }
 {
-    let mut next = counts;
     match mark {
-        Mark::Same => {
-            next.same += 1;
-        }
-        Mark::New => {
-            next.new += 1;
-        }
-        Mark::Gone => {
-            next.gone += 1;
-        }
-        Mark::Changed => {
-            next.changed += 1;
-        }
-        Mark::Nothing => {
-            return counts;
-        }
+        Mark::Same => Counts {
+            same: counts.same + 1,
+            ..counts
+        },
+        Mark::New => Counts {
+            new: counts.new + 1,
+            ..counts
+        },
+        Mark::Gone => Counts {
+            gone: counts.gone + 1,
+            ..counts
+        },
+        Mark::Changed => Counts {
+            changed: counts.changed + 1,
+            ..counts
+        },
+        Mark::Nothing => counts,
     }
-    next
 }
 
 // The marks of all that is to come, in one pass.
@@ -53,8 +53,7 @@ pub fn count(own: &[u8], part: &[u8], first: Merge) -> Counts
         changed: 0,
     };
     let mut merge = first;
-    while view_merge::has_next(merge) {
-        let head = view_merge::head_at(own, part, merge);
+    while let Some(head) = view_merge::head_at(own, part, merge) {
         let mark = view_marks::mark_at(own, part, merge, head);
         counts = counted(counts, mark);
         merge = view_merge::advance(own, part, merge, head);

@@ -19,24 +19,8 @@ pub fn text(rt: &impl Print, s: &[u8]) -> io::Result<()> {
     rt.write_all(s)
 }
 
-// How many decimal digits a number has.
-fn digits(n: u64) -> usize {
-    match n.checked_ilog10() {
-        Some(power) => power as usize + 1,
-        None => 1,
-    }
-}
-
 // A number at the right of a column of this width. A blank stands before it however wide it is.
 pub fn column(rt: &impl Print, n: u64, width: usize) -> io::Result<()> {
-    let k = digits(n);
-    let blanks = [b' '; 20];
-    text(rt, b" ")?;
-    if k < width {
-        if width <= 20 {
-            let from = k + 1;
-            rt.write_all(&blanks[from..width])?;
-        }
-    }
-    rt.print(n)
+    let behind_blank = width.saturating_sub(1);
+    print!(rt; " {n:>behind_blank$}")
 }

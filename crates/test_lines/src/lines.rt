@@ -62,11 +62,10 @@ fn of_record(rt: &impl Print, part: &[u8], records: listing_records::Place) -> i
     requires left_nonzero { 0 < records.left }
 {
     let path = listing_records::record_path(part, records);
-    let found = listing_records::node_at(part, records.at);
-    match found {
+    match listing_records::node_at(part, records.at) {
         Found::Directory(_) => directory(rt, path),
         Found::File(_, size) => file(rt, path, size),
-        Found::Link | Found::Absent => link(rt, path),
+        Found::Link => link(rt, path),
     }
 }
 
@@ -95,13 +94,10 @@ fn node(rt: &impl Print, own: &[u8], part: &[u8], merge: Merge, mark: Mark) -> i
     requires merging { Merging own.now part.now merge }
     requires there { There merge mark }
 {
-    let entries = merge.entries;
-    let records = merge.records;
+    let Merge { entries, records } = merge;
     match mark {
-        Mark::Same => of_record(rt, part, records),
-        Mark::New => of_entry(rt, own, entries),
-        Mark::Gone => of_record(rt, part, records),
-        Mark::Changed => of_entry(rt, own, entries),
+        Mark::Same | Mark::Gone => of_record(rt, part, records),
+        Mark::New | Mark::Changed => of_entry(rt, own, entries),
         Mark::Nothing => Ok(()),
     }
 }
@@ -140,8 +136,7 @@ pub fn print_lines(
     ensures { remaining first ≤ 0 → IsOk result }
 {
     let mut merge = first;
-    while view_merge::has_next(merge) {
-        let head = view_merge::head_at(own, part, merge);
+    while let Some(head) = view_merge::head_at(own, part, merge) {
         let mark = view_marks::mark_at(own, part, merge, head);
         line(rt, own, part, merge, mark, changes)?;
         merge = view_merge::advance(own, part, merge, head);

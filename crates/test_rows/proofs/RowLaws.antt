@@ -1,22 +1,19 @@
 -- Laws of the rows: where one begins, and what is read of it from there.
 use mathlib.Core.Bool.{true, false}
 use mathlib.Core.List.{List, []}
-use mathlib.Core.Path.{◌≡◌, sym, ap, ◌∙◌}
-use Prim.Native.Nat.{ℕ, ◌+◌, ◌-◌, ◌*◌, ◌≤◌, ◌<◌}
+use mathlib.Core.Path.{◌≡◌, ap, ◌∙◌}
+use Prim.Native.Nat.{ℕ, ◌+◌, ◌*◌, ◌≤◌, ◌<◌}
 use native.Mathlib.Omega.{arith}
 use lib.Dec.{eqb}
-use lib.ListN.{length, get_or, take, drop, get_or-eq_default}
+use lib.ListN.{get_or}
 use borrow.Author.Tests.{lt-ltb, le-ltb, le-leb, lt-leb, eq-eqb, ne_eqb}
-use Rattle.test_rows.specs.Rows.{row_at, shown_kind, kind_in, own_in, count_of, count_in, content_from, content_in, lent_in}
+use Rattle.test_rows.specs.Rows.{row_at, shown_kind, kind_in, own_in, count_of, count_in, content_in, lent_in}
 
 pub row_in : (i : ℕ) → i < 40 → (32 * i ≡ row_at i) × (32 * i ≤ 1280)
 row_in i h = (rw (lt-ltb i 40 h), omega (arith, h))
 
 pub row_out : (i : ℕ) → 40 ≤ i → (1280 ≡ row_at i) × (1280 ≤ 1280)
 row_out i h = (rw (le-ltb i 40 h), omega arith)
-
-pub byte_out : (s : List ℕ) (at : ℕ) → length s ≤ at → 0 ≡ get_or s at 0
-byte_out s at h = sym (get_or-eq_default s 0 h)
 
 -- of a row that begins at `at`
 module _ (s : List ℕ) (i at : ℕ) (begins : at ≡ row_at i) where
@@ -45,23 +42,6 @@ count_kept n h = rw (le-leb n 30 h)
 
 pub count_none : (n : ℕ) → 30 < n → 0 ≡ count_of n
 count_none n h = rw (lt-leb n 30 h)
-
--- from the row's content on, n bytes of it
-module _ (s : List ℕ) (i from to n : ℕ) (f : from ≡ row_at i + 2) (t : to ≡ from + n) (e : n ≡ count_in s i) where
-  found : content_from s from n ≡ content_in s i
-  found = ap (content_from s from) e ∙ ap (λ a. content_from s a (count_in s i)) f
-
-  pub content_is : to ≤ length s → take (to - from) (drop from s) ≡ content_in s i
-  content_is h =
-      let len : to - from ≡ n = omega (arith, t) in
-      let inside : take n (drop from s) ≡ content_from s from n
-      = rw (le-leb (from + n) (length s) (omega (arith, t, h))) in
-      ap (λ k. take k (drop from s)) len ∙ inside ∙ found
-
-  pub content_none : length s < to → [] ≡ content_in s i
-  content_none h =
-      let outside : [] ≡ content_from s from n = rw (lt-leb (from + n) (length s) (omega (arith, t, h))) in
-      outside ∙ found
 
 pub lent_none : (s : List ℕ) (i : ℕ) → own_in s i ≡ true → [] ≡ lent_in s i
 lent_none s i h = rw (h)

@@ -31,24 +31,18 @@ const OWN: u8 = 4;
 fn row(i: usize) -> usize
     ensures { (result ≡ row_at i) × (result ≤ 1280) }
 {
-    if i < PATHS {
-        return ROW * i;
-    }
-    END
+    if i < PATHS { ROW * i } else { END }
 }
 
 fn byte_at(tree: &[u8], at: usize) -> u8
     ensures { result ≡ get_or tree.now at 0 }
 {
-    if at < tree.len() {
-        return tree[at];
-    }
-    0
+    tree.get(at).copied().unwrap_or(0)
 }
 
 fn set(tree: &mut [u8], at: usize, b: u8) {
-    if at < tree.len() {
-        tree[at] = b;
+    if let Some(there) = tree.get_mut(at) {
+        *there = b;
     }
 }
 
@@ -59,11 +53,10 @@ pub fn kind(tree: &[u8], i: usize) -> u8
     if i == 0 {
         return DIRECTORY;
     }
-    let there = byte_at(tree, row(i));
-    if there == OWN {
-        return FILE;
+    match byte_at(tree, row(i)) {
+        OWN => FILE,
+        there => there,
     }
-    there
 }
 
 pub fn is_own(tree: &[u8], i: usize) -> bool
@@ -77,10 +70,7 @@ pub fn count(tree: &[u8], i: usize) -> usize
     ensures { (result ≡ count_in tree.now i) × (result ≤ 30) }
 {
     let n = byte_at(tree, row(i) + 1) as usize;
-    if n <= MOST {
-        return n;
-    }
-    0
+    if n <= MOST { n } else { 0 }
 }
 
 // These bytes.
@@ -89,10 +79,7 @@ pub fn content(tree: &[u8], i: usize) -> &[u8]
 {
     let from = row(i) + 2;
     let to = from + count(tree, i);
-    if to <= tree.len() {
-        return &tree[from..to];
-    }
-    &tree[..0]
+    tree.get(from..to).unwrap_or(&[])
 }
 
 // The bytes that an append to the path has to be lent: all that the file holds, unless it is an own one.
@@ -100,9 +87,10 @@ pub fn lent(tree: &[u8], i: usize) -> &[u8]
     ensures { result.now ≡ lent_in tree.now i }
 {
     if is_own(tree, i) {
-        return &tree[..0];
+        &[]
+    } else {
+        content(tree, i)
     }
-    content(tree, i)
 }
 
 pub fn set_kind(tree: &mut [u8], i: usize, kind: u8) {
@@ -110,29 +98,27 @@ pub fn set_kind(tree: &mut [u8], i: usize, kind: u8) {
 }
 
 pub fn clear(tree: &mut [u8], i: usize) {
-    for j in 0..ROW {
-        set(tree, row(i) + j, 0);
+    let from = row(i);
+    if let Some(bytes) = tree.get_mut(from..from + ROW) {
+        bytes.fill(0);
     }
 }
 
 // A row's bytes, all with what is there, move to another row, and leave 0; to the same row they stay.
 pub fn move_row(tree: &mut [u8], i: usize, to: usize) {
-    for j in 0..ROW {
-        let b = byte_at(tree, row(i) + j);
-        set(tree, row(i) + j, 0);
-        set(tree, row(to) + j, b);
+    let mut bytes = [0u8; ROW];
+    let from = row(i);
+    if let Some(there) = tree.get(from..from + ROW) {
+        bytes.copy_from_slice(there);
     }
+    clear(tree, i);
+    put(tree, row(to), &bytes);
 }
 
+// Data that the tree has no room for are left out.
 fn put(tree: &mut [u8], at: usize, data: &[u8]) {
-    if END < at {
-        return;
-    }
-    if MOST < data.len() {
-        return;
-    }
-    for j in 0..data.len() {
-        set(tree, at + j, data[j]);
+    if let Some(there) = tree.get_mut(at..at.saturating_add(data.len())) {
+        there.copy_from_slice(data);
     }
 }
 
@@ -145,14 +131,11 @@ fn reach(tree: &mut [u8], i: usize, end: u8) {
 
 // Data go into the content from `from` on, and the file is an own one. Data for which the row has no room are left out.
 pub fn write_at(tree: &mut [u8], i: usize, from: usize, data: &[u8]) {
-    let n = data.len();
-    if MOST < n {
-        return;
-    }
-    if MOST - n < from {
+    let end = from.saturating_add(data.len());
+    if MOST < end {
         return;
     }
     put(tree, row(i) + 2 + from, data);
-    reach(tree, i, (from + n) as u8);
+    reach(tree, i, end as u8);
     set_kind(tree, i, OWN);
 }

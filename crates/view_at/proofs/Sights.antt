@@ -1,21 +1,21 @@
 -- Looks along a path: a prefix is searched for from where a shorter one was found.
-use mathlib.Core.Path.{◌≡◌, refl, ap, sym, ◌∙◌}
+use mathlib.Core.Path.{◌≡◌, ap, sym, ◌∙◌}
 use mathlib.Core.List.{[], ◌∷◌}
 use mathlib.Core.Bool.{true, false}
 use mathlib.Core.Logic.{inl, inr}
-use mathlib.Core.Option.{Option, none, some}
+use mathlib.Core.Option.{Option}
 use Prim.Native.Nat.{ℕ, zero, suc, ◌+◌, ◌<◌, ◌≤◌}
 use native.Mathlib.Omega.{arith}
-use lib.Ieee.{Float}
 use lib.ListN.{length, take}
+use Rattle.std.specs.Prelude as code
 use Rattle.model.specs.Bytes.{Bytes, before}
 use Rattle.model.specs.Path.{Path}
 use Rattle.model.specs.Map.{lookup}
-use Rattle.model.specs.Tree.{Entry, own, reference, directory, deleted, Table, Node, over, shown, Kind, kind_of, kind}
+use Rattle.model.specs.Tree.{Entry, Table, Node, over, shown, Kind, kind_of, kind}
 use Rattle.model.specs.Listing.{tree_in, is_listing}
 use Rattle.model.specs.Table.{entries_at, table_in, is_table}
 use Rattle.model.specs.declared.Record.{Record}
-use Rattle.model.proofs.Orders.{Lt, Cmp, cmp, bot}
+use Rattle.model.proofs.Orders.{Lt, Cmp, cmp}
 use Rattle.listing_records.specs.declared.ComponentWalk.{ComponentWalk}
 use Rattle.listing_records.specs.declared.RealTarget.{RealTarget}
 use Rattle.listing_records.specs.Found.{target_kind}
@@ -25,7 +25,7 @@ use Rattle.listing_dir.proofs.Targets.{kind_named}
 use Rattle.table_entries.specs.declared.OverlayEntry.{OverlayEntry}
 use Rattle.table_entries.specs.declared.Place.{Place}
 use Rattle.table_entries.specs.Place.{Standing, Sought}
-use Rattle.table_entries.specs.Said.{said, said_of, a_file, a_reference, a_directory, is_deleted, no_entry}
+use Rattle.table_entries.specs.Said.{said, said_of}
 use Rattle.table_entries.proofs.Cuts.{lookup_since}
 use Rattle.view_at.specs.Sight.{Sees}
 use Rattle.view_at.specs.declared.Sight.{Sight}
@@ -72,7 +72,7 @@ sees_on l s r p g k m h v = record {
 -- a look at the first k bytes
 module _ (l s : Bytes) (r : Record) (p : Path) (g : Sight) (k : ℕ) (v : Sees l s r p g k) (a : 0 < k) (b : k ≤ length p) (q : Place)
     (f : Sought s (take k p) g.place.left g.place.at q.left q.at) where
-  pub seen_kind : (x : Kind) (e : OverlayEntry) (t : RealTarget)
+  pub seen_kind : (x : Kind) (e : code.Option OverlayEntry) (t : RealTarget)
       → said_of s e ≡ said (lookup (entries_at s g.place.left g.place.at) (take k p))
       → target_kind t ≡ kind (lookup (tree_in l)) (take k p)
       → ((s : Bytes) (o : Option Entry) (n : Option Node) → said_of s e ≡ said o → target_kind t ≡ kind_of n → x ≡ kind_of (over o n))
@@ -94,44 +94,8 @@ module _ (l s : Bytes) (r : Record) (p : Path) (g : Sight) (k : ℕ) (v : Sees l
         ∙ sym (ap (λ (t : Table). lookup t (take j p)) f.are);
   }
 
--- an entry's kind, or without one the listing's
-pub over_file : (e : Option Entry) (n : Option Node) (m : Float) (c : Bytes) → a_file m c ≡ said e → Kind.a_file ≡ kind_of (over e n)
-over_file none n m c h = absurd (bot (cc))
-over_file (some (own a d)) n m c h = refl
-over_file (some (reference a z d)) n m c h = refl
-over_file (some (directory a)) n m c h = absurd (bot (cc))
-over_file (some deleted) n m c h = absurd (bot (cc))
-
-pub over_reference : (e : Option Entry) (n : Option Node) (m : Float) (z : ℕ) (c : Bytes) → a_reference m z c ≡ said e → Kind.a_file ≡ kind_of (over e n)
-over_reference none n m z c h = absurd (bot (cc))
-over_reference (some (own a d)) n m z c h = refl
-over_reference (some (reference a y d)) n m z c h = refl
-over_reference (some (directory a)) n m z c h = absurd (bot (cc))
-over_reference (some deleted) n m z c h = absurd (bot (cc))
-
-pub over_directory : (e : Option Entry) (n : Option Node) (m : Float) → a_directory m ≡ said e → Kind.a_directory ≡ kind_of (over e n)
-over_directory none n m h = absurd (bot (cc))
-over_directory (some (own a d)) n m h = absurd (bot (cc))
-over_directory (some (reference a y d)) n m h = absurd (bot (cc))
-over_directory (some (directory a)) n m h = refl
-over_directory (some deleted) n m h = absurd (bot (cc))
-
-pub over_deleted : (e : Option Entry) (n : Option Node) → is_deleted ≡ said e → Kind.nothing ≡ kind_of (over e n)
-over_deleted none n h = absurd (bot (cc))
-over_deleted (some (own a d)) n h = absurd (bot (cc))
-over_deleted (some (reference a y d)) n h = absurd (bot (cc))
-over_deleted (some (directory a)) n h = absurd (bot (cc))
-over_deleted (some deleted) n h = refl
-
-pub over_absent : (e : Option Entry) (n : Option Node) (x : Kind) → no_entry ≡ said e → x ≡ kind_of n → x ≡ kind_of (over e n)
-over_absent none n x h i = i
-over_absent (some (own a d)) n x h i = absurd (bot (cc))
-over_absent (some (reference a y d)) n x h i = absurd (bot (cc))
-over_absent (some (directory a)) n x h i = absurd (bot (cc))
-over_absent (some deleted) n x h i = absurd (bot (cc))
-
 -- a whole path, which is not the root
-pub whole_kind : (l s : Bytes) (r : Record) (p : Path) → (length p ≡ 0 → ⊥) → (x : Kind) (e : OverlayEntry) (t : RealTarget)
+pub whole_kind : (l s : Bytes) (r : Record) (p : Path) → (length p ≡ 0 → ⊥) → (x : Kind) (e : code.Option OverlayEntry) (t : RealTarget)
     → said_of s e ≡ said (lookup (table_in s r) p)
     → target_kind t ≡ kind (lookup (tree_in l)) p
     → ((s : Bytes) (o : Option Entry) (n : Option Node) → said_of s e ≡ said o → target_kind t ≡ kind_of n → x ≡ kind_of (over o n))

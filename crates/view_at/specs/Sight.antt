@@ -1,6 +1,6 @@
 -- A look at a path's prefixes, one after the other: what is visible there, and from where table and listing are
 -- searched on.
-use Rattle.std.specs.Prelude.{◌≡◌, true, ℕ, ◌≤◌, length, take}
+use Rattle.std.specs.Prelude.{◌≡◌, true, ℕ, ◌≤◌, length, take, Option, Some, None}
 use Rattle.model.specs.Bytes.{Bytes}
 use Rattle.model.specs.Path.{Path}
 use Rattle.model.specs.Map.{lookup}
@@ -14,12 +14,12 @@ use Rattle.view_at.specs.declared.Visible.{Visible}
 use Rattle.view_at.specs.declared.Visible.TheVariants as visible
 use Rattle.view_at.specs.declared.Sight.{Sight}
 
--- what each case of Visible says
-abbrev pub visible_kind : Visible → Kind
-visible_kind visible.Nothing = nothing
-visible_kind visible.Directory = a_directory
-visible_kind visible.File = a_file
-visible_kind visible.Link = a_link
+-- what each case of Visible says, and that there is none
+abbrev pub visible_kind : Option Visible → Kind
+visible_kind None = nothing
+visible_kind (Some visible.Directory) = a_directory
+visible_kind (Some visible.File) = a_file
+visible_kind (Some visible.Link) = a_link
 
 -- g is good for every prefix of p of k or more bytes: each is looked up in the listing l by g's walk, and in the table
 -- s among the entries from g's place on

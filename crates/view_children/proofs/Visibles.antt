@@ -10,7 +10,7 @@ use Rattle.model.specs.Tree.{Entry, own, reference, directory, deleted, Table, N
 use Rattle.model.specs.Table.{table_in, is_table}
 use Rattle.model.specs.Checks.{visible_child}
 use Rattle.model.specs.declared.Record.{Record}
-use Rattle.model.proofs.Orders.{Split, split, is_none_lem, is_some, opt, bot, same_refl, yea, nay, test}
+use Rattle.model.proofs.Orders.{Split, split, has_none, is_some, opt, bot, same_refl, yea, nay, test}
 use Rattle.model.proofs.Maps.{Ascending, lookup_low, ascends_is}
 use Rattle.table_entries.proofs.Entries.{table_stands}
 use Rattle.table_below.specs.Parts.{is_deleted, visible_in}
@@ -76,7 +76,7 @@ module _ (t : Table) (l : Tree) (d : Path) where
 
     listed_one : (k : Path) → is_none (lookup l k) ≡ false → (child d k && not (is_nothing (kind (shown t l) k))) ≡ (child d k && is_none (lookup t k))
     listed_one k n = elim (opt (lookup t k)) [
-      | is_none_lem h ↦ without_entry k h n ∙ rw h
+      | has_none h ↦ without_entry k h n ∙ rw h
       | is_some e h ↦ with_entry k e h ∙ hidden_in t z k e h ∙ rw h (none_and (child d k))
     ]
       where

@@ -21,9 +21,7 @@ pub fn overlay_directory_has_children(table: &[u8], rec: model::Record, dir: &[u
     ensures { result ≡ visible_in dir.now (table_in table.now rec) }
 {
     let part = table_below::below(table, rec, dir);
-    let from = part.from;
-    let to = part.to;
-    table_below::has_visible_child(&table[from..to], part.count, dir)
+    table_below::has_visible_child(&table[part.from..part.to], part.count, dir)
 }
 
 // Whether some record of a part is a child and has no entry from a place on.
@@ -40,30 +38,19 @@ fn listed_without_entry(
         (tree_at part.now count 0) }
 {
     let mut at: usize = 0;
-    let mut left = count;
-    let mut entry_at = place.at;
-    let mut entries_left = place.left;
-    while 0 < left {
-        let here = listing_records::Place { at: at, left: left };
+    let mut entries = place;
+    for i in 0..count {
+        let here = listing_records::Place {
+            at,
+            left: count - i,
+        };
         let path = listing_records::record_path(part, here);
-        let got = table_entries::get_from(
-            table,
-            table_entries::Place {
-                at: entry_at,
-                left: entries_left,
-            },
-            path,
-        );
-        let entry = got.entry;
-        if base_paths::is_child(dir, path) & table_entries::is_absent(entry) {
+        let got = table_entries::get_from(table, entries, path);
+        if base_paths::is_child(dir, path) && table_entries::is_absent(got.entry) {
             return true;
         }
-        let next = listing_records::next_record(part, here);
-        at = next.at;
-        left = next.left;
-        let found = got.place;
-        entry_at = found.at;
-        entries_left = found.left;
+        at = listing_records::next_record(part, here).at;
+        entries = got.place;
     }
     false
 }
@@ -81,10 +68,8 @@ pub fn real_directory_has_visible_children(
         (tree_in listing.now) }
 {
     let part = listing_records::below(listing, dir);
-    let from = part.from;
-    let to = part.to;
     let first = table_entries::first_entry(table, rec);
-    listed_without_entry(&listing[from..to], part.count, table, first, dir)
+    listed_without_entry(&listing[part.from..part.to], part.count, table, first, dir)
 }
 
 // Whether a directory has a visible child.
@@ -96,8 +81,6 @@ pub fn has_visible_children(listing: &[u8], table: &[u8], rec: model::Record, di
         (shown (table_in table.now rec) (tree_in listing.now)) dir.now
         (keys (tree_in listing.now))) }
 {
-    if overlay_directory_has_children(table, rec, dir) {
-        return true;
-    }
-    real_directory_has_visible_children(listing, table, rec, dir)
+    overlay_directory_has_children(table, rec, dir)
+        || real_directory_has_visible_children(listing, table, rec, dir)
 }

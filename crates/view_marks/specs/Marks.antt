@@ -20,7 +20,6 @@ abbrev pub listed_node : Bytes → Merge → Head → Option Node
 listed_node part m head.Entry = none
 listed_node part m head.Record = some (node_of (record_at part m.records.at))
 listed_node part m head.Both = some (node_of (record_at part m.records.at))
-listed_node part m head.End = none
 
 -- the mark of a path where v is visible and l is listed: no two marks hold of the same
 abbrev pub Marks : Option Node → Option Node → Mark → Type 0

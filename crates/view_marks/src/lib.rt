@@ -33,7 +33,7 @@ fn is_directory(own: &[u8], entries: table_entries::Place, mtime: u64) -> bool
     ensures { Tells result (view (entry_at own.now entries.at) ≡ some (dir mtime)) }
 {
     let fields = table_entries::entry_fields(own, entries);
-    (fields.kind == model::DIRECTORY) & (fields.mtime == mtime)
+    fields.kind == model::DIRECTORY && fields.mtime == mtime
 }
 
 // Whether the entry at a place shows the file that is listed at its own path with this mtime and size.
@@ -47,7 +47,7 @@ fn is_listed_file(own: &[u8], entries: table_entries::Place, mtime: u64, size: u
     let key = table_entries::entry_key(own, entries);
     let body = table_entries::entry_body(own, entries);
     let held = base_fields::is_same(body, key);
-    (fields.kind == model::REFERENCE) & ((fields.mtime == mtime) & ((fields.size == size) & held))
+    fields.kind == model::REFERENCE && (fields.mtime == mtime && (fields.size == size && held))
 }
 
 // Whether the entry shows what the record of the same path lists.
@@ -57,22 +57,10 @@ fn is_as_listed(own: &[u8], part: &[u8], merge: Merge) -> bool
     ensures { Tells result (view (entry_at own.now merge.entries.at)
         ≡ some (node_of (record_at part.now merge.records.at))) }
 {
-    let entries = merge.entries;
-    let records = merge.records;
-    let found = listing_records::node_at(part, records.at);
-    match found {
-        Found::Directory(mtime) => {
-            return is_directory(own, entries, mtime);
-        }
-        Found::File(mtime, size) => {
-            return is_listed_file(own, entries, mtime, size);
-        }
-        Found::Link => {
-            return false;
-        }
-        Found::Absent => {
-            return false;
-        }
+    match listing_records::node_at(part, merge.records.at) {
+        Found::Directory(mtime) => is_directory(own, merge.entries, mtime),
+        Found::File(mtime, size) => is_listed_file(own, merge.entries, mtime, size),
+        Found::Link => false,
     }
 }
 
@@ -84,12 +72,12 @@ fn of_entry(own: &[u8], part: &[u8], merge: Merge) -> Mark
         (listed_node part.now merge head.Entry) result }
     ensures there { There merge result }
 {
-    let entries = merge.entries;
-    let fields = table_entries::entry_fields(own, entries);
+    let fields = table_entries::entry_fields(own, merge.entries);
     if fields.kind == model::DELETED {
-        return Mark::Nothing;
+        Mark::Nothing
+    } else {
+        Mark::New
     }
-    Mark::New
 }
 
 fn of_both(own: &[u8], part: &[u8], merge: Merge) -> Mark
@@ -99,15 +87,14 @@ fn of_both(own: &[u8], part: &[u8], merge: Merge) -> Mark
         (listed_node part.now merge head.Both) result }
     ensures there { There merge result }
 {
-    let entries = merge.entries;
-    let fields = table_entries::entry_fields(own, entries);
+    let fields = table_entries::entry_fields(own, merge.entries);
     if fields.kind == model::DELETED {
-        return Mark::Gone;
+        Mark::Gone
+    } else if is_as_listed(own, part, merge) {
+        Mark::Same
+    } else {
+        Mark::Changed
     }
-    if is_as_listed(own, part, merge) {
-        return Mark::Same;
-    }
-    Mark::Changed
 }
 
 // The mark of what is next.
@@ -119,17 +106,8 @@ pub fn mark_at(own: &[u8], part: &[u8], merge: Merge, head: Head) -> Mark
     ensures there { There merge result }
 {
     match head {
-        Head::Entry => {
-            return of_entry(own, part, merge);
-        }
-        Head::Record => {
-            return Mark::Same;
-        }
-        Head::Both => {
-            return of_both(own, part, merge);
-        }
-        Head::End => {
-            return Mark::Nothing;
-        }
+        Head::Entry => of_entry(own, part, merge),
+        Head::Record => Mark::Same,
+        Head::Both => of_both(own, part, merge),
     }
 }

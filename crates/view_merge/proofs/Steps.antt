@@ -163,19 +163,6 @@ module _ (own part : Bytes) (m : Merge) (w : Merging own part m) where
         → Went own part m h (record { entries = p; records = q })
     past_both z p e v q f u = rw (z, e, f) (went_both (rw z at x) (rw e at v) (rw f at u))
 
-    -- what is told is there
-    pub entry_there : h ≡ head.Entry → 0 < n
-    entry_there z = let u : Next own part m head.Entry = rw z at x in u.0
-
-    pub record_there : h ≡ head.Record → 0 < i
-    record_there z = let u : Next own part m head.Record = rw z at x in u.0
-
-    pub both_there : h ≡ head.Both → (0 < n) × (0 < i)
-    both_there z = let u : Next own part m head.Both = rw z at x in (u.0, u.1)
-
-    pub not_ended : h ≡ head.End → 0 < remaining m → ⊥
-    not_ended z g = let u : Next own part m head.End = rw z at x in let a = u.0 in let b = u.1 in omega arith
-
 -- both places stand within what is read
 records_within : (s : Bytes) (n at : ℕ) → listing.Standing s n at → at ≤ length s
 records_within s zero at w = let e = eqb_eq at (length s) w.full in omega arith

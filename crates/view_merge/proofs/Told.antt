@@ -1,45 +1,42 @@
 -- What is told to be next: which of two paths is smaller, by how they compare; and what is visible there, by the stored kind.
-use mathlib.Core.Path.{◌≡◌, ap, ap₂, sym, ◌∙◌}
-use mathlib.Core.Bool.{Bool, true, false, not, ◌||◌}
+use mathlib.Core.Path.{◌≡◌, ap₂, ◌∙◌}
+use mathlib.Core.Bool.{true, false, not, ◌||◌}
 use mathlib.Core.Option.{some}
-use Prim.Native.Nat.{ℕ, ◌+◌}
+use Prim.Native.Nat.{ℕ, ◌+◌, ◌<◌}
+use native.Mathlib.Omega.{arith}
 use lib.Dec.{eqb}
 use lib.ListN.{get_or}
+use Rattle.std.specs.Prelude.{Some}
+use Rattle.std.proofs.Common.{Ordering, Less, Equal, Greater}
 use Rattle.model.specs.Bytes.{Bytes, by_order, order, before}
 use Rattle.model.specs.Path.{Path}
 use Rattle.model.specs.Tree.{Entry, own, reference, directory, deleted, view, kind_of}
 use Rattle.model.specs.Listing.{record_at, node_of}
 use Rattle.model.specs.Table.{type_of}
 use Rattle.model.specs.Calls.{exists, says}
-use Rattle.view_merge.specs.Merges.{head_path, head_node}
+use Rattle.view_merge.specs.Merges.{remaining, Next}
 use Rattle.view_merge.specs.declared.Merge.{Merge}
 use Rattle.view_merge.specs.declared.Head.{Head}
+use Rattle.view_merge.specs.declared.Head.TheVariants as head
 use Rattle.model.proofs.Orders.{Cmp, cmp, bot, yea, nay, test}
 use Rattle.base_fields.proofs.Common.{Lt_before}
 
--- c is how the paths a and b compare, which are x and y
-module _ (a b x y : Path) (ea : a ≡ x) (eb : b ≡ y) (c : ℕ) (h : c ≡ by_order (order a b) 0 1 2) where
-  compares : c ≡ by_order (order x y) 0 1 2
-  compares = h ∙ ap₂ (λ (p q : Path). by_order (order p q) 0 1 2) ea eb
+-- the paths a and b compare as x and y do, which they are
+module _ (a b x y : Path) (ea : a ≡ x) (eb : b ≡ y) where
+  abbrev as_order : Path → Path → Ordering
+  as_order p q = by_order (order p q) Less Equal Greater
 
-  pub smaller : c ≡ 0 → before x y ≡ true
-  smaller z = let k = compares in elim (cmp x y) [
-    | Cmp.lt g w ↦ Lt_before x y g
-    | Cmp.eq g w ↦ absurd (bot (cc))
-    | Cmp.gt g w ↦ absurd (bot (sym (cc)))
-  ]
-
-  pub equal : c ≡ 1 → x ≡ y
-  equal z = let k = compares in elim (cmp x y) [
+  pub equal : Equal ≡ as_order a b → x ≡ y
+  equal h = let k : Equal ≡ as_order x y = h ∙ ap₂ as_order ea eb in elim (cmp x y) [
     | Cmp.lt g w ↦ absurd (bot (cc))
     | Cmp.eq g w ↦ g
     | Cmp.gt g w ↦ absurd (bot (cc))
   ]
 
-  pub larger : (c ≡ 0 → ⊥) → (c ≡ 1 → ⊥) → before y x ≡ true
-  larger n m = let k = compares in elim (cmp x y) [
-    | Cmp.lt g w ↦ absurd (n (cc))
-    | Cmp.eq g w ↦ absurd (m (cc))
+  pub larger : Greater ≡ as_order a b → before y x ≡ true
+  larger h = let k : Greater ≡ as_order x y = h ∙ ap₂ as_order ea eb in elim (cmp x y) [
+    | Cmp.lt g w ↦ absurd (bot (cc))
+    | Cmp.eq g w ↦ absurd (bot (cc))
     | Cmp.gt g w ↦ Lt_before y x g
   ]
 
@@ -68,10 +65,12 @@ no_link s at k h = elim (test (eqb k 1)) [
   ]
 ]
 
--- h was told, and is the case g: its path, and whether something other than a link is visible there
-module _ (own part : Bytes) (m : Merge) (h : Head) {g : Head} (z : h ≡ g) where
-  pub path_told : {p : Path} → p ≡ head_path own part m g → p ≡ head_path own part m h
-  path_told e = e ∙ sym (ap (head_path own part m) z)
+-- g was told, which is h
+pub next_told : (o part : Bytes) (m : Merge) {g h : Head} → Some g ≡ Some h → Next o part m g → Next o part m h
+next_told o part m {g} {h} e x = let z : g ≡ h = cc in rw z at x
 
-  pub exists_told : {b : Bool} → b ≡ says exists (kind_of (head_node own part m g)) → b ≡ says exists (kind_of (head_node own part m h))
-  exists_told e = e ∙ sym (ap (λ (x : Head). says exists (kind_of (head_node own part m x))) z)
+-- what was told is to come
+pub is_left : (o part : Bytes) (m : Merge) (h : Head) → Next o part m h → 0 < remaining m
+is_left o part m head.Entry x = let a = x.0 in omega arith
+is_left o part m head.Record x = let a = x.0 in omega arith
+is_left o part m head.Both x = let a = x.0 in omega arith

@@ -6,7 +6,7 @@ use Rattle.model.specs.Path.{Path}
 use Rattle.model.specs.Map.{Map, lookup}
 use Rattle.model.specs.Tree.{Node, Entry, Table, Tree, view, over, shown}
 use Rattle.model.specs.Plain.{visible_tree}
-use Rattle.model.proofs.Orders.{Lt, Lt_trans, Lt_irrefl, Split, split, is_none_lem, is_some, opt, bot, same_refl}
+use Rattle.model.proofs.Orders.{Lt, Lt_trans, Lt_irrefl, Split, split, has_none, is_some, opt, bot, same_refl}
 use Rattle.model.proofs.Maps.{Above, Ascending, lookup_low, map_ext}
 use Rattle.model.proofs.Resumed.{visible_is, visible_sorted}
 use Rattle.view_merge.specs.Merges.{tree_of}
@@ -36,7 +36,7 @@ module _ (k : Path) (xs : Tree) (up : Ascending xs) (high : (q : Path) (v : Node
 
   found_first : (o : Option Node) → lookup (tree_of k o ++ xs) k ≡ o
   found_first (some n) = rw (same_refl k)
-  found_first none = elim (opt (lookup xs k)) [ is_none_lem e ↦ e | is_some v e ↦ absurd (Lt_irrefl k (high k v e)) ]
+  found_first none = elim (opt (lookup xs k)) [ has_none e ↦ e | is_some v e ↦ absurd (Lt_irrefl k (high k v e)) ]
 
   found_behind : (o : Option Node) (q : Path) → (k ≡ q → ⊥) → lookup (tree_of k o ++ xs) q ≡ lookup xs q
   found_behind none q n = refl
@@ -69,7 +69,7 @@ shown_above : (k : Path) (t : Table) (l : Tree) → Above k t → Ascending t �
     → (q : Path) (v : Node) → shown t l q ≡ some v → Lt k q
 shown_above k t l ht at hl al q v f = elim (opt (lookup t q)) [
   | is_some e g ↦ found_above k t ht at q e g
-  | is_none_lem g ↦ found_above k l hl al q v (sym (ap (λ (o : Option Entry). over o (lookup l q)) g) ∙ f)
+  | has_none g ↦ found_above k l hl al q v (sym (ap (λ (o : Option Entry). over o (lookup l q)) g) ∙ f)
 ]
 
 module _ (k : Path) (e : Entry) (n : Node) (t : Table) (l : Tree) (ht : Above k t) (at : Ascending t) (hl : Above k l) (al : Ascending l) where

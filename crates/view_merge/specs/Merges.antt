@@ -43,20 +43,17 @@ Next own part m head.Record =
 Next own part m head.Both =
     (0 < m.entries.left) × (0 < m.records.left) × (key_at own m.entries.at
     ≡ (record_at part m.records.at).path)
-Next own part m head.End = (m.entries.left ≡ 0) × (m.records.left ≡ 0)
 
 -- its path, and what is visible there: the entry counts, where there is one
 abbrev pub head_path : Bytes → Bytes → Merge → Head → Path
 head_path own part m head.Entry = key_at own m.entries.at
 head_path own part m head.Record = (record_at part m.records.at).path
 head_path own part m head.Both = key_at own m.entries.at
-head_path own part m head.End = []
 
 abbrev pub head_node : Bytes → Bytes → Merge → Head → Option Node
 head_node own part m head.Entry = view (entry_at own m.entries.at)
 head_node own part m head.Record = some (node_of (record_at part m.records.at))
 head_node own part m head.Both = view (entry_at own m.entries.at)
-head_node own part m head.End = none
 
 -- as a tree of one path or of none
 abbrev pub tree_of : Path → Option Node → Tree

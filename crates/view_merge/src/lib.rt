@@ -3,7 +3,7 @@
 // and at each step the two paths that are next once more.
 #![tactic(auto)]
 
-ghost use Rattle.std.specs.Prelude.{◌≡◌, true, false, ◌++◌, ◌+◌, ◌≤◌, ◌<◌, length};
+ghost use Rattle.std.specs.Prelude.{◌≡◌, ◌++◌, ◌+◌, ◌≤◌, ◌<◌, length, Some, None};
 ghost use Rattle.std.proofs.Math.Option.{some};
 ghost use Rattle.model.specs.Tree.{view, kind_of};
 ghost use Rattle.model.specs.Listing.{record_at, node_of};
@@ -13,6 +13,8 @@ ghost use Rattle.table_entries.specs.Place.{Standing};
 ghost use Rattle.model.specs.Calls.{exists, says};
 ghost use Rattle.view_merge.specs.Merges.{ahead, remaining, passed, Merging, Next, head_path, head_node};
 ghost use Rattle.view_merge.specs.Merges.{tree_of};
+
+use std::cmp::Ordering;
 
 // Where both stand.
 #[derive(Clone, Copy)]
@@ -27,54 +29,37 @@ pub enum Head {
     Entry,
     Record,
     Both,
-    End,
 }
 
-// Whether anything is to come.
-pub fn has_next(merge: Merge) -> bool
-    ensures { (result ≡ true → 0 < remaining merge) × (result ≡ false → remaining merge ≤ 0) }
-{
-    let entries = merge.entries;
-    let records = merge.records;
-    if 0 < entries.left {
-        return true;
-    }
-    0 < records.left
-}
-
-// It reads no more than the two paths at the places.
-pub fn head_at(own: &[u8], part: &[u8], merge: Merge) -> Head
+// What is next, where anything is to come. It reads no more than the two paths at the places.
+pub fn head_at(own: &[u8], part: &[u8], merge: Merge) -> Option<Head>
     requires { Merging own.now part.now merge }
-    ensures { Next own.now part.now merge result }
+    ensures next { (h : Head) → result ≡ Some h → Next own.now part.now merge h }
+    ensures ended { result ≡ None → remaining merge ≡ 0 }
 {
-    let entries = merge.entries;
-    let records = merge.records;
+    let Merge { entries, records } = merge;
     if entries.left == 0 {
         if records.left == 0 {
-            return Head::End;
+            return None;
         }
-        return Head::Record;
+        return Some(Head::Record);
     }
     if records.left == 0 {
-        return Head::Entry;
+        return Some(Head::Entry);
     }
     let key = table_entries::entry_key(own, entries);
     let path = listing_records::record_path(part, records);
-    let order = base_fields::compared(key, path);
-    if order == 0 {
-        return Head::Entry;
+    match base_fields::compared(key, path) {
+        Ordering::Less => Some(Head::Entry),
+        Ordering::Equal => Some(Head::Both),
+        Ordering::Greater => Some(Head::Record),
     }
-    if order == 1 {
-        return Head::Both;
-    }
-    Head::Record
 }
 
-// The places behind what `head_at` told to be next. At the end nothing is behind, and no caller comes there.
+// The places behind what `head_at` told to be next.
 pub fn advance(own: &[u8], part: &[u8], merge: Merge, head: Head) -> Merge
     requires merging { Merging own.now part.now merge }
     requires next { Next own.now part.now merge head }
-    requires merge_nonzero { 0 < remaining merge }
     ensures result_bound { remaining result < remaining merge }
     ensures merging_2 { Merging own.now part.now result }
     ensures head_bound { passed merge + length (head_path own.now part.now merge head) + 2
@@ -83,34 +68,20 @@ pub fn advance(own: &[u8], part: &[u8], merge: Merge, head: Head) -> Merge
         part.now merge head) (head_node own.now part.now merge head)
         ++ ahead own.now part.now result }
 {
-    let entries = merge.entries;
-    let records = merge.records;
+    let Merge { entries, records } = merge;
     match head {
-        Head::Entry => {
-            let next = table_entries::next_entry(own, entries);
-            return Merge {
-                entries: next,
-                records: records,
-            };
-        }
-        Head::Record => {
-            let next = listing_records::next_record(part, records);
-            return Merge {
-                entries: entries,
-                records: next,
-            };
-        }
-        Head::Both => {
-            let next = table_entries::next_entry(own, entries);
-            let behind = listing_records::next_record(part, records);
-            return Merge {
-                entries: next,
-                records: behind,
-            };
-        }
-        Head::End => {
-            return merge;
-        }
+        Head::Entry => Merge {
+            entries: table_entries::next_entry(own, entries),
+            records,
+        },
+        Head::Record => Merge {
+            entries,
+            records: listing_records::next_record(part, records),
+        },
+        Head::Both => Merge {
+            entries: table_entries::next_entry(own, entries),
+            records: listing_records::next_record(part, records),
+        },
     }
 }
 
@@ -120,21 +91,9 @@ pub fn head_path<'a>(own: &'a [u8], part: &'a [u8], merge: Merge, head: Head) ->
     requires next { Next own.now part.now merge head }
     ensures { result.now ≡ head_path own.now part.now merge head }
 {
-    let entries = merge.entries;
-    let records = merge.records;
     match head {
-        Head::Entry => {
-            return table_entries::entry_key(own, entries);
-        }
-        Head::Record => {
-            return listing_records::record_path(part, records);
-        }
-        Head::Both => {
-            return table_entries::entry_key(own, entries);
-        }
-        Head::End => {
-            return &own[0..0];
-        }
+        Head::Entry | Head::Both => table_entries::entry_key(own, merge.entries),
+        Head::Record => listing_records::record_path(part, merge.records),
     }
 }
 
@@ -163,20 +122,8 @@ pub fn head_exists(own: &[u8], part: &[u8], merge: Merge, head: Head) -> bool
     requires next { Next own.now part.now merge head }
     ensures { result ≡ says exists (kind_of (head_node own.now part.now merge head)) }
 {
-    let entries = merge.entries;
-    let records = merge.records;
     match head {
-        Head::Entry => {
-            return is_live(own, entries);
-        }
-        Head::Record => {
-            return is_no_link(part, records);
-        }
-        Head::Both => {
-            return is_live(own, entries);
-        }
-        Head::End => {
-            return false;
-        }
+        Head::Entry | Head::Both => is_live(own, merge.entries),
+        Head::Record => is_no_link(part, merge.records),
     }
 }

@@ -1,18 +1,21 @@
--- `base_fields::all_zero` meets its contract. The invariant: what was read is 0, and what is left is, just where all is.
--- The measure is what is left of the slice.
-use mathlib.Core.Path.{refl, ◌∙◌}
-use Rattle.base_fields.proofs.Zeros.{one_read, no_more}
+-- `base_fields::all_zero` meets its contract: what is folded is whether all bytes are 0.
+use Rattle.std.proofs.Common.{rules, tests, ◌∙◌, length, ◌≤◌, arith}
+use mathlib.Core.Bool.{Bool, true, ◌&&◌}
+use Prim.Native.Nat.{ℕ}
+use lib.Dec.{eqb}
+use lib.ListN.{drop}
+use Rattle.std.proofs.lemmas.Iterator.{YieldsList-from_slice}
+use Rattle.std.proofs.lemmas.Iterator.Consumers.{fold_from_yields_List}
+use Rattle.std.proofs.lemmas.Slice.{between_to_end}
+use Rattle.base_fields.proofs.Zeros.{folded}
 use Rattle.base_fields.proofs.all_zero.Goals as goal
 
-pub loop-i-init : goal.loop-i-init
-loop-i-init c = refl
-
-pub loop-i-preserved : goal.loop-i-preserved
-loop-i-preserved c =
-    let l = c.loop-i in
-    one_read c.args.s.now l.i l.ok c.loop-i-test.true ∙ l.invariant
-
-pub returns : goal.returns
-returns c =
-    let l = c.loop-i in
-    no_more c.args.s.now l.i l.ok c.loop-i-test.false ∙ l.invariant
+pub returns-else-s-from : goal.returns-else-s-from
+returns-else-s-from c =
+    let s = c.args.s.now in
+    let from = c.args.from in
+    let n : length s ≤ length s = omega arith in
+    let rest = YieldsList-from_slice (drop from s) (c.iter.ensures.rest ∙ between_to_end s from (length s) n) in
+    fold_from_yields_List _ (λ (a : Bool) (b : ℕ). a && eqb b 0) true _ c.fold.ensures.ran rest
+    (λ a x b q k. search (rules, tests))
+    ∙ folded (drop from s)

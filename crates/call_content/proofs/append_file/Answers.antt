@@ -1,7 +1,6 @@
 -- `append_file` meets its contract: data at the content's end stands behind it.
 use mathlib.Core.Path.{ap, ◌∙◌}
 use mathlib.Core.List.{◌++◌}
-use native.Mathlib.Omega.{arith}
 use lib.ListN.{length}
 use Rattle.model.specs.Table.{table_in}
 use Rattle.model.specs.Content.{spliced}
@@ -9,23 +8,10 @@ use Rattle.table_splice.proofs.Places.{some_there, body_there}
 use Rattle.call_content.proofs.Owns.{as_content, at_end}
 use Rattle.call_content.proofs.append_file.Goals as goal
 
-pub entry_body-content-requires : goal.entry_body-content-requires
-entry_body-content-requires c =
+pub entry_body-content-requires-clause-left_nonzero : goal.entry_body-content-requires-clause-left_nonzero
+entry_body-content-requires-clause-left_nonzero c =
     let a = c.args in
-    let s = a.table.now in
-    let p = a.path.now in
-    record { standing = c.requires.sought.stand; left_nonzero = some_there s a.rec p a.place.left a.place.at c.requires.rec_value c.requires.sought c.requires.path_value_2 }
-
-pub insert_parts-requires : goal.insert_parts-requires
-insert_parts-requires c =
-    let r = c.requires in
-    record {
-      rec_value = r.rec_value;
-      key_value = (r.path_value.0, r.path_value.1);
-      data_bound = (omega arith, r.path_value.2);
-      sought = r.sought;
-      key_value_2 = r.path_value_2;
-    }
+    some_there a.table.now a.rec a.path.now a.place.left a.place.at c.requires.rec_value c.requires.sought c.requires.path_value_2
 
 pub returns : goal.returns
 returns c =

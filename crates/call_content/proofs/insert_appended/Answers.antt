@@ -6,19 +6,18 @@ use Rattle.model.specs.Table.{table_in}
 use Rattle.model.specs.Content.{appended}
 use Rattle.model.specs.Outcome.{shown_in}
 use Rattle.model.proofs.Contents.{lent_content}
-use Rattle.call_content.proofs.Owns.{from_first, own_read, own_there, as_content}
+use Rattle.call_content.proofs.Owns.{own_read, own_there, as_content}
 use Rattle.call_content.proofs.insert_appended.Goals as goal
 
-pub append_file-requires : goal.append_file-requires
-append_file-requires c =
+pub append_file-requires-clause-path_value_2 : goal.append_file-requires-clause-path_value_2
+append_file-requires-clause-path_value_2 c =
     let a = c.args in
     let s = a.table.now in
     let p = a.path.now in
     let f = c.first_entry-first in
     let g = c.get_from-got in
     let w = c.is_own in
-    let e = own_there [] s a.rec p (sym (own_read [] s a.rec p f.result f.ensures.value g.result.entry g.ensures.result_value w.result w.ensures) ∙ c.if-is_own.true) in
-    record { rec_value = c.requires.rec_value; path_value = c.requires.path_value; sought = from_first s p a.rec f.result g.result.place.left g.result.place.at f.ensures.value g.ensures.sought; path_value_2 = e.file }
+    (own_there [] s a.rec p (sym (own_read [] s a.rec p f.result f.ensures.value g.result.entry g.ensures.result_value w.result w.ensures) ∙ c.if-is_own.true)).file
 
 pub returns-then-is_own : goal.returns-then-is_own
 returns-then-is_own c =
@@ -34,11 +33,6 @@ returns-then-is_own c =
     let e = own_there l s a.rec p (sym (own_read l s a.rec p f.result f.ensures.value g.result.entry g.ensures.result_value w.result w.ensures) ∙ c.if-is_own.true) in
     as_content a.rec.entry_size a.limit s a.work.now (table_in s a.rec) p a.mtime (e.content ++ d) (appended (shown_in l s a.rec p) d a.lent.now)
     (ap (λ (x : Bytes). x ++ d) (sym (e.holds a.lent.now))) i.result i.new.table i.new.work (i.ensures e.mtime e.content e.is)
-
-pub insert_lent-requires : goal.insert_lent-requires
-insert_lent-requires c =
-    let a = c.args in
-    record { rec_value = c.requires.rec_value; key_value = (c.requires.path_value.0, c.requires.path_value.1); table_in_bounds = c.requires.path_value.2 }
 
 pub returns : goal.returns
 returns c =

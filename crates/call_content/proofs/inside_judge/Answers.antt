@@ -2,25 +2,24 @@
 use mathlib.Core.Path.{refl}
 use mathlib.Core.List.{[]}
 use lib.ListN.{replicate, length-replicate}
+use Rattle.model.specs.Checks.{form}
 use Rattle.model.specs.Content.{inside_checks}
 use Rattle.model.specs.Outcome.{shown_in}
 use Rattle.check_judged.specs.Judged.{check_of}
-use Rattle.call_answer.proofs.Keys.{by_form, by_checks}
+use Rattle.check_judged.proofs.Thens.{goes_on}
+use Rattle.call_answer.proofs.Keys.{by_checks}
 use Rattle.call_content.proofs.inside_judge.Goals as goal
 
-pub returns-then-is_refused : goal.returns-then-is_refused
-returns-then-is_refused c =
+pub returns-clause-result_value : goal.returns-clause-result_value
+returns-clause-result_value c =
     let a = c.args in
-    let p = a.path.now in
-    let f = c.check_path-form in
-    let r = c.is_refused in
-    record { result_value = (λ l d z. (by_form p (λ q. inside_checks (shown_in l a.table.now a.rec) q a.offset d) refl (check_of f.result) r.result f.ensures r.ensures c.if-is_refused.true).0); path_value = (by_form p (λ q. inside_checks (shown_in [] a.table.now a.rec) q a.offset (replicate a.added 0)) refl (check_of f.result) r.result f.ensures r.ensures c.if-is_refused.true).1 }
+    λ l d z.
+    goes_on (form 0 a.path.now) (inside_checks (shown_in l a.table.now a.rec) a.path.now a.offset d) _
+    c.in_ok-check_path.ensures (c.inside_checks.ensures l d z)
 
-pub returns : goal.returns
-returns c =
+pub returns-clause-path_value : goal.returns-clause-path_value
+returns-clause-path_value c =
     let a = c.args in
-    let p = a.path.now in
-    let f = c.check_path-form in
-    let r = c.is_refused in
-    let x = c.inside_checks in
-    record { result_value = (λ l d z. (by_checks p (λ q. inside_checks (shown_in l a.table.now a.rec) q a.offset d) refl (check_of f.result) r.result f.ensures r.ensures c.if-is_refused.false (check_of x.result) (x.ensures l d z)).0); path_value = (by_checks p (λ q. inside_checks (shown_in [] a.table.now a.rec) q a.offset (replicate a.added 0)) refl (check_of f.result) r.result f.ensures r.ensures c.if-is_refused.false (check_of x.result) (x.ensures [] (replicate a.added 0) (length-replicate a.added 0))).1 }
+    let d = replicate a.added 0 in
+    (by_checks a.path.now (λ q. inside_checks (shown_in [] a.table.now a.rec) q a.offset d) refl c.in_ok-check_path.ensures
+    (check_of c.inside_checks.result) (c.inside_checks.ensures [] d (length-replicate a.added 0))).1

@@ -4,15 +4,12 @@ use Rattle.call_answer.proofs.Admits.{not_admitted, admitted_given}
 use Rattle.call_one_path.specs.Called.{call_of}
 use Rattle.call_one_path.proofs.change_any.Goals as goal
 
-pub returns-in-Refused : goal.returns-in-Refused
-returns-in-Refused c =
+pub returns-in-Err : goal.returns-in-Err
+returns-in-Err c =
     let a = c.args in
-    let j = c.admitted-admitted in
-    not_admitted a.listing.now (requested (call_of a.change a.path.now a.mtime a.«data».now) a.limit a.work.now) (stored a.table.now a.rec) j.result j.ensures _ c.in-Refused.is
+    not_admitted a.listing.now (requested (call_of a.change a.path.now a.mtime a.«data».now) a.limit a.work.now) (stored a.table.now a.rec) _ c.in-Err.ensures _ c.refused.ensures
 
-pub change_admitted-requires : goal.change_admitted-requires
-change_admitted-requires c =
+pub change_admitted-requires-clause-given : goal.change_admitted-requires-clause-given
+change_admitted-requires-clause-given c =
     let a = c.args in
-    let j = c.admitted-admitted in
-    let k = admitted_given a.listing.now (requested (call_of a.change a.path.now a.mtime a.«data».now) a.limit a.work.now) (stored a.table.now a.rec) j.result j.ensures c.in-Pass.is in
-    record { given = k.0; table_in_bounds = k.1; data_value = c.requires }
+    (admitted_given a.listing.now (requested (call_of a.change a.path.now a.mtime a.«data».now) a.limit a.work.now) (stored a.table.now a.rec) c.in-Ok.ensures).0

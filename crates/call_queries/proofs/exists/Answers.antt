@@ -1,36 +1,14 @@
 -- `exists` meets its contract: as the checks refuse, or by what is visible.
-use mathlib.Core.Path.{refl}
-use lib.ListN.{length}
-use Rattle.model.specs.Answer.{told_finding}
+use Rattle.std.proofs.Common.{ap, ◌∙◌, Bool}
+use Rattle.model.specs.Answer.{accepted}
+use Rattle.std.specs.Prelude.{cond}
 use Rattle.model.specs.Calls as calls
-use Rattle.view_at.specs.Sight.{visible_kind}
-use Rattle.check_lent.proofs.Firsts.{known}
-use Rattle.call_queries.proofs.Asks.{ask_refused, ask_answered}
+use Rattle.call_queries.proofs.Asks.{told_yes, told_refused}
 use Rattle.call_queries.proofs.exists.Goals as goal
 
-pub returns-then-is_refused : goal.returns-then-is_refused
-returns-then-is_refused c =
-    let a = c.args in
-    let j = c.ready-judged in
-    let r = c.is_refused in
-    let u = c.unanswered in
-    ask_refused a.listing.now a.table.now a.rec (length a.table.now) a.path.now j.result r.result j.ensures r.ensures
-    calls.exists refl (told_finding u.result) c.if-is_refused.true u.ensures
-
-pub visible_at-visible-requires : goal.visible_at-visible-requires
-visible_at-visible-requires c =
-    let a = c.args in
-    let j = c.ready-judged in
-    let r = c.is_refused in
-    let k = known a.listing.now a.table.now a.rec (length a.table.now) a.path.now j.result r.result j.ensures r.ensures c.if-is_refused.false in
-    record { listing_value = k.2; rec_value = k.0 }
+pub returns-in_err-seen : goal.returns-in_err-seen
+returns-in_err-seen c = told_refused _ _ c.from_residual.ensures.1 ∙ c.in_err-seen.ensures calls.exists
 
 pub returns : goal.returns
 returns c =
-    let a = c.args in
-    let j = c.ready-judged in
-    let r = c.is_refused in
-    let v = c.visible_at-visible in
-    let x = c.is_there in
-    ask_answered a.listing.now a.table.now a.rec (length a.table.now) a.path.now j.result r.result j.ensures r.ensures
-    calls.exists refl (told_finding x.result) c.if-is_refused.false (visible_kind v.result) v.ensures x.ensures
+    told_yes c.is_there.result ∙ ap (λ (b : Bool). accepted (cond b 1 0)) c.is_there.ensures ∙ c.in_ok-seen.ensures calls.exists

@@ -7,19 +7,19 @@ use Rattle.model.specs.Table.{table_in}
 use Rattle.check_content.proofs.Owned.{listed_not_own, not_own, too_far, in_range}
 use Rattle.check_content.proofs.inside_checks.Goals as goal
 
-pub returns-then-not-own : goal.returns-then-not-own
-returns-then-not-own c =
+pub returns-then-not-is_own : goal.returns-then-not-is_own
+returns-then-not-is_own c =
     let a = c.args in
-    let g = c.get-entry in
-    let w = c.is_own-own in
+    let g = c.get in
+    let w = c.is_own in
     λ l d z.
-    not_own l a.table.now a.rec a.path.now c.requires w.result (w.ensures a.table.now (lookup (table_in a.table.now a.rec) a.path.now) (lookup (tree_in l) a.path.now) g.ensures (listed_not_own l a.path.now)) a.offset a.added d z (c.if-not-own.true)
+    not_own l a.table.now a.rec a.path.now c.requires w.result (w.ensures a.table.now (lookup (table_in a.table.now a.rec) a.path.now) (lookup (tree_in l) a.path.now) g.ensures (listed_not_own l a.path.now)) a.offset a.added d z (c.if-not-is_own.true)
 
 pub returns-then-added-offset : goal.returns-then-added-offset
 returns-then-added-offset c =
     let a = c.args in
-    let g = c.get-entry in
-    let w = c.is_own-own in
+    let g = c.get in
+    let w = c.is_own in
     λ l d z.
     let x = c.if-added-offset.true in
     let q = c.ranges in
@@ -28,9 +28,9 @@ returns-then-added-offset c =
 pub returns : goal.returns
 returns c =
     let a = c.args in
-    let g = c.get-entry in
-    let w = c.is_own-own in
+    let g = c.get in
+    let w = c.is_own in
     λ l d z.
     let x = c.if-added-offset.false in
     let q = c.ranges in
-    in_range l a.table.now a.rec a.path.now c.requires w.result (w.ensures a.table.now (lookup (table_in a.table.now a.rec) a.path.now) (lookup (tree_in l) a.path.now) g.ensures (listed_not_own l a.path.now)) a.offset a.added d z (c.if-not-own.false) (omega arith)
+    in_range l a.table.now a.rec a.path.now c.requires w.result (w.ensures a.table.now (lookup (table_in a.table.now a.rec) a.path.now) (lookup (tree_in l) a.path.now) g.ensures (listed_not_own l a.path.now)) a.offset a.added d z (c.if-not-is_own.false) (omega arith)

@@ -1,28 +1,10 @@
--- `needed_listed` meets its contract: each case of what is found says how many bytes are needed.
-use mathlib.Core.Path.{refl}
-use Rattle.check_content.proofs.Owned.{by_found}
+-- `needed_listed` meets its contract: a listed file's size is needed, and no listed file is an own one.
+use Rattle.model.specs.Map.{lookup}
+use Rattle.model.specs.Listing.{tree_in}
+use Rattle.check_content.proofs.Owned.{listed_not_own, listed_size}
 use Rattle.check_content.proofs.needed_listed.Goals as goal
 
-pub returns-in-Directory : goal.returns-in-Directory
-returns-in-Directory c =
+pub returns-in-Some-File : goal.returns-in-Some-File
+returns-in-Some-File c =
     let a = c.args in
-    let f = c.find-found in
-    by_found a.listing.now a.path.now f.result _ f.ensures c.in-Directory.is _ refl
-
-pub returns-in-File : goal.returns-in-File
-returns-in-File c =
-    let a = c.args in
-    let f = c.find-found in
-    by_found a.listing.now a.path.now f.result _ f.ensures c.in-File.is _ refl
-
-pub returns-in-Link : goal.returns-in-Link
-returns-in-Link c =
-    let a = c.args in
-    let f = c.find-found in
-    by_found a.listing.now a.path.now f.result _ f.ensures c.in-Link.is _ refl
-
-pub returns-in-Absent : goal.returns-in-Absent
-returns-in-Absent c =
-    let a = c.args in
-    let f = c.find-found in
-    by_found a.listing.now a.path.now f.result _ f.ensures c.in-Absent.is _ refl
+    listed_size (lookup (tree_in a.listing.now) a.path.now) _ _ _ c.in-Some-File.field-0-is c.in-Some-File.ensures (listed_not_own a.listing.now a.path.now)

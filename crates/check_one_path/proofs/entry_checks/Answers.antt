@@ -1,34 +1,19 @@
--- `entry_checks` meets its contract: what its path's entry says decides, and without one the parents and what is visible.
-use Rattle.check_judged.specs.Judged.{check_of}
-use Rattle.check_one_path.proofs.Asked.{by_entry}
+-- `entry_checks` meets its contract: what the path's entry shows decides.
+use Rattle.std.proofs.Common.{◌∙◌, length}
+use Rattle.model.specs.Map.{lookup}
+use Rattle.model.specs.Table.{table_in}
+use Rattle.model.specs.Outcome.{shown_in}
+use Rattle.check_one_path.specs.Change.{visible_checks}
+use Rattle.check_one_path.proofs.Asked.{by_entry, by_none}
 use Rattle.check_one_path.proofs.entry_checks.Goals as goal
 
-pub returns-in-File : goal.returns-in-File
-returns-in-File c =
+pub returns-in-Some : goal.returns-in-Some
+returns-in-Some c =
     let a = c.args in
-    let g = c.get-entry in
-    by_entry a.change a.listing.now a.table.now a.rec a.path.now g.result _ g.ensures c.in-File.is (check_of c.check_target.result) c.check_target.ensures
+    by_entry a.change (length a.path.now) a.table.now (lookup (table_in a.table.now a.rec) a.path.now) _ c.in-Some.ensures _
+    (c.of_entry.ensures a.table.now) _ (visible_checks a.change (shown_in a.listing.now a.table.now a.rec) a.path.now) c.check_target.ensures
 
-pub returns-in-RealFileRef : goal.returns-in-RealFileRef
-returns-in-RealFileRef c =
+pub returns-in-None : goal.returns-in-None
+returns-in-None c =
     let a = c.args in
-    let g = c.get-entry in
-    by_entry a.change a.listing.now a.table.now a.rec a.path.now g.result _ g.ensures c.in-RealFileRef.is (check_of c.check_target-in-RealFileRef.result) c.check_target-in-RealFileRef.ensures
-
-pub returns-in-Directory : goal.returns-in-Directory
-returns-in-Directory c =
-    let a = c.args in
-    let g = c.get-entry in
-    by_entry a.change a.listing.now a.table.now a.rec a.path.now g.result _ g.ensures c.in-Directory.is (check_of c.check_target-in-Directory.result) c.check_target-in-Directory.ensures
-
-pub returns-in-Deleted : goal.returns-in-Deleted
-returns-in-Deleted c =
-    let a = c.args in
-    let g = c.get-entry in
-    by_entry a.change a.listing.now a.table.now a.rec a.path.now g.result _ g.ensures c.in-Deleted.is (check_of c.check_target-in-Deleted.result) c.check_target-in-Deleted.ensures
-
-pub returns-in-Absent : goal.returns-in-Absent
-returns-in-Absent c =
-    let a = c.args in
-    let g = c.get-entry in
-    by_entry a.change a.listing.now a.table.now a.rec a.path.now g.result _ g.ensures c.in-Absent.is (check_of c.visible_checks.result) c.visible_checks.ensures
+    c.visible_checks.ensures ∙ by_none a.change (length a.path.now) (lookup (table_in a.table.now a.rec) a.path.now) c.in-None.ensures _

@@ -1,6 +1,6 @@
 -- `overlay_dirs_to_create` meets its contract. The loop's invariant: the ancestors from the cursor on are judged as all are, and the missing ones
 -- among them follow the ends found so far. The measure is how many bytes are to come.
-use mathlib.Core.Path.{ap, sym, ◌∙◌}
+use mathlib.Core.Path.{refl, ap, ◌∙◌}
 use native.Mathlib.Omega.{arith}
 use lib.ListN.{length}
 use borrow.Author.Rules.{rules}
@@ -9,11 +9,13 @@ use Rattle.model.specs.Listing.{tree_in}
 use Rattle.model.specs.Table.{table_in}
 use Rattle.model.proofs.Codec.{path_short}
 use Rattle.view_at.specs.Sight.{visible_kind}
-use Rattle.check_judged.specs.Judged.{check_of}
 use Rattle.base_paths.specs.Dirs.{ends_of, climbs}
-use Rattle.check_judged.proofs.Checked.{refused_not_passed}
+use Rattle.std.proofs.lemmas.Result.{IfOk-from_err}
+use Rattle.model.specs.Checks.{pass}
+use Rattle.check_judged.proofs.Thens.{told_at}
+use Rattle.check_judged.proofs.Checked.{refusal_refuses}
 use Rattle.check_parents.proofs.Parents.{along_first, along_look, along_next}
-use Rattle.check_parents.proofs.Missing.{going_first, going_last, going_climbed, going_room, going_stop, going_next}
+use Rattle.check_parents.proofs.Missing.{going_first, going_last, going_room, going_stop, going_next}
 use Rattle.check_parents.proofs.overlay_dirs_to_create.Goals as goal
 
 pub loop-end-init : goal.loop-end-init
@@ -34,20 +36,22 @@ look-seen-requires c =
     let a = c.args in
     record { sees = l.invariant.1.sees; end_nonzero = along_look a.listing.now a.table.now a.rec a.path.now l.sight l.end l.invariant.1 (search rules) }
 
-pub returns-then-is_refused : goal.returns-then-is_refused
-returns-then-is_refused c =
+pub returns-in_err-check_ancestor : goal.returns-in_err-check_ancestor
+returns-in_err-check_ancestor c =
     let l = c.loop-end in
     let a = c.args in
-    let d = c.is_refused in
-    let k = c.check_ancestor-judged in
+    let e = c.in_err-check_ancestor in
+    let j = c.from_residual in
     let g = kind (shown (table_in a.table.now a.rec) (tree_in a.listing.now)) in
-    let p = a.path.now in
-    let es = ends_of l.dirs in
-    let n = l.dirs.count in
     let x = visible_kind c.look-seen.result.visible in
-    let r = sym d.ensures ∙ c.if-is_refused.true in
-    let h = going_room g p l.end es n l.invariant.2 l.invariant.1.slash (search rules) in
-    record { judged_value = going_stop g p l.end es n l.invariant.2 l.invariant.1.slash (search rules) x c.look-seen.ensures.visible_value (check_of k.result) k.ensures r; dirs_value = λ e. absurd (refused_not_passed (check_of k.result) r e); count_bound = (omega (arith, h), going_climbed g p l.end es n l.invariant.2) }
+    record {
+      judged_value =
+          told_at _ _ j.ensures.1
+          ∙ going_stop g a.path.now l.end (ends_of l.dirs) l.dirs.count l.invariant.2 l.invariant.1.slash (search rules) x
+          c.look-seen.ensures.visible_value _ e.ensures (refusal_refuses _);
+      dirs_value = IfOk-from_err j.result _ j.ensures.0;
+      count_bound = IfOk-from_err j.result _ j.ensures.0;
+    }
 
 pub with_ancestor-dirs-requires : goal.with_ancestor-dirs-requires
 with_ancestor-dirs-requires c =
@@ -63,8 +67,6 @@ pub loop-end-preserved : goal.loop-end-preserved
 loop-end-preserved c =
     let n = c.next_ancestor-end-in-loop-end in
     let w = c.with_ancestor-dirs in
-    let d = c.is_refused in
-    let k = c.check_ancestor-judged in
     let l = c.loop-end in
     let a = c.args in
     let g = kind (shown (table_in a.table.now a.rec) (tree_in a.listing.now)) in
@@ -73,7 +75,7 @@ loop-end-preserved c =
       along_next a.listing.now a.table.now a.rec a.path.now l.sight l.end l.invariant.1 (search rules) c.look-seen.result.sight
           n.result c.look-seen.ensures.sees_2 n.ensures.value n.ensures.lower_bound.0 n.ensures.lower_bound.1,
       going_next g a.path.now l.end (ends_of l.dirs) l.dirs.count l.invariant.2 l.invariant.1.slash (search rules) x c.look-seen.ensures.visible_value
-          (check_of k.result) k.ensures n.result (ends_of w.result) w.result.count (sym d.ensures ∙ c.if-is_refused.false) n.ensures.value
+          pass c.in_ok-check_ancestor.ensures n.result (ends_of w.result) w.result.count refl n.ensures.value
           n.ensures.lower_bound.0 n.ensures.lower_bound.1 w.ensures.result_value w.ensures.count_bound,
     )
 
@@ -91,4 +93,4 @@ returns c =
     let g = kind (shown (table_in a.table.now a.rec) (tree_in a.listing.now)) in
     let p = a.path.now in
     let z = going_last g p l.end (ends_of l.dirs) l.dirs.count l.invariant.2 (search rules) l.invariant.0 in
-    record { judged_value = z.0; dirs_value = λ e. w.ensures.result_value ∙ z.1; count_bound = (omega (arith, z.2, w.ensures.count_value), ap (climbs 0 (length p)) w.ensures.result_value ∙ z.3) }
+    record { judged_value = z.0; dirs_value = w.ensures.result_value ∙ z.1; count_bound = (omega (arith, z.2, w.ensures.count_value), ap (climbs 0 (length p)) w.ensures.result_value ∙ z.3) }

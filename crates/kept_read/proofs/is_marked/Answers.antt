@@ -16,5 +16,5 @@ slice_bounds-mark-end c = sym (length-take-le 3 c.args.file.now (omega arith))
 pub returns : goal.returns
 returns c =
     let s = c.args.file.now in
-    by_mark s (bytes_of s (λ i. omega (arith, c.shared_slice_known-1.given i))) (search rules) c.is_same.ensures
+    by_mark s (bytes_of s (λ i. omega (arith, c.type_inv.file i))) (search rules) c.is_same.ensures
     c.le16.ensures.0

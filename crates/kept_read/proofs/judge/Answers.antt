@@ -53,7 +53,7 @@ returns-then-len-entries c =
     let s = a.file.now in
     let it = no_room s a.len (search rules) c.is_marked.ensures (ap not c.if-not-is_marked.false) c.is_framed.ensures (ap not c.if-not-is_framed.false)
     c.listing_part-listing.ensures c.check.ensures (ap not c.if-not-check.false) c.entries_part-entries.ensures c.record_in.ensures _
-    c.in-Whole.is (bytes_of s (λ k. omega (arith, c.shared_slice_known-1.given k))) c.if-len-entries.true in
+    c.in-Some.is (bytes_of s (λ i. omega (arith, c.type_inv.file i))) c.if-len-entries.true in
     record { result_value = it.0; result_value_2 = it.1 }
 
 pub returns : goal.returns
@@ -62,5 +62,5 @@ returns c =
     let s = a.file.now in
     let it = accepts s a.len (search rules) c.is_marked.ensures (ap not c.if-not-is_marked.false) c.is_framed.ensures (ap not c.if-not-is_framed.false)
     c.listing_part-listing.ensures c.check.ensures (ap not c.if-not-check.false) c.entries_part-entries.ensures c.record_in.ensures _
-    c.in-Whole.is (bytes_of s (λ k. omega (arith, c.shared_slice_known-1.given k))) (search rules) in
+    c.in-Some.is (bytes_of s (λ i. omega (arith, c.type_inv.file i))) (search rules) in
     record { result_value = it.0; result_value_2 = it.1 }

@@ -3,43 +3,22 @@ use mathlib.Core.Path.{refl}
 use Rattle.kept_read.proofs.Answers.{unchanged, done_framed, done_fits, done}
 use Rattle.kept_read.proofs.read.Goals as goal
 
+pub returns-in_err-content-clause-table_after : goal.returns-in_err-content-clause-table_after
+returns-in_err-content-clause-table_after c =
+    let a = c.args in
+    unchanged a.file.now a.table.now (c.judge.ensures.result_value_2 _ refl) c.in_err-content.was
+
 pub entries_part-requires : goal.entries_part-requires
 entries_part-requires c =
     let a = c.args in
-    done_framed a.file.now a.table.now c.in-Done.is (c.judge.ensures.result_value, c.judge.ensures.result_value_2) refl
+    done_framed a.file.now a.table.now (c.judge.ensures.result_value_2 _ refl) c.in_ok-content.was
 
 pub fill-requires : goal.fill-requires
 fill-requires c =
     let a = c.args in
-    done_fits a.file.now a.table.now c.in-Done.is (c.judge.ensures.result_value, c.judge.ensures.result_value_2) refl c.entries_part.ensures
+    done_fits a.file.now a.table.now (c.judge.ensures.result_value_2 _ refl) c.in_ok-content.was c.entries_part.ensures
 
-pub returns-in-Done : goal.returns-in-Done
-returns-in-Done c =
+pub returns-clause-table_after : goal.returns-clause-table_after
+returns-clause-table_after c =
     let a = c.args in
-    let it = done a.file.now a.table.now c.in-Done.is (c.judge.ensures.result_value, c.judge.ensures.result_value_2) refl c.entries_part.ensures
-    c.fill.ensures in
-    record { result_value = it.0; result_value_2 = it.1.0; table_after = it.1.1 }
-
-pub returns-in-LongTable : goal.returns-in-LongTable
-returns-in-LongTable c =
-    let a = c.args in
-    let it = unchanged a.file.now a.table.now c.in-LongTable.is (c.judge.ensures.result_value, c.judge.ensures.result_value_2) refl in
-    record { result_value = it.0; result_value_2 = it.1.0; table_after = it.1.1 }
-
-pub returns-in-NotKept : goal.returns-in-NotKept
-returns-in-NotKept c =
-    let a = c.args in
-    let it = unchanged a.file.now a.table.now c.in-NotKept.is (c.judge.ensures.result_value, c.judge.ensures.result_value_2) refl in
-    record { result_value = it.0; result_value_2 = it.1.0; table_after = it.1.1 }
-
-pub returns-in-Damaged : goal.returns-in-Damaged
-returns-in-Damaged c =
-    let a = c.args in
-    let it = unchanged a.file.now a.table.now c.in-Damaged.is (c.judge.ensures.result_value, c.judge.ensures.result_value_2) refl in
-    record { result_value = it.0; result_value_2 = it.1.0; table_after = it.1.1 }
-
-pub returns-in-NoRoom : goal.returns-in-NoRoom
-returns-in-NoRoom c =
-    let a = c.args in
-    let it = unchanged a.file.now a.table.now c.in-NoRoom.is (c.judge.ensures.result_value, c.judge.ensures.result_value_2) refl in
-    record { result_value = it.0; result_value_2 = it.1.0; table_after = it.1.1 }
+    done a.file.now a.table.now (c.judge.ensures.result_value_2 _ refl) c.in_ok-content.was c.entries_part.ensures c.fill.ensures

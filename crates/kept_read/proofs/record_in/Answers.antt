@@ -8,19 +8,19 @@ returns-then-entries-gt-MAX_BUFFER c =
     let a = c.args in
     too_long a.entry_size a.entries.now c.if-entries-gt-MAX_BUFFER.true
 
-pub returns-in_default : goal.returns-in_default
-returns-in_default c =
+pub returns-in_err-record : goal.returns-in_err-record
+returns-in_err-record c =
     let a = c.args in
-    not_whole a.entry_size a.entries.now (sym c.in_default.is ∙ c.sum_entries.ensures)
+    rw c.from_residual.ensures (not_whole a.entry_size a.entries.now (sym c.in_err-record.was ∙ c.sum_entries.ensures))
 
 pub returns-then-check : goal.returns-then-check
 returns-then-check c =
     let a = c.args in
-    table_is a.entry_size a.entries.now _ (sym c.in-Whole.is ∙ c.sum_entries.ensures) c.check.ensures
+    table_is a.entry_size a.entries.now _ (sym c.in_ok-record.was ∙ c.sum_entries.ensures) c.check.ensures
     c.if-check.true
 
-pub returns : goal.returns
-returns c =
+pub returns-else-check : goal.returns-else-check
+returns-else-check c =
     let a = c.args in
-    no_table a.entry_size a.entries.now _ (sym c.in-Whole.is ∙ c.sum_entries.ensures) c.check.ensures
+    no_table a.entry_size a.entries.now _ (sym c.in_ok-record.was ∙ c.sum_entries.ensures) c.check.ensures
     c.if-check.false

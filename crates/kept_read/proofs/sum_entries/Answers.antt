@@ -10,29 +10,8 @@ loop-at-init c =
     let a = c.args in
     started a.entry_size a.entries.now
 
-pub overflow_add-at : goal.overflow_add-at
-overflow_add-at c = omega arith
-
 pub returns-then-entries-at : goal.returns-then-entries-at
 returns-then-entries-at c = headless c.loop-at.invariant c.loop-at-test.true c.if-entries-at.true
-
-pub le16-n-requires : goal.le16-n-requires
-le16-n-requires c = omega arith
-
-pub overflow_add-at-in-loop-at : goal.overflow_add-at-in-loop-at
-overflow_add-at-in-loop-at c = omega arith
-
-pub le32-m-requires : goal.le32-m-requires
-le32-m-requires c = omega arith
-
-pub overflow_add-end : goal.overflow_add-end
-overflow_add-end c = omega arith
-
-pub overflow_add-end-in-loop-at : goal.overflow_add-end-in-loop-at
-overflow_add-end-in-loop-at c = omega arith
-
-pub overflow_add-end-in-loop-at-2 : goal.overflow_add-end-in-loop-at-2
-overflow_add-end-in-loop-at-2 c = omega arith
 
 pub returns-then-entries-end : goal.returns-then-entries-end
 returns-then-entries-end c =
@@ -41,12 +20,6 @@ returns-then-entries-end c =
 
 pub overflow_add-charge : goal.overflow_add-charge
 overflow_add-charge c = omega (arith, c.entry_memory_usage-charge.ensures.value)
-
-pub overflow_add-count : goal.overflow_add-count
-overflow_add-count c = omega arith
-
-pub loop-at-smaller : goal.loop-at-smaller
-loop-at-smaller c = omega arith
 
 pub loop-at-preserved : goal.loop-at-preserved
 loop-at-preserved c =

@@ -7,44 +7,30 @@ use Rattle.rename_checks.proofs.Passed.{kind_whole}
 use Rattle.least_rename.proofs.Reporting.{move_stopped, move_known}
 use Rattle.least_rename.proofs.report_move.Goals as goal
 
-pub directory_need-needed-requires : goal.directory_need-needed-requires
-directory_need-needed-requires c =
+pub directory_need-requires-clause-source_value_2 :
+    goal.directory_need-requires-clause-source_value_2
+directory_need-requires-clause-source_value_2 c =
     let a = c.args in
-    let t = table_in a.table.now a.rec in
-    let l = tree_in a.listing.now in
-    let p = c.requires in
-    let v = c.visible_at-visible in
-    let d = c.is_directory-whole in
-    let k = kind_whole t l a.source.now a.destination.now p.early_passed (visible_kind v.result) v.ensures d.result d.ensures in
-    record { given = p.given; source_value = p.source_value; source_value_2 = k }
+    kind_whole (table_in a.table.now a.rec) (tree_in a.listing.now) a.source.now a.destination.now c.requires.early_passed
+    (visible_kind c.visible_at-visible.result) c.visible_at-visible.ensures c.is_directory-whole.result c.is_directory-whole.ensures
 
-pub returns-in-Stopped : goal.returns-in-Stopped
-returns-in-Stopped c =
+pub returns-in_err-need : goal.returns-in_err-need
+returns-in_err-need c =
     let a = c.args in
-    let t = table_in a.table.now a.rec in
-    let l = tree_in a.listing.now in
-    let n = c.directory_need-needed in
-    move_stopped a.rec.entry_size t l a.source.now a.destination.now a.rec.used c.requires.early_passed n.result n.ensures.needed_for
-    c.in-Stopped.is
+    rw c.from_residual.ensures
+    (move_stopped a.rec.entry_size (table_in a.table.now a.rec) (tree_in a.listing.now) a.source.now a.destination.now a.rec.used c.requires.early_passed c.in_err-need.ensures.needed_for)
 
-pub foretell-projected-requires : goal.foretell-projected-requires
-foretell-projected-requires c =
+pub foretell-projected-requires-clause-source_value_2 :
+    goal.foretell-projected-requires-clause-source_value_2
+foretell-projected-requires-clause-source_value_2 c =
     let a = c.args in
-    let t = table_in a.table.now a.rec in
-    let l = tree_in a.listing.now in
-    let p = c.requires in
-    let v = c.visible_at-visible in
-    let d = c.is_directory-whole in
-    let k = kind_whole t l a.source.now a.destination.now p.early_passed (visible_kind v.result) v.ensures d.result d.ensures in
-    record { given = p.given; source_value = p.source_value; early_passed = p.early_passed; source_value_2 = k }
+    kind_whole (table_in a.table.now a.rec) (tree_in a.listing.now) a.source.now a.destination.now c.requires.early_passed
+    (visible_kind c.visible_at-visible.result) c.visible_at-visible.ensures c.is_directory-whole.result c.is_directory-whole.ensures
 
-pub returns-in-Limit : goal.returns-in-Limit
-returns-in-Limit c =
+pub returns : goal.returns
+returns c =
     let a = c.args in
-    let t = table_in a.table.now a.rec in
-    let l = tree_in a.listing.now in
-    let n = c.directory_need-needed in
     let f = c.foretell-projected in
-    move_known a.rec.entry_size t l a.source.now a.destination.now a.rec.used c.requires.early_passed
-    (decoded a.table.now a.rec c.requires.given.table_is).size_most n.result n.ensures.needed_for n.ensures.at_most _ c.in-Limit.is
+    move_known a.rec.entry_size (table_in a.table.now a.rec) (tree_in a.listing.now) a.source.now a.destination.now a.rec.used c.requires.early_passed
+    (decoded a.table.now a.rec c.requires.given.table_is).size_most c.in_ok-need.need c.in_ok-need.ensures.needed_for c.in_ok-need.ensures.at_most
     f.result f.ensures c.report_of.result c.report_of.ensures

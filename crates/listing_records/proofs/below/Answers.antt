@@ -1,61 +1,35 @@
 -- `below` meets its contract: the records below the directory are gathered, and end at the first record that is not below it.
 use native.Mathlib.Omega.{arith}
-use borrow.Author.Rules.{rules}
-use Rattle.model.proofs.Listings.{checked}
+use Prim.Native.Nat.{◌-◌, ◌<◌}
 use Rattle.listing_records.proofs.Places.{stands}
-use Rattle.listing_records.proofs.Parts.{begin, yes, ended, no, done}
+use Rattle.listing_records.proofs.Parts.{yes, ended, no, done}
 use Rattle.listing_records.proofs.below.Goals as goal
-
-pub le32-left-requires : goal.le32-left-requires
-le32-left-requires c = (checked c.args.listing.now c.requires).long
-
-pub loop-left-init : goal.loop-left-init
-loop-left-init c = begin c.args.listing.now c.args.dir.now c.le32-left.result c.requires c.le32-left.ensures.0 c.le32-left.ensures.1
-
-pub overflow_add-start : goal.overflow_add-start
-overflow_add-start c = omega (arith, (let l = c.loop-left in stands c.args.listing.now l.left l.at c.loop-left-test.true l.invariant.stand).head)
+use Rattle.listing_records.proofs.below.Goals.{then-is_below, else-is_below+then-n-eq0}
 
 pub le16-requires : goal.le16-requires
-le16-requires c = omega (arith, (let l = c.loop-left in stands c.args.listing.now l.left l.at c.loop-left-test.true l.invariant.stand).head)
-
-pub overflow_add-to : goal.overflow_add-to
-overflow_add-to c = omega (arith, (let l = c.loop-left in stands c.args.listing.now l.left l.at c.loop-left-test.true l.invariant.stand).end)
+le16-requires c =
+    let l = c.loop in
+    omega (arith, (stands c.args.listing.now (c.le32-count.result - l.counter) l.at (omega arith) l.invariant.stand).head)
 
 pub slice_bounds-part-end : goal.slice_bounds-part-end
-slice_bounds-part-end c = omega (arith, (let l = c.loop-left in stands c.args.listing.now l.left l.at c.loop-left-test.true l.invariant.stand).end, c.le16.ensures.0)
+slice_bounds-part-end c =
+    let l = c.loop in
+    omega (arith, (stands c.args.listing.now (c.le32-count.result - l.counter) l.at (omega arith) l.invariant.stand).end, c.le16.ensures.0)
 
-pub overflow_add-n : goal.overflow_add-n
-overflow_add-n c = omega (arith, c.loop-left.invariant.few)
+pub loop-preserved : goal.loop-preserved
+loop-preserved c =
+    let l = c.loop in
+    let left = c.le32-count.result - l.counter in
+    let more : 0 < left = omega arith in
+    elim c.if-is_below.branch [
+      | then-is_below w ↦ rw (w.from-is, w.n-is) (yes l.invariant more c.le16.ensures.0 c.is_below.ensures (omega arith) w.if-is_below.true)
+      | else-is_below+then-n-eq0 w ↦
+          rw (w.from-is, w.n-is) (no l.invariant more c.le16.ensures.0 c.is_below.ensures (omega arith) w.if-is_below.false w.if-n-eq0.true)
+    ]
 
-pub loop-left-preserved-then-is_below : goal.loop-left-preserved-then-is_below
-loop-left-preserved-then-is_below c =
-    let a = c.args in
-    let l = c.loop-left in
-    let m = c.le16 in
-    let q = c.is_below in
-    yes a.listing.now a.dir.now l.left l.from l.at l.n l.invariant c.loop-left-test.true
-    m.result m.ensures.0 q.result q.ensures c.if-is_below.true
+pub returns-after-loop : goal.returns-after-loop
+returns-after-loop c = done c.loop.invariant (omega arith)
 
-pub returns-then-n-gt0 : goal.returns-then-n-gt0
-returns-then-n-gt0 c =
-    let a = c.args in
-    let l = c.loop-left in
-    let m = c.le16 in
-    let q = c.is_below in
-    ended a.listing.now a.dir.now l.left l.from l.at l.n l.invariant c.loop-left-test.true
-    m.result m.ensures.0 q.result q.ensures c.if-is_below.false c.if-n-gt0.true
-
-pub loop-left-preserved : goal.loop-left-preserved
-loop-left-preserved c =
-    let a = c.args in
-    let l = c.loop-left in
-    let m = c.le16 in
-    let q = c.is_below in
-    no a.listing.now a.dir.now l.left l.from l.at l.n l.invariant c.loop-left-test.true
-    m.result m.ensures.0 q.result q.ensures c.if-is_below.false c.if-n-gt0.false
-
-pub returns : goal.returns
-returns c =
-    let a = c.args in
-    let l = c.loop-left in
-    done a.listing.now a.dir.now l.left l.from l.at l.n l.invariant (search rules)
+pub returns-else-n-eq0 : goal.returns-else-n-eq0
+returns-else-n-eq0 c =
+    ended c.loop.invariant (omega arith) c.le16.ensures.0 c.is_below.ensures c.if-is_below.false (omega arith)

@@ -2,13 +2,11 @@
 use Rattle.listing_records.proofs.Places.{standing_all, seek_stands, found_all}
 use Rattle.listing_records.proofs.find_in.Goals as goal
 
-pub seek-place-requires : goal.seek-place-requires
-seek-place-requires c = standing_all c.args.listing.now c.args.count c.requires.0 c.requires.1
-
 pub found_at-requires : goal.found_at-requires
 found_at-requires c =
     let s = c.args.listing.now in
-    seek_stands s c.args.path.now c.args.count 9 (standing_all s c.args.count c.requires.0 c.requires.1) c.seek-place.result c.seek-place.ensures
+    let all = standing_all s c.args.count c.requires.0 c.requires.1 in
+    seek_stands s c.args.path.now c.args.count 9 all c.seek-place.result c.seek-place.ensures
 
 pub returns : goal.returns
 returns c =

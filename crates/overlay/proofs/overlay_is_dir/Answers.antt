@@ -1,13 +1,8 @@
 -- `overlay_is_dir` meets its contract: the answer of the query, packed.
 use Rattle.model.specs.Calls.{is_dir}
 use Rattle.model.specs.Answer.{told_finding}
-use Rattle.overlay.proofs.Leaving.{not_asked, query_fits, query_packed}
+use Rattle.overlay.proofs.Leaving.{query_fits}
 use Rattle.overlay.proofs.overlay_is_dir.Goals as goal
-
-pub returns-then-rec-ne-NUMBERS : goal.returns-then-rec-ne-NUMBERS
-returns-then-rec-ne-NUMBERS c =
-    let a = c.args in
-    not_asked is_dir a.listing.now a.path.now a.table.now a.rec.now c.if-rec-ne-NUMBERS.true
 
 pub pack_finding-requires : goal.pack_finding-requires
 pack_finding-requires c =
@@ -15,11 +10,3 @@ pack_finding-requires c =
     let r = c.record_in in
     let u = c.is_dir-finding in
     query_fits is_dir a.listing.now a.path.now a.table.now a.rec.now c.if-rec-ne-NUMBERS.false r.result r.ensures (told_finding u.result) u.ensures
-
-pub returns : goal.returns
-returns c =
-    let a = c.args in
-    let r = c.record_in in
-    let u = c.is_dir-finding in
-    query_packed is_dir a.listing.now a.path.now a.table.now a.rec.now c.if-rec-ne-NUMBERS.false r.result r.ensures (told_finding u.result) u.ensures
-    c.pack_finding.result c.pack_finding.ensures

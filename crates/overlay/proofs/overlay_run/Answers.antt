@@ -13,7 +13,6 @@ returns c =
     let f = c.if-rec-ne-NUMBERS.false in
     let r = c.record_in-first in
     let u = c.run-ran in
-    let n = c.as_new in
     let s = c.store_and_pack_run in
     run_settled a.listing.now a.table.now a.rec.now a.work.now a.script.now a.report.now f r.result r.ensures
-    u.result _ _ _ u.ensures n.result n.ensures s.result _ s.ensures.value s.ensures.rec_after
+    u.result _ _ _ u.ensures s.result _ s.ensures.value s.ensures.rec_after

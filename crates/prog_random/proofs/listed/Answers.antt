@@ -2,8 +2,8 @@
 use Rattle.std.proofs.Common.{refl, ◌∙◌}
 use Rattle.prog_random.proofs.listed.Goals as goal
 
-pub loop-i-init : goal.loop-i-init
-loop-i-init c = refl
+pub loop-k-init : goal.loop-k-init
+loop-k-init c = refl
 
 pub shape_of-s : goal.shape_of-s
-shape_of-s c = c.head.auto.s ∙ c.loop-i.invariant
+shape_of-s c = c.head.auto.s ∙ c.loop-k.invariant

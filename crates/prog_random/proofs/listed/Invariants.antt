@@ -2,5 +2,5 @@
 use Rattle.std.proofs.Common.{◌≡◌, length}
 use Rattle.prog_random.proofs.listed.Given as goal
 
-abbrev pub invariant-loop-i : goal.invariant-loop-i
-invariant-loop-i l = length l.s ≡ length l.initial.s
+abbrev pub invariant-loop-k : goal.invariant-loop-k
+invariant-loop-k l = length l.s ≡ length l.initial.s

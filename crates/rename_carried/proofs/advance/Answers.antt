@@ -1,6 +1,6 @@
 -- `advance` meets its contract: the stream that was told goes on, and the other one stays.
 use Rattle.rename_carried.proofs.Steps.{went_past_entry, went_past_listed}
-use Rattle.rename_carried.proofs.Items.{entry_there, listed_there, not_ended}
+use Rattle.rename_carried.proofs.Items.{entry_there, listed_there}
 use Rattle.rename_carried.proofs.advance.Goals as goal
 
 pub next_entry-next-requires : goal.next_entry-next-requires
@@ -31,8 +31,3 @@ returns-in-Listed c =
     a.head c.requires.next c.in-Listed.is n.new.flags n.result n.ensures.ready_at_2
     n.ensures.left_lt_left n.ensures.ahead_at in
     record { result_bound = u.fewer; streaming_2 = u.streaming; carrying = u.carrying }
-
-pub returns-in-End : goal.returns-in-End
-returns-in-End c =
-    let a = c.args in
-    absurd (not_ended a.own.now a.part.now a.stream a.head c.requires.next c.in-End.is c.requires.stream_nonzero)

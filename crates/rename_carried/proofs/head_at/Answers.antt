@@ -1,5 +1,6 @@
 -- `head_at` meets its contract: an ended stream is never told, and of two that go on the one with the smaller key is.
 use mathlib.Core.Path.{ap₂, sym, ◌∙◌}
+use Rattle.std.specs.Prelude.{Some, None}
 use native.Mathlib.Omega.{arith}
 use borrow.Author.Rules.{rules}
 use Rattle.model.specs.Bytes.{before}
@@ -10,7 +11,9 @@ use Rattle.rename_carried.proofs.head_at.Goals as goal
 pub returns-then-listed-eq0 : goal.returns-then-listed-eq0
 returns-then-listed-eq0 c =
     let a = c.args in
-    let u = told a.own.now a.part.now a.stream c.requires.standing c.requires.standing_2 next.End (c.if-entries-eq0.true, c.if-listed-eq0.true) in
+    let e = c.if-entries-eq0.true in
+    let f = c.if-listed-eq0.true in
+    let u = told a.own.now a.part.now a.stream c.requires.standing c.requires.standing_2 None (omega arith) in
     record { next = u.next; ending = u.ending; stream_value = u.up }
 
 pub returns-then-entries-eq0 : goal.returns-then-entries-eq0
@@ -18,7 +21,7 @@ returns-then-entries-eq0 c =
     let a = c.args in
     let e = c.if-entries-eq0.true in
     let u =
-    told a.own.now a.part.now a.stream c.requires.standing c.requires.standing_2 next.Listed (search rules, λ h. absurd (omega arith)) in
+    told a.own.now a.part.now a.stream c.requires.standing c.requires.standing_2 (Some next.Listed) (search rules, λ h. absurd (omega arith)) in
     record { next = u.next; ending = u.ending; stream_value = u.up }
 
 pub returns-then-listed-eq0-2 : goal.returns-then-listed-eq0-2
@@ -26,7 +29,7 @@ returns-then-listed-eq0-2 c =
     let a = c.args in
     let e = c.if-listed-eq0-2.true in
     let u =
-    told a.own.now a.part.now a.stream c.requires.standing c.requires.standing_2 next.Entry (search rules, λ h. absurd (omega arith)) in
+    told a.own.now a.part.now a.stream c.requires.standing c.requires.standing_2 (Some next.Entry) (search rules, λ h. absurd (omega arith)) in
     record { next = u.next; ending = u.ending; stream_value = u.up }
 
 pub returns-then-is_before : goal.returns-then-is_before
@@ -36,7 +39,7 @@ returns-then-is_before c =
     let k = c.entry_key-key in
     let b = c.is_before in
     let u =
-    told a.own.now a.part.now a.stream c.requires.standing c.requires.standing_2 next.Entry
+    told a.own.now a.part.now a.stream c.requires.standing c.requires.standing_2 (Some next.Entry)
     (search rules, λ h. sym (ap₂ before k.ensures p.ensures) ∙ sym b.ensures ∙ c.if-is_before.true) in
     record { next = u.next; ending = u.ending; stream_value = u.up }
 
@@ -47,6 +50,6 @@ returns c =
     let k = c.entry_key-key in
     let b = c.is_before in
     let u =
-    told a.own.now a.part.now a.stream c.requires.standing c.requires.standing_2 next.Listed
+    told a.own.now a.part.now a.stream c.requires.standing c.requires.standing_2 (Some next.Listed)
     (search rules, λ h. sym (ap₂ before k.ensures p.ensures) ∙ sym b.ensures ∙ c.if-is_before.false) in
     record { next = u.next; ending = u.ending; stream_value = u.up }

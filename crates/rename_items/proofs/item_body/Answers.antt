@@ -1,6 +1,6 @@
 -- `item_body` meets its contract: what is told to be next gives the body, and something is next.
 use Rattle.model.specs.Listing.{record_at}
-use Rattle.rename_carried.proofs.Items.{entry_there, listed_there, not_ended}
+use Rattle.rename_carried.proofs.Items.{entry_there, listed_there}
 use Rattle.rename_items.proofs.Listed.{file_body, no_body}
 use Rattle.rename_items.proofs.Told.{node_there, entry_body, listed_body}
 use Rattle.rename_items.proofs.item_body.Goals as goal
@@ -33,16 +33,10 @@ returns-then-is_file c =
     (file_body (record_at a.part.now a.stream.listed.at) c.node_at-found.result x.result c.node_at-found.ensures x.ensures
     c.if-is_file.true _ c.record_path-path.ensures)
 
-pub returns-in-Listed : goal.returns-in-Listed
-returns-in-Listed c =
+pub returns-else-is_file : goal.returns-else-is_file
+returns-else-is_file c =
     let a = c.args in
     let x = c.is_file in
     listed_body a.own.now a.part.now a.stream a.head c.in-Listed.is _
     (no_body (record_at a.part.now a.stream.listed.at) c.node_at-found.result x.result c.node_at-found.ensures x.ensures
     c.if-is_file.false)
-
-pub returns-in-End : goal.returns-in-End
-returns-in-End c =
-    let a = c.args in
-    absurd
-    (not_ended a.own.now a.part.now a.stream a.head c.requires.next c.in-End.is c.requires.stream_nonzero)

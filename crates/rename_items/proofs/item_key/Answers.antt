@@ -1,5 +1,5 @@
 -- `item_key` meets its contract: what is told to be next gives the key, and something is next.
-use Rattle.rename_carried.proofs.Items.{entry_there, listed_there, not_ended}
+use Rattle.rename_carried.proofs.Items.{entry_there, listed_there}
 use Rattle.rename_items.proofs.Told.{entry_key, listed_key}
 use Rattle.rename_items.proofs.item_key.Goals as goal
 
@@ -22,9 +22,3 @@ pub returns-in-Listed : goal.returns-in-Listed
 returns-in-Listed c =
     let a = c.args in
     listed_key a.own.now a.part.now a.stream a.head c.in-Listed.is _ c.record_path.ensures
-
-pub returns-in-End : goal.returns-in-End
-returns-in-End c =
-    let a = c.args in
-    absurd
-    (not_ended a.own.now a.part.now a.stream a.head c.requires.next c.in-End.is c.requires.stream_nonzero)

@@ -2,7 +2,7 @@
 use mathlib.Core.Path.{refl}
 use native.Mathlib.Omega.{arith}
 use Rattle.model.specs.Tree.{deleted}
-use Rattle.rename_measure.proofs.Foretelling.{not_first, small_put, deletions_whole, deletions_alone}
+use Rattle.rename_measure.proofs.Foretelling.{small_put, deletions_whole, deletions_alone}
 use Rattle.rename_measure.proofs.all_deletions.Goals as goal
 
 pub returns-then-whole : goal.returns-then-whole
@@ -16,13 +16,8 @@ returns-then-whole c =
       small = g.ensures.small;
     }
 
-pub projected_record-requires : goal.projected_record-requires
-projected_record-requires c =
-    let p = c.requires in
-    record { rec_value = p.rec_value; key_value = (not_first c.args.source.now p.source_nonzero.0, p.source_nonzero.1, omega arith) }
-
-pub returns : goal.returns
-returns c =
+pub returns-else-whole : goal.returns-else-whole
+returns-else-whole c =
     let a = c.args in
     let p = c.requires in
     let g = c.projected_record in

@@ -13,8 +13,8 @@ returns-then-whole c =
       small = g.ensures.small;
     }
 
-pub returns : goal.returns
-returns c =
+pub returns-else-whole : goal.returns-else-whole
+returns-else-whole c =
     let a = c.args in
     let p = c.requires in
     let g = c.one_move in

@@ -18,7 +18,7 @@ returns c =
     let a = c.args in
     let f = c.first_entry-begin in
     let p = c.projected-next in
-    let i = c.is_short-fits in
+    let i = c.is_short in
     record {
       measured = first_counted a.table.now a.destination.now a.m a.rec f.result f.ensures.value p.result.place p.result.rec
           p.ensures;

@@ -3,8 +3,8 @@ use Rattle.rename_carried.specs.Streams.{remaining}
 use Rattle.rename_measure.proofs.Deleting.{Deleting}
 use Rattle.rename_measure.proofs.measure_deletions.Given as goal
 
-abbrev pub invariant-loop-place : goal.invariant-loop-place
-invariant-loop-place l = Deleting l.own l.part l.table l.source l.rec l.count l.records l.initial.stream l.flags l.place l.after l.stream
+abbrev pub invariant-loop-head : goal.invariant-loop-head
+invariant-loop-head l = Deleting l.own l.part l.table l.source l.rec l.count l.records l.initial.stream l.flags l.place l.after l.stream
 
-abbrev pub decreases-loop-place : goal.decreases-loop-place
-decreases-loop-place l = remaining l.stream
+abbrev pub decreases-loop-head : goal.decreases-loop-head
+decreases-loop-head l = remaining l.stream

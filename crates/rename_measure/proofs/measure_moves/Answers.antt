@@ -1,21 +1,13 @@
 -- `measure_moves` meets its contract: each turn of the loop counts one moved entry more.
+use Rattle.std.proofs.lemmas.Option.{MatchOption-at_some}
+use Rattle.rename_carried.proofs.Items.{at_end}
 use Rattle.rename_measure.proofs.Putting.{size_small, some_entry, as_long}
 use Rattle.rename_measure.proofs.Streamed.{item_short, item_longer}
 use Rattle.rename_measure.proofs.Moving.{moving_begun, moving_counts, moving_extra, moving_over, moving_on}
 use Rattle.rename_measure.proofs.measure_moves.Goals as goal
 
-pub first_move-tally-requires : goal.first_move-tally-requires
-first_move-tally-requires c =
-    let p = c.requires in let q = p.destination_nonzero in
-    record { rec_value = p.rec_value; destination_len_bound = (q.1, q.2) }
-
-pub first-stream-requires : goal.first-stream-requires
-first-stream-requires c =
-    let p = c.requires in
-    record { flags_len = p.flags_len; rec_value = p.rec_value; standing = p.standing; count_value = p.count_value; part_below = p.part_below }
-
-pub loop-stream-init : goal.loop-stream-init
-loop-stream-init c =
+pub loop-head-init : goal.loop-head-init
+loop-head-init c =
     let a = c.args in
     let f = c.first-stream in
     let t = c.first_move-tally in
@@ -26,10 +18,10 @@ loop-stream-init c =
     c.requires.rec_value (p.0, p.1) f.ensures.streaming f.ensures.result_bound f.ensures.carrying a.first_len p.2 l t.result t.ensures.measured
     t.ensures.extra_value
 
-pub head_at-head-requires : goal.head_at-head-requires
-head_at-head-requires c =
+pub head_at-requires : goal.head_at-requires
+head_at-requires c =
     let n = c.args.first_len in
-    let w = (c.loop-stream.invariant (some_entry n) (as_long n)).streaming in
+    let w = (c.loop-head.invariant (some_entry n) (as_long n)).streaming in
     record { standing = w.entries; standing_2 = w.listed.stand }
 
 pub with_move-tally-requires : goal.with_move-tally-requires
@@ -37,14 +29,12 @@ with_move-tally-requires c =
     let a = c.args in
     let n = a.first_len in
     let v = some_entry n in
-    let l = c.loop-stream in
+    let l = c.loop-head in
     let f = c.first-stream in
     let m = l.invariant v (as_long n) in
     let w = m.streaming in
-    let h = c.head_at-head in
-    let z = c.has_next.ensures.0 c.loop-stream-test.true in
-    let s = item_short a.own.now a.part.now a.table.now a.source.now l.flags l.stream w h.result h.ensures.next in
-    let o = item_longer a.own.now a.part.now a.table.now a.source.now l.flags l.stream w h.result h.ensures.next z in
+    let s = item_short a.own.now a.part.now a.table.now a.source.now l.flags l.stream w c.in-Some.head (MatchOption-at_some _ _ c.in-Some.head c.in-Some.is c.head_at.ensures.next) in
+    let o = item_longer a.own.now a.part.now a.table.now a.source.now l.flags l.stream w c.in-Some.head (MatchOption-at_some _ _ c.in-Some.head c.in-Some.is c.head_at.ensures.next) in
     record {
       counts = moving_counts a.own.now a.part.now a.table.now a.source.now a.destination.now v a.rec a.count a.records
           f.result l.flags l.tally l.stream m c.requires.rec_value c.requires.standing c.requires.part_below;
@@ -55,38 +45,33 @@ with_move-tally-requires c =
       );
       standing = w.entries;
       standing_2 = w.listed.stand;
-      next = h.ensures.next;
-      stream_nonzero = z;
+      next = MatchOption-at_some _ _ c.in-Some.head c.in-Some.is c.head_at.ensures.next;
       source_in_bounds = (o, s.0, s.1);
     }
 
 pub advance-stream-requires : goal.advance-stream-requires
 advance-stream-requires c =
     let n = c.args.first_len in
-    let w = (c.loop-stream.invariant (some_entry n) (as_long n)).streaming in
-    record { streaming = w; next = c.head_at-head.ensures.next; stream_nonzero = c.has_next.ensures.0 c.loop-stream-test.true }
+    let w = (c.loop-head.invariant (some_entry n) (as_long n)).streaming in
+    record { streaming = w; next = MatchOption-at_some _ _ c.in-Some.head c.in-Some.is c.head_at.ensures.next }
 
-pub loop-stream-smaller : goal.loop-stream-smaller
-loop-stream-smaller c = c.advance-stream.ensures.result_bound
-
-pub loop-stream-preserved : goal.loop-stream-preserved
-loop-stream-preserved c =
+pub loop-head-preserved : goal.loop-head-preserved
+loop-head-preserved c =
     let a = c.args in
     let y = c.advance-stream in
     let t = c.with_move-tally in
-    let h = c.head_at-head in
-    let l = c.loop-stream in
+    let l = c.loop-head in
     let f = c.first-stream in
     λ v n.
     moving_on a.own.now a.part.now a.table.now a.source.now a.destination.now v a.rec a.count a.records f.result
-    l.flags l.tally l.stream (l.invariant v n) h.result h.ensures.next t.result t.ensures
+    l.flags l.tally l.stream (l.invariant v n) c.in-Some.head (MatchOption-at_some _ _ c.in-Some.head c.in-Some.is c.head_at.ensures.next) t.result t.ensures
     y.new.flags y.result y.ensures.streaming_2 y.ensures.result_bound y.ensures.carrying c.requires.destination_nonzero.1 (size_small a.table.now a.rec
     c.requires.rec_value)
 
 pub returns : goal.returns
 returns c =
     let a = c.args in
-    let l = c.loop-stream in
+    let l = c.loop-head in
     let f = c.first-stream in
     let v0 = some_entry a.first_len in
     let m = l.invariant v0 (as_long a.first_len) in
@@ -99,7 +84,7 @@ returns c =
     record {
       moved = λ t v u g n.
           moving_over a.own.now a.part.now a.table.now a.source.now a.destination.now v a.rec a.count a.records
-          f.result l.flags l.tally l.stream (l.invariant v n) (c.has_next.ensures.1 c.loop-stream-test.false)
+          f.result l.flags l.tally l.stream (l.invariant v n) (at_end a.own.now a.part.now l.stream c.head_at.result c.in_default.not-Some c.head_at.ensures.next)
           _ (f.ensures.result_value t u g);
       small = ((k.used_small, k.count_small, k.charge_small), x);
     }

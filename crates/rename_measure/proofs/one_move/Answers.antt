@@ -1,21 +1,15 @@
 -- `one_move` meets its contract.
 use native.Mathlib.Omega.{arith}
 use Rattle.model.specs.Table.{table_in}
-use Rattle.rename_measure.proofs.Foretelling.{not_first, small_body, one_moved}
+use Rattle.rename_measure.proofs.Foretelling.{small_body, one_moved}
 use Rattle.rename_measure.proofs.one_move.Goals as goal
-
-pub projected_record-after-requires : goal.projected_record-after-requires
-projected_record-after-requires c =
-    let p = c.requires.destination_nonzero in
-    let m = p.2 in
-    record { rec_value = c.requires.rec_value; key_value = (not_first c.args.destination.now p.0, p.1, omega arith) }
 
 pub returns : goal.returns
 returns c =
     let a = c.args in
     let p = c.requires.destination_nonzero in
-    let o = c.projected_record-after in
-    let i = c.is_short-fits in
+    let o = c.projected_record in
+    let i = c.is_short in
     record {
       moved = λ q v l. one_moved a.rec.entry_size (table_in a.table.now a.rec) q a.destination.now v p.1 o.result (o.ensures v l)
           i.result i.ensures;

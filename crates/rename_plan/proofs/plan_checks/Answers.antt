@@ -10,25 +10,8 @@ use Rattle.model.specs.Table.{table_in}
 use Rattle.model.specs.Rename.{if_directory, walk_from, walked}
 use Rattle.check_judged.specs.Judged.{check_of}
 use Rattle.model.proofs.Codec.{charge_is}
-use Rattle.rename_plan.proofs.Plans.{over_charge, over_sum, within}
+use Rattle.rename_plan.proofs.Plans.{within}
 use Rattle.rename_plan.proofs.plan_checks.Goals as goal
-
-pub returns-in_default : goal.returns-in_default
-returns-in_default c =
-    let a = c.args in
-    let t = table_in a.table.now a.rec in
-    let e = charge_is a.table.now a.rec c.requires.given.table_is in
-    over_charge a.rec.entry_size a.limit t a.source.now a.destination.now a.rec.charge e _ _
-    (sym c.available_memory.ensures ∙ c.in_default.is)
-
-pub returns-in_default-shrink : goal.returns-in_default-shrink
-returns-in_default-shrink c =
-    let a = c.args in
-    let t = table_in a.table.now a.rec in
-    let e = charge_is a.table.now a.rec c.requires.given.table_is in
-    over_sum a.rec.entry_size a.limit t a.source.now a.destination.now a.rec.charge e
-    c.planned_sum-sum.result c.planned_sum-sum.ensures.value _ (sym c.available_memory.ensures ∙ c.in-Left.is) _ _
-    (sym c.shrink.ensures ∙ c.in_default-shrink.is)
 
 pub returns : goal.returns
 returns c =
@@ -39,6 +22,6 @@ returns c =
     let e = charge_is a.table.now a.rec c.requires.given.table_is in
     let w = c.walk_checks in
     within a.rec.entry_size a.limit t x a.destination.now a.rec.charge e
-    c.planned_sum-sum.result c.planned_sum-sum.ensures.value _ (sym c.available_memory.ensures ∙ c.in-Left.is)
+    c.planned_sum-sum.result c.planned_sum-sum.ensures.value _ (sym c.available_memory.ensures ∙ c.in-Ok.is)
     (λ (b : Option ℕ). if_directory (kind (lookup l) x) (walked (length x) (walk_from t l b x)))
-    (check_of w.result) _ (sym c.shrink.ensures ∙ c.in-Left-shrink.is) w.ensures
+    (check_of w.result) _ (sym c.shrink.ensures ∙ c.in-Ok-shrink.is) w.ensures

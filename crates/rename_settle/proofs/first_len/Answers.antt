@@ -21,8 +21,9 @@ returns-then-is_absent c =
     ∙ ap (λ (e : Entry). length (body_of e)) (top_listed a.table.now a.rec f.result a.source.now z.result f.ensures.value
     (z.ensures a.table.now t g.ensures.result_value) n c.if-is_absent.true)
 
-pub entry_body-body-requires : goal.entry_body-body-requires
-entry_body-body-requires c =
+pub entry_body-body-requires-clause-left_nonzero :
+    goal.entry_body-body-requires-clause-left_nonzero
+entry_body-body-requires-clause-left_nonzero c =
     let a = c.args in
     let f = c.first_entry-first in
     let g = c.get_from-got in
@@ -32,7 +33,7 @@ entry_body-body-requires c =
     let y = top_stored a.table.now a.rec f.result a.source.now z.result f.ensures.value
     (z.ensures a.table.now t g.ensures.result_value) n c.if-is_absent.false f.ensures.standing g.result.place.left g.result.place.at
     g.ensures.sought in
-    record { standing = g.ensures.sought.stand; left_nonzero = y.0 }
+    y.0
 
 pub returns : goal.returns
 returns c =

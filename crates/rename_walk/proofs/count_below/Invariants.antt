@@ -2,8 +2,8 @@
 use Rattle.rename_walk.proofs.Stretches.{Counting}
 use Rattle.rename_walk.proofs.count_below.Given as goal
 
-abbrev pub invariant-loop-left : goal.invariant-loop-left
-invariant-loop-left l = Counting l.records l.dir l.initial.left l.initial.at l.left l.at l.n
+abbrev pub invariant-loop-here : goal.invariant-loop-here
+invariant-loop-here l = Counting l.records l.dir l.initial.here.left l.initial.here.at l.here.left l.here.at l.n
 
-abbrev pub decreases-loop-left : goal.decreases-loop-left
-decreases-loop-left l = l.left
+abbrev pub decreases-loop-here : goal.decreases-loop-here
+decreases-loop-here l = l.here.left

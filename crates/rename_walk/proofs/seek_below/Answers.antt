@@ -7,46 +7,46 @@ use Rattle.rename_walk.specs.Stretch.{slashed}
 use Rattle.rename_walk.proofs.Stretches.{pass_on, pass_stop, pass_end}
 use Rattle.rename_walk.proofs.seek_below.Goals as goal
 
-pub loop-left-init : goal.loop-left-init
-loop-left-init c = record { stand = c.requires; are = refl }
+pub loop-here-init : goal.loop-here-init
+loop-here-init c = record { stand = c.requires; are = refl }
 
 pub record_path-path-requires : goal.record_path-path-requires
-record_path-path-requires c = record { standing = c.loop-left.invariant.stand; left_nonzero = c.loop-left-test.true }
+record_path-path-requires c = record { standing = c.loop-here.invariant.stand; left_nonzero = c.loop-here-test.true }
 
-pub next_record-next-requires : goal.next_record-next-requires
-next_record-next-requires c = record { standing = c.loop-left.invariant.stand; left_nonzero = c.loop-left-test.true }
+pub next_record-here-requires : goal.next_record-here-requires
+next_record-here-requires c = record { standing = c.loop-here.invariant.stand; left_nonzero = c.loop-here-test.true }
 
-pub loop-left-smaller : goal.loop-left-smaller
-loop-left-smaller c =
+pub loop-here-smaller : goal.loop-here-smaller
+loop-here-smaller c =
     let a = c.args in
-    let l = c.loop-left in
-    let n = c.next_record-next in
-    search_less l.left (record_end a.records.now l.at) c.loop-left-test.true n.result n.ensures.value
+    let l = c.loop-here in
+    let n = c.next_record-here in
+    search_less l.here.left (record_end a.records.now l.here.at) c.loop-here-test.true n.result n.ensures.value
 
-pub loop-left-preserved : goal.loop-left-preserved
-loop-left-preserved c =
+pub loop-here-preserved : goal.loop-here-preserved
+loop-here-preserved c =
     let a = c.args in
-    let l = c.loop-left in
+    let l = c.loop-here in
     let p = c.record_path-path in
     let b = c.is_before_with in
-    let n = c.next_record-next in
-    pass_on a.records.now (slashed a.dir.now) a.place.left a.place.at l.left l.at l.invariant c.loop-left-test.true
-    p.result.now p.ensures b.result b.ensures c.if-is_before_with.true n.result n.ensures.value n.ensures.standing_2
+    let n = c.next_record-here in
+    pass_on a.records.now (slashed a.dir.now) a.place.left a.place.at l.here.left l.here.at l.invariant c.loop-here-test.true
+    p.result.now p.ensures b.result b.ensures (c.if-not-is_before_with.false) n.result n.ensures.value n.ensures.standing_2
 
-pub returns-else-is_before_with : goal.returns-else-is_before_with
-returns-else-is_before_with c =
+pub returns-then-not-is_before_with : goal.returns-then-not-is_before_with
+returns-then-not-is_before_with c =
     let a = c.args in
-    let l = c.loop-left in
+    let l = c.loop-here in
     let p = c.record_path-path in
     let b = c.is_before_with in
     record {
       standing = l.invariant.stand;
-      at_value = pass_stop a.records.now (slashed a.dir.now) a.place.left a.place.at l.left l.at l.invariant c.loop-left-test.true
-          p.result.now p.ensures b.result b.ensures c.if-is_before_with.false;
+      at_value = pass_stop a.records.now (slashed a.dir.now) a.place.left a.place.at l.here.left l.here.at l.invariant c.loop-here-test.true
+          p.result.now p.ensures b.result b.ensures (c.if-not-is_before_with.true);
     }
 
 pub returns : goal.returns
 returns c =
     let a = c.args in
-    let l = c.loop-left in
-    record { standing = l.invariant.stand; at_value = pass_end a.records.now (slashed a.dir.now) a.place.left a.place.at l.left l.at l.invariant (search rules) }
+    let l = c.loop-here in
+    record { standing = l.invariant.stand; at_value = pass_end a.records.now (slashed a.dir.now) a.place.left a.place.at l.here.left l.here.at l.invariant (search rules) }

@@ -3,8 +3,8 @@ use Rattle.rename_walk.specs.Stretch.{slashed}
 use Rattle.rename_walk.proofs.Stretches.{Passing}
 use Rattle.rename_walk.proofs.seek_below.Given as goal
 
-abbrev pub invariant-loop-left : goal.invariant-loop-left
-invariant-loop-left l = Passing l.records (slashed l.dir) l.initial.left l.initial.at l.left l.at
+abbrev pub invariant-loop-here : goal.invariant-loop-here
+invariant-loop-here l = Passing l.records (slashed l.dir) l.initial.here.left l.initial.here.at l.here.left l.here.at
 
-abbrev pub decreases-loop-left : goal.decreases-loop-left
-decreases-loop-left l = l.left
+abbrev pub decreases-loop-here : goal.decreases-loop-here
+decreases-loop-here l = l.here.left

@@ -1,28 +1,30 @@
--- `skip` meets its contract: a record is passed for each that is still to be passed.
-use mathlib.Core.Path.{refl}
-use borrow.Author.Rules.{rules}
-use Rattle.rename_walk.proofs.Stretches.{skip_more, skip_on, skip_end}
+-- `skip` meets its contract: a record is passed in each turn.
+use native.Mathlib.Omega.{arith}
+use Rattle.rename_walk.proofs.Stretches.{skip_start, skip_more, skip_on, skip_end}
 use Rattle.rename_walk.proofs.skip.Goals as goal
 
-pub loop-more-init : goal.loop-more-init
-loop-more-init c = record { stand = c.requires.standing; number = refl; fit = c.requires.n_le_left; ends = refl }
-
-pub next_record-next-requires : goal.next_record-next-requires
-next_record-next-requires c =
+pub loop-init : goal.loop-init
+loop-init c =
     let a = c.args in
-    let l = c.loop-more in
-    record { standing = l.invariant.stand; left_nonzero = skip_more a.records.now a.n a.place.left a.place.at l.more l.left l.at l.invariant c.loop-more-test.true }
+    skip_start a.records.now a.n a.place.left a.place.at c.requires.standing c.requires.n_le_left
 
-pub loop-more-preserved : goal.loop-more-preserved
-loop-more-preserved c =
+pub next_record-here-requires : goal.next_record-here-requires
+next_record-here-requires c =
     let a = c.args in
-    let l = c.loop-more in
-    let n = c.next_record-next in
-    skip_on a.records.now a.n a.place.left a.place.at l.more l.left l.at l.invariant c.loop-more-test.true
+    let l = c.loop in
+    record { standing = l.invariant.stand; left_nonzero = skip_more a.records.now a.n a.place.left a.place.at l.counter l.here.left l.here.at l.invariant c.loop-test.true }
+
+pub loop-preserved : goal.loop-preserved
+loop-preserved c =
+    let a = c.args in
+    let l = c.loop in
+    let n = c.next_record-here in
+    skip_on a.records.now a.n a.place.left a.place.at l.counter l.here.left l.here.at l.invariant c.loop-test.true
     n.result n.ensures.value n.ensures.standing_2
 
 pub returns : goal.returns
 returns c =
     let a = c.args in
-    let l = c.loop-more in
-    record { value = skip_end a.records.now a.n a.place.left a.place.at l.more l.left l.at l.invariant (search rules); standing_2 = l.invariant.stand }
+    let l = c.loop in
+    let e = l.auto.counter-end in
+    record { value = skip_end a.records.now a.n a.place.left a.place.at l.counter l.here.left l.here.at l.invariant (omega arith); standing_2 = l.invariant.stand }

@@ -2,8 +2,5 @@
 use Rattle.rename_walk.proofs.Stretches.{Skipping}
 use Rattle.rename_walk.proofs.skip.Given as goal
 
-abbrev pub invariant-loop-more : goal.invariant-loop-more
-invariant-loop-more l = Skipping l.records l.n l.initial.left l.initial.at l.more l.left l.at
-
-abbrev pub decreases-loop-more : goal.decreases-loop-more
-decreases-loop-more l = l.more
+abbrev pub invariant-loop : goal.invariant-loop
+invariant-loop l = Skipping l.records l.n l.fn.place.left l.fn.place.at l.counter l.here.left l.here.at

@@ -1,70 +1,65 @@
 -- `visit_children` meets its contract: each record is visited if it is a child without an entry, and the entries before it are passed.
-use mathlib.Core.Path.{sym, ◌∙◌}
-use mathlib.Core.Option.{some}
-use borrow.Author.Rules.{rules}
+use mathlib.Core.Path.{◌≡◌, ap, ◌∙◌}
+use mathlib.Core.Option.{Option, some}
+use Prim.Native.Nat.{ℕ, ◌+◌, ◌-◌}
+use native.Mathlib.Omega.{arith}
 use Rattle.model.specs.Table.{entries_at}
-use Rattle.model.specs.Rename.{visits, children}
+use Rattle.model.specs.Rename.{sum, visits, children}
 use Rattle.listing_records.specs.Place.{tree_at}
-use Rattle.rename_walk.specs.Walked.{walk_of}
-use Rattle.rename_walk.proofs.Visitings.{visit_start, visit_more, visit_on, visit_end, visit_ended}
+use Rattle.std.proofs.lemmas.Result.{err_from_is_err_and}
+use Rattle.rename_walk.proofs.Visitings.{visit_on, visit_end, visit_ended, one_bare, one_passed, err_ended}
+use Rattle.rename_walk.proofs.visit_children.Goals.{then-child+in_ok-sum, else-child}
 use Rattle.rename_walk.proofs.visit_children.Goals as goal
 
-pub loop-count-init : goal.loop-count-init
-loop-count-init c =
+pub loop-preserved : goal.loop-preserved
+loop-preserved c =
     let a = c.args in
-    visit_start a.records.now a.table.now a.dir.now (some a.budget.available) a.stretch.left a.stretch.count a.stretch.at
-    a.place.left a.place.at (walk_of a.walked) c.requires.standing c.requires.count_le_left c.requires.standing_2
+    let l = c.loop in
+    let r = a.records.now in
+    let b : Option ℕ = some a.budget.available in
+    let t = entries_at a.table.now l.entries.left l.entries.at in
+    let u = entries_at a.table.now a.place.left a.place.at in
+    let x = c.bare_child-child in
+    let n = c.next_record-here in
+    let m = a.stretch.count - l.counter in
+    let h = c.loop-test.true in
+    let k : sum c.if-child.sum ≡ visits b (sum l.sum) (children t (tree_at r 1 l.here.at) a.dir.now)
+    = elim c.if-child.branch [
+      | then-child+in_ok-sum w ↦ ap sum w.sum-is
+          ∙ one_bare r l.here.at t a.dir.now b (sum l.sum) x.result.bare x.ensures.bare_value w.if-child.true _ w.in_ok-sum.ensures
+      | else-child w ↦ ap sum w.sum-is ∙ one_passed r l.here.at t a.dir.now b (sum l.sum) x.result.bare x.ensures.bare_value w.if-child.false
+    ] in
+    visit_on r a.table.now a.dir.now b u (visits b (sum a.total) (children u (tree_at r a.stretch.count a.stretch.at) a.dir.now))
+    l.here.left m l.here.at l.entries.left l.entries.at (sum l.sum) l.invariant (omega arith) (sum c.if-child.sum) k
+    n.result n.ensures.value n.ensures.standing_2 x.result.place.left x.result.place.at x.ensures.sought
+    (a.stretch.count - (l.counter + 1)) (omega arith)
 
-pub returns-then-is_ended : goal.returns-then-is_ended
-returns-then-is_ended c =
+pub returns-in_err-sum : goal.returns-in_err-sum
+returns-in_err-sum c =
     let a = c.args in
-    let l = c.loop-count in
-    let e = c.is_ended in
-    visit_ended a.records.now a.table.now a.dir.now (some a.budget.available) (entries_at a.table.now a.place.left a.place.at)
-    (visits (some a.budget.available) (walk_of a.walked) (children (entries_at a.table.now a.place.left a.place.at) (tree_at a.records.now a.stretch.count a.stretch.at) a.dir.now))
-    l.left l.count l.at l.more l.to (walk_of l.on) l.invariant (sym e.ensures ∙ c.if-is_ended.true)
-
-pub visit_record-seen-requires : goal.visit_record-seen-requires
-visit_record-seen-requires c =
-    let a = c.args in
-    let l = c.loop-count in
-    let h = c.loop-count-test.true in
-    record {
-      standing = l.invariant.stand;
-      left_nonzero = visit_more a.records.now a.table.now a.dir.now (some a.budget.available) (entries_at a.table.now a.place.left a.place.at)
-          (visits (some a.budget.available) (walk_of a.walked) (children (entries_at a.table.now a.place.left a.place.at) (tree_at a.records.now a.stretch.count a.stretch.at) a.dir.now))
-          l.left l.count l.at l.more l.to (walk_of l.on) l.invariant h;
-      standing_2 = l.invariant.entries;
-    }
-
-pub next_record-next-requires : goal.next_record-next-requires
-next_record-next-requires c =
-    let a = c.args in
-    let l = c.loop-count in
-    let h = c.loop-count-test.true in
-    record {
-      standing = l.invariant.stand;
-      left_nonzero = visit_more a.records.now a.table.now a.dir.now (some a.budget.available) (entries_at a.table.now a.place.left a.place.at)
-          (visits (some a.budget.available) (walk_of a.walked) (children (entries_at a.table.now a.place.left a.place.at) (tree_at a.records.now a.stretch.count a.stretch.at) a.dir.now))
-          l.left l.count l.at l.more l.to (walk_of l.on) l.invariant h;
-    }
-
-pub loop-count-preserved : goal.loop-count-preserved
-loop-count-preserved c =
-    let a = c.args in
-    let l = c.loop-count in
-    let h = c.loop-count-test.true in
-    let n = c.next_record-next in
-    let v = c.visit_record-seen in
-    visit_on a.records.now a.table.now a.dir.now (some a.budget.available) (entries_at a.table.now a.place.left a.place.at)
-    (visits (some a.budget.available) (walk_of a.walked) (children (entries_at a.table.now a.place.left a.place.at) (tree_at a.records.now a.stretch.count a.stretch.at) a.dir.now))
-    l.left l.count l.at l.more l.to (walk_of l.on) l.invariant h
-    n.result n.ensures.value n.ensures.standing_2 v.result.place.left v.result.place.at v.ensures.sought (walk_of v.result.walked) v.ensures.walked_value
+    let l = c.loop in
+    let r = a.records.now in
+    let b : Option ℕ = some a.budget.available in
+    let t = entries_at a.table.now l.entries.left l.entries.at in
+    let u = entries_at a.table.now a.place.left a.place.at in
+    let x = c.bare_child-child in
+    let m = a.stretch.count - l.counter in
+    let h = c.loop-test.true in
+    let p = err_from_is_err_and c.from_residual.result c.from_residual.ensures.1 in
+    rw (p.1, p.2)
+    (visit_ended r a.table.now a.dir.now b u (visits b (sum a.total) (children u (tree_at r a.stretch.count a.stretch.at) a.dir.now))
+    l.here.left m l.here.at l.entries.left l.entries.at (sum l.sum) l.invariant (omega arith) _
+    (one_bare r l.here.at t a.dir.now b (sum l.sum) x.result.bare x.ensures.bare_value c.if-child.true _ c.in_err-sum.ensures)
+    (err_ended _))
 
 pub returns : goal.returns
 returns c =
     let a = c.args in
-    let l = c.loop-count in
-    visit_end a.records.now a.table.now a.dir.now (some a.budget.available) (entries_at a.table.now a.place.left a.place.at)
-    (visits (some a.budget.available) (walk_of a.walked) (children (entries_at a.table.now a.place.left a.place.at) (tree_at a.records.now a.stretch.count a.stretch.at) a.dir.now))
-    l.left l.count l.at l.more l.to (walk_of l.on) l.invariant (search rules)
+    let l = c.loop in
+    let r = a.records.now in
+    let b : Option ℕ = some a.budget.available in
+    let u = entries_at a.table.now a.place.left a.place.at in
+    let m = a.stretch.count - l.counter in
+    let h = c.loop-test.false in
+    visit_end r a.table.now a.dir.now b u (visits b (sum a.total) (children u (tree_at r a.stretch.count a.stretch.at) a.dir.now))
+    l.here.left m l.here.at l.entries.left l.entries.at (sum l.sum) l.invariant (omega arith)

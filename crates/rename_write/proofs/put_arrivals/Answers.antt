@@ -4,20 +4,8 @@ use Rattle.model.specs.Listing.{tree_in}
 use Rattle.model.specs.Table.{table_in}
 use Rattle.rename_write.specs.Stretch.{move, turned}
 use Rattle.rename_write.specs.Sequence.{lower, top}
-use Rattle.rename_write.proofs.Sequences.{fits_first, fits_second, both_put}
+use Rattle.rename_write.proofs.Sequences.{fits_second, both_put}
 use Rattle.rename_write.proofs.put_arrivals.Goals as goal
-
-pub put_top-next-requires : goal.put_top-next-requires
-put_top-next-requires c =
-    let a = c.args in
-    let T = table_in a.table.now a.rec in
-    let L = tree_in a.listing.now in
-    record {
-      rec_value = c.requires.rec_value;
-      listing_value = c.requires.listing_value;
-      fits = fits_first a.table.now a.work.now a.merge ((a.destination.now, top T L a.source.now) ∷ [])
-          (turned (move a.source.now a.destination.now) (lower a.whole T L a.source.now)) c.requires.fits;
-    }
 
 pub put_lower_moves-requires : goal.put_lower_moves-requires
 put_lower_moves-requires c =

@@ -1,19 +1,10 @@
 -- `put_deletion` meets its contract: the key is the item's, and kind 4 without a body is a deleted entry.
 use mathlib.Core.Path.{refl}
-use mathlib.Core.List.{[]}
 use Rattle.rename_carried.specs.Streams.{item_at}
 use Rattle.rename_write.specs.Stretch.{deletion}
 use Rattle.model.specs.Tree.{deleted}
-use Rattle.rename_write.proofs.Items.{room_of, put_of, deleted_written}
+use Rattle.rename_write.proofs.Items.{put_of}
 use Rattle.rename_write.proofs.put_deletion.Goals as goal
-
-pub put_next-requires : goal.put_next-requires
-put_next-requires c =
-    let a = c.args in
-    let i = deletion (item_at a.own.now a.part.now a.stream a.head) in
-    let r = c.requires.room in
-    let k = c.item_key-key in
-    record { standing = r.stand; written = deleted_written; body_in_bounds = room_of a.table.now a.work.now a.merge i k.result.now [] r k.ensures refl }
 
 pub returns : goal.returns
 returns c =

@@ -5,16 +5,8 @@ use Rattle.model.specs.Tree.{deleted}
 use Rattle.model.specs.Table.{table_in}
 use Rattle.rename_write.specs.Stretch.{deletion, turned}
 use Rattle.rename_write.specs.Sequence.{lower}
-use Rattle.rename_write.proofs.Sequences.{fits_first, fits_second, both_put}
+use Rattle.rename_write.proofs.Sequences.{fits_second, both_put}
 use Rattle.rename_write.proofs.put_departures.Goals as goal
-
-pub put_source_deletion-next-requires : goal.put_source_deletion-next-requires
-put_source_deletion-next-requires c =
-    let a = c.args in
-    let T = table_in a.table.now a.rec in
-    let L = tree_in a.listing.now in
-    fits_first a.table.now a.work.now a.merge ((a.source.now, deleted) ∷ [])
-    (turned deletion (lower a.whole T L a.source.now)) c.requires.fits
 
 pub put_lower_deletions-requires : goal.put_lower_deletions-requires
 put_lower_deletions-requires c =

@@ -2,22 +2,8 @@
 use Rattle.model.specs.Listing.{tree_in}
 use Rattle.model.specs.Table.{table_in}
 use Rattle.rename_write.specs.Sequence.{departures, arrivals}
-use Rattle.rename_write.proofs.Sequences.{fits_first, fits_second, both_put}
+use Rattle.rename_write.proofs.Sequences.{fits_second, both_put}
 use Rattle.rename_write.proofs.put_destination_first.Goals as goal
-
-pub put_arrivals-next-requires : goal.put_arrivals-next-requires
-put_arrivals-next-requires c =
-    let a = c.args in
-    let T = table_in a.table.now a.rec in
-    let L = tree_in a.listing.now in
-    record {
-      rec_value = c.requires.rec_value;
-      listing_value = c.requires.listing_value;
-      source_value = c.requires.source_value;
-      fits = fits_first a.table.now a.work.now a.merge (arrivals a.whole T L a.source.now
-          a.destination.now)
-          (departures a.whole T L a.source.now) c.requires.fits;
-    }
 
 pub put_departures-requires : goal.put_departures-requires
 put_departures-requires c =

@@ -8,16 +8,6 @@ use Rattle.rename_write.specs.Sequence.{lower, arrivals}
 use Rattle.rename_write.proofs.Sequences.{fits_first, fits_second, both_put}
 use Rattle.rename_write.proofs.put_destination_within.Goals as goal
 
-pub put_source_deletion-first-requires : goal.put_source_deletion-first-requires
-put_source_deletion-first-requires c =
-    let a = c.args in
-    let T = table_in a.table.now a.rec in
-    let L = tree_in a.listing.now in
-    let xs : Table = ((a.source.now, deleted) ∷ []) in
-    let ys = (arrivals a.whole T L a.source.now a.destination.now) in
-    let zs = (turned deletion (lower a.whole T L a.source.now)) in
-    fits_first a.table.now a.work.now a.merge xs (ys ++ zs) c.requires.fits
-
 pub put_arrivals-next-requires : goal.put_arrivals-next-requires
 put_arrivals-next-requires c =
     let a = c.args in

@@ -1,19 +1,11 @@
 -- `put_lower_deletions` meets its contract: the parts of table and listing below the source are what the stretch is made of; of a file there is
 -- nothing.
 use borrow.Author.Rules.{rules}
-use Rattle.model.specs.Listing.{tree_in}
 use Rattle.model.specs.Table.{table_in}
 use Rattle.rename_uncovered.proofs.Belows.{part_below}
 use Rattle.rename_write.specs.Stretch.{deletion}
-use Rattle.rename_write.proofs.Sequences.{lower_fits, lower_put, lower_none}
+use Rattle.rename_write.proofs.Sequences.{lower_fits, lower_put}
 use Rattle.rename_write.proofs.put_lower_deletions.Goals as goal
-
-pub returns-then-not-whole : goal.returns-then-not-whole
-returns-then-not-whole c =
-    let a = c.args in
-    lower_none deletion a.table.now a.work.now (table_in a.table.now a.rec) (tree_in a.listing.now) a.source.now a.merge
-    a.whole
-    (c.if-not-whole.true)
 
 pub put_deletions-requires : goal.put_deletions-requires
 put_deletions-requires c =

@@ -2,20 +2,8 @@
 use Rattle.model.specs.Listing.{tree_in}
 use Rattle.model.specs.Table.{table_in}
 use Rattle.rename_write.specs.Sequence.{departures, arrivals}
-use Rattle.rename_write.proofs.Sequences.{fits_first, fits_second, both_put}
+use Rattle.rename_write.proofs.Sequences.{fits_second, both_put}
 use Rattle.rename_write.proofs.put_source_first.Goals as goal
-
-pub put_departures-next-requires : goal.put_departures-next-requires
-put_departures-next-requires c =
-    let a = c.args in
-    let T = table_in a.table.now a.rec in
-    let L = tree_in a.listing.now in
-    record {
-      rec_value = c.requires.rec_value;
-      listing_value = c.requires.listing_value;
-      fits = fits_first a.table.now a.work.now a.merge (departures a.whole T L a.source.now)
-          (arrivals a.whole T L a.source.now a.destination.now) c.requires.fits;
-    }
 
 pub put_arrivals-requires : goal.put_arrivals-requires
 put_arrivals-requires c =

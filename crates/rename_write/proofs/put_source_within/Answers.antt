@@ -8,16 +8,6 @@ use Rattle.rename_write.specs.Sequence.{lower, top, departures}
 use Rattle.rename_write.proofs.Sequences.{fits_first, fits_second, both_put}
 use Rattle.rename_write.proofs.put_source_within.Goals as goal
 
-pub put_top-first-requires : goal.put_top-first-requires
-put_top-first-requires c =
-    let a = c.args in
-    let T = table_in a.table.now a.rec in
-    let L = tree_in a.listing.now in
-    let xs : Table = ((a.destination.now, top T L a.source.now) ∷ []) in
-    let ys = (departures a.whole T L a.source.now) in
-    let zs = (turned (move a.source.now a.destination.now) (lower a.whole T L a.source.now)) in
-    record { rec_value = c.requires.rec_value; listing_value = c.requires.listing_value; fits = fits_first a.table.now a.work.now a.merge xs (ys ++ zs) c.requires.fits }
-
 pub put_departures-next-requires : goal.put_departures-next-requires
 put_departures-next-requires c =
     let a = c.args in

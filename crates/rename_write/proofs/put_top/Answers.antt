@@ -56,8 +56,8 @@ put_stored-requires c =
           y.1 c.requires.fits;
     }
 
-pub returns : goal.returns
-returns c =
+pub returns-else-is_absent : goal.returns-else-is_absent
+returns-else-is_absent c =
     let a = c.args in
     let f = c.first_entry-first in
     let g = c.get_from-got in

@@ -1,6 +1,4 @@
 -- `write_ordered` meets its contract: all is put from the table's first entry on, and the rest is copied behind it.
-use mathlib.Core.Path.{ap, ◌∙◌}
-use lib.ListN.{length, length-replicate}
 use Rattle.model.specs.Listing.{tree_in}
 use Rattle.model.specs.Table.{table_in}
 use Rattle.table_insert.proofs.Inserts.{zeros_as_long}
@@ -30,11 +28,6 @@ finish-requires c =
     let it = done_fits a.table.now a.work.now a.rec xs p.rec_value p.destination_value q.new.work q.result q.ensures p.rec_in_bounds
     p.table_in_bounds in
     record { at_le_used = it.0; at_in_bounds = it.1 }
-
-pub shape_of-work : goal.shape_of-work
-shape_of-work c =
-    let q = c.put_ordered-end in
-    ap length c.finish.ensures.work_after ∙ length-replicate (length q.new.work) 0 ∙ q.ensures.long
 
 pub returns : goal.returns
 returns c =

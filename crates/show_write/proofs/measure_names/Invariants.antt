@@ -3,8 +3,8 @@ use Rattle.view_merge.specs.Merges.{remaining}
 use Rattle.show_write.proofs.Measures.{Summing}
 use Rattle.show_write.proofs.measure_names.Given as goal
 
-abbrev pub invariant-loop-merge : goal.invariant-loop-merge
-invariant-loop-merge l = Summing l.own l.part l.dir l.initial.merge l.merge l.sum
+abbrev pub invariant-loop-head : goal.invariant-loop-head
+invariant-loop-head l = Summing l.own l.part l.dir l.initial.merge l.merge l.sum
 
-abbrev pub decreases-loop-merge : goal.decreases-loop-merge
-decreases-loop-merge l = remaining l.merge
+abbrev pub decreases-loop-head : goal.decreases-loop-head
+decreases-loop-head l = remaining l.merge

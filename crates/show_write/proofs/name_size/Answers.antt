@@ -1,14 +1,8 @@
 -- `name_size` meets its contract: a name is counted where something other than a link is visible and no slash follows.
-use Rattle.show_write.proofs.Measures.{size_hidden, start_within, size_deeper, size_named}
+use Rattle.show_write.proofs.Measures.{start_within, size_deeper, size_named}
 use mathlib.Core.Path.{ap}
 use mathlib.Core.Bool.{not}
 use Rattle.show_write.proofs.name_size.Goals as goal
-
-pub returns-then-not-head_exists : goal.returns-then-not-head_exists
-returns-then-not-head_exists c =
-    let a = c.args in
-    let x = c.head_exists in
-    size_hidden a.dir.now a.own.now a.part.now a.merge a.head x.result x.ensures (ap not c.if-not-head_exists.true)
 
 pub is_one_component-requires : goal.is_one_component-requires
 is_one_component-requires c =

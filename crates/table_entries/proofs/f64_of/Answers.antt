@@ -5,5 +5,5 @@ use Rattle.table_entries.proofs.f64_of.Goals as goal
 pub float_from_bits-result : goal.float_from_bits-result
 float_from_bits-result c = real_bits c.args.bits c.if-bits-le9218868437227405312.true
 
-pub returns : goal.returns
-returns c = not_real c.args.bits c.if-bits-le9218868437227405312.false
+pub returns-else-bits-le9218868437227405312 : goal.returns-else-bits-le9218868437227405312
+returns-else-bits-le9218868437227405312 c = not_real c.args.bits c.if-bits-le9218868437227405312.false

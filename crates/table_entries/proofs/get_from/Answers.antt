@@ -6,5 +6,5 @@ pub returns : goal.returns
 returns c =
     let a = c.args in
     let q = c.seek-found in
-    let r = c.entry_if-entry in
+    let r = c.entry_if in
     record { result_value = found a.table.now a.key.now a.place.left a.place.at q.result.left q.result.at c.requires q.ensures r.result r.ensures; sought = q.ensures }

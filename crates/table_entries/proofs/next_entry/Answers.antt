@@ -1,20 +1,13 @@
 -- `next_entry` meets its contract: the key and the body are as long as the entry's head says.
+use native.Mathlib.Omega.{arith}
 use mathlib.Core.Path.{ap₂}
 use Prim.Native.Nat.{ℕ, ◌+◌, ◌-◌}
-use native.Mathlib.Omega.{arith}
-use Rattle.table_entries.proofs.Entries.{stands_here}
 use Rattle.table_entries.proofs.Seeks.{stands_next}
+use Rattle.table_entries.proofs.Entries.{entry_inside}
 use Rattle.table_entries.proofs.next_entry.Goals as goal
 
-pub le16-n-requires : goal.le16-n-requires
-le16-n-requires c =
-    let k = stands_here c.args.table.now c.args.place.left c.args.place.at c.requires.left_nonzero c.requires.standing in
-    omega (arith, k.inside)
-
 pub le32-m-requires : goal.le32-m-requires
-le32-m-requires c =
-    let k = stands_here c.args.table.now c.args.place.left c.args.place.at c.requires.left_nonzero c.requires.standing in
-    omega (arith, k.inside)
+le32-m-requires c = omega (arith, entry_inside _ _ _ c.requires.standing c.requires.left_nonzero)
 
 pub returns : goal.returns
 returns c =

@@ -5,16 +5,19 @@ use Rattle.model.specs.Map.{put}
 use Rattle.model.specs.Table.{entry_of, table_in}
 use Rattle.table_entries.proofs.Entries.{table_stands}
 use Rattle.table_write.proofs.Merges.{merge_begun}
-use Rattle.table_insert.proofs.Inserts.{room_for, rest_fits, same_used, zeros_as_long}
+use Rattle.table_insert.proofs.Inserts.{room_for, rest_fits, same_used}
 use native.Mathlib.Omega.{arith}
 use Rattle.table_insert.proofs.insert_unchecked.Goals as goal
 
-pub put_next-merge-requires : goal.put_next-merge-requires
-put_next-merge-requires c =
+pub put_next-merge-requires-clause-standing : goal.put_next-merge-requires-clause-standing
+put_next-merge-requires-clause-standing c = table_stands c.args.table.now c.args.rec c.requires.rec_value
+
+pub put_next-merge-requires-clause-body_in_bounds : goal.put_next-merge-requires-clause-body_in_bounds
+put_next-merge-requires-clause-body_in_bounds c =
     let a = c.args in
     let s = a.table.now in
     let w = c.requires.key_value in
-    record { standing = table_stands s a.rec c.requires.rec_value; written = w.1; body_in_bounds = room_for a.key.now a.kind a.mtime a.size a.body.now (table_in s a.rec) (length s) (length a.work.now) w.1 c.requires.rec_in_bounds w.2 }
+    room_for a.key.now a.kind a.mtime a.size a.body.now (table_in s a.rec) (length s) (length a.work.now) w.1 c.requires.rec_in_bounds w.2
 
 pub finish-requires : goal.finish-requires
 finish-requires c =
@@ -29,14 +32,12 @@ finish-requires c =
     let g = c.requires.key_value.2 in
     record { at_le_used = f.0; at_in_bounds = (f.1, omega arith) }
 
-pub returns : goal.returns
-returns c =
+pub returns-clause-table_after : goal.returns-clause-table_after
+returns-clause-table_after c =
     let a = c.args in
     let s = a.table.now in
     let p = c.put_next-merge in
-    let f = c.finish in
     let t = table_in s a.rec in
     let new = put a.key.now (entry_of a.kind a.mtime a.size a.body.now) t in
     let m = p.ensures.merged t [] (merge_begun s a.work.now a.rec c.requires.rec_value) c.requires.key_value.0 in
-    let e = same_used s a.rec p.result.left p.result.at c.requires.rec_value p.ensures.at_value in
-    record { table_after = f.ensures.table_after new a.key.now m e; work_after = zeros_as_long a.work.now p.new.work _ f.ensures.work_after p.ensures.work_len_unchanged }
+    c.finish.ensures.table_after new a.key.now m (same_used s a.rec p.result.left p.result.at c.requires.rec_value p.ensures.at_value)

@@ -4,10 +4,10 @@ use mathlib.Core.List.{[]}
 use Rattle.model.specs.Table.{table_in}
 use Rattle.table_insert.proofs.projected_record.Goals as goal
 
-pub projected-after-requires : goal.projected-after-requires
-projected-after-requires c =
+pub projected-after-requires-clause-counts : goal.projected-after-requires-clause-counts
+projected-after-requires-clause-counts c =
     let q = c.first_entry-first in
-    record { counts = counts_first c.args.table.now c.args.rec q.result c.requires.rec_value q.ensures.value; key_len_bound = (c.requires.key_value.1, c.requires.key_value.2) }
+    counts_first c.args.table.now c.args.rec q.result c.requires.rec_value q.ensures.value
 
 pub returns : goal.returns
 returns c =

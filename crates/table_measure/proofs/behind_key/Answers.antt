@@ -1,10 +1,10 @@
 -- `behind_key` meets its contract: the pass goes on behind an entry that has the key, and stays where none has.
-use mathlib.Core.Path.{refl, ap, ◌∙◌}
+use mathlib.Core.Path.{ap, ◌∙◌}
 use Rattle.model.specs.Table.{entries_at}
 use Rattle.table_entries.specs.declared.Place.{Place}
 use Rattle.table_entries.specs.Place.{end_of}
 use Rattle.table_entries.proofs.Entries.{same_end}
-use Rattle.table_measure.proofs.Steps.{some_left, gone_on, stayed}
+use Rattle.table_measure.proofs.Steps.{some_left, gone_on}
 use Rattle.table_measure.proofs.behind_key.Goals as goal
 
 pub next_entry-requires : goal.next_entry-requires
@@ -26,10 +26,3 @@ returns-then-has_key c =
       at_value_2 = ap (λ (p : Place). end_of a.table.now p.left p.at) n.ensures.value
           ∙ same_end a.table.now a.place.left a.place.at h c.requires;
     }
-
-pub returns : goal.returns
-returns c =
-    let a = c.args in
-    let b = c.has_key in
-    let t = entries_at a.table.now a.place.left a.place.at in
-    record { standing = c.requires; at_value = stayed a.key.now t b.result b.ensures c.if-has_key.false; at_value_2 = refl }

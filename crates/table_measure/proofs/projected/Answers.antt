@@ -12,15 +12,8 @@ le32-old-requires c =
     let f = head_fits a.table.now a.key.now a.place.left a.place.at q.result.left q.result.at a.rec c.requires.counts q.ensures h in
     omega (arith, f.0)
 
-pub next_entry-next-requires : goal.next_entry-next-requires
-next_entry-next-requires c =
-    let a = c.args in
-    let q = c.seek-found in
-    let b = c.has_key in
-    record { standing = q.ensures.stand; left_nonzero = some_left a.table.now a.key.now q.result.left q.result.at b.result b.ensures c.if-has_key.true }
-
-pub with_body-after-requires : goal.with_body-after-requires
-with_body-after-requires c =
+pub with_body-requires : goal.with_body-requires
+with_body-requires c =
     let a = c.args in
     let q = c.seek-found in
     let b = c.has_key in
@@ -34,18 +27,18 @@ returns-then-has_key c =
     let q = c.seek-found in
     let b = c.has_key in
     let o = c.le32-old in
-    let n = c.next_entry-next in
-    let w = c.with_body-after in
+    let n = c.next_entry in
+    let w = c.with_body in
     λ t k v m up l.
     put_over a.table.now t k a.key.now v a.place.left a.place.at q.result.left q.result.at a.rec.entry_size a.len a.rec m up l
     q.ensures b.result b.ensures c.if-has_key.true o.result o.ensures.0 n.result w.result n.ensures.value w.ensures
 
-pub returns : goal.returns
-returns c =
+pub returns-else-has_key : goal.returns-else-has_key
+returns-else-has_key c =
     let a = c.args in
     let q = c.seek-found in
     let b = c.has_key in
-    let w = c.with_entry-after in
+    let w = c.with_entry in
     λ t k v m up l.
     put_fresh a.table.now t k a.key.now v a.place.left a.place.at q.result.left q.result.at a.rec.entry_size a.len a.rec m up l
     q.ensures b.result b.ensures c.if-has_key.false w.result w.ensures

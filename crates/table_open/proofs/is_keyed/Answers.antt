@@ -5,7 +5,4 @@ use Rattle.table_open.proofs.Steps.{key_is}
 use Rattle.table_open.proofs.is_keyed.Goals as goal
 
 pub returns : goal.returns
-returns c =
-    let a = c.args in
-    let n = c.le16-n in
-    c.is_path.ensures ∙ ap is_path (key_is a.table.now a.at n.result n.ensures.0)
+returns c = c.is_path.ensures ∙ ap is_path (key_is _ _ _ c.le16.ensures.0)

@@ -22,7 +22,7 @@ returns-then-has_key c =
     taken_out a.table.now a.rec a.key.now a.place.left a.place.at c.requires.rec_value c.requires.sought c.has_key.result c.has_key.ensures
     c.if-has_key.true c.le32-body_len.result c.le32-body_len.ensures.0 c.without.result c.without.ensures
 
-pub returns : goal.returns
-returns c =
+pub returns-else-has_key : goal.returns-else-has_key
+returns-else-has_key c =
     let a = c.args in
     not_there a.table.now a.rec a.key.now a.place.left a.place.at c.requires.rec_value c.requires.sought c.has_key.result c.has_key.ensures c.if-has_key.false

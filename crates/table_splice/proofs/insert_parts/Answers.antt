@@ -1,38 +1,60 @@
--- `insert_parts` meets its contract: the two steps, with the content that the found entry has.
-use native.Mathlib.Omega.{arith}
-use Rattle.model.specs.Tree.{own}
-use Rattle.model.specs.Table.{body_of, entry_at}
+-- `insert_parts` meets its contract: the new table is begun with the content that the found entry has, and finished.
+use Rattle.std.proofs.Common.{◌∙◌, ap, length, Err, arith}
+use Rattle.std.proofs.lemmas.Result.{err_from_is_err_and}
+use Rattle.model.specs.Map.{put}
+use Rattle.model.specs.Tree.{own, Table}
+use Rattle.model.specs.Table.{encode, padded, table_in}
 use Rattle.model.specs.Content.{spliced}
-use Rattle.table_splice.proofs.Begins.{fitting, other_content}
-use Rattle.table_splice.proofs.Places.{some_there, body_there}
+use Rattle.table_insert.specs.Insert.{insertion}
+use Rattle.table_insert.proofs.Inserts.{same_used}
+use Rattle.table_splice.proofs.Begins.{fitting}
+use Rattle.table_splice.proofs.Places.{some_there, put_there}
 use Rattle.table_splice.proofs.insert_parts.Goals as goal
 
-pub write_inside-splice-requires : goal.write_inside-splice-requires
-write_inside-splice-requires c =
+pub entry_body-content-requires-clause-left_nonzero : goal.entry_body-content-requires-clause-left_nonzero
+entry_body-content-requires-clause-left_nonzero c =
     let a = c.args in
     let p = c.requires in
-    let f = p.sought in
-    record { rec_value = p.rec_value; key_value = p.key_value; data_bound = p.data_bound; standing = (f.stand, some_there a.table.now a.rec a.key.now a.place.left a.place.at p.rec_value f p.key_value_2) }
+    some_there a.table.now a.rec a.key.now a.place.left a.place.at p.rec_value p.sought p.key_value_2
 
-pub settle-requires : goal.settle-requires
-settle-requires c =
-    let w = c.write_inside-splice in
+pub returns-in_err-begun-clause-by_index : goal.returns-in_err-begun-clause-by_index
+returns-in_err-begun-clause-by_index c =
+    let a = c.args in
+    let p = c.requires in
+    let n = length a.table.now in
+    let e = err_from_is_err_and c.from_residual.result c.from_residual.ensures.1 in
+    λ m b l. e.1 ∙ ap Err e.2 ∙ c.in_err-begun.ensures.judged
+    ∙ ap (λ (t : Table). insertion a.rec.entry_size a.limit n t)
+    (put_there a.table.now a.rec a.key.now a.place.left a.place.at p.rec_value p.sought p.key_value_2 c.entry_body-content.result.now a.«data».now a.mtime a.offset c.entry_body-content.ensures m b l)
+
+pub finish-requires : goal.finish-requires
+finish-requires c =
     let a = c.args in
     let s = a.table.now in
-    let v = own a.mtime (spliced a.offset a.«data».now (body_of (entry_at s a.place.at))) in
-    let l = w.auto.work in
+    let t = put a.key.now (own a.mtime (spliced a.offset a.«data».now c.entry_body-content.result.now)) (table_in s a.rec) in
+    let b = c.in_ok-begun in
+    let f = fitting s c.write_spliced.new.work a.rec a.limit t a.key.now b.begun c.requires.rec_value b.ensures.judged b.ensures.merged b.ensures.end in
+    let l = c.write_spliced.auto.work in
     let h = c.requires.data_bound.1 in
-    record { fitting = fitting s a.rec a.limit a.key.now v w.result a.work.now _ c.requires.rec_value w.ensures; table_in_bounds = omega arith }
+    record { at_le_used = f.0; at_in_bounds = (f.1, omega arith) }
 
-pub returns : goal.returns
-returns c =
-    let g = c.settle in
-    let w = c.write_inside-splice in
+pub returns-clause-by_index : goal.returns-clause-by_index
+returns-clause-by_index c =
+    let a = c.args in
+    let p = c.requires in
+    let n = length a.table.now in
+    λ m b l. c.in_ok-begun.ensures.judged
+    ∙ ap (λ (t : Table). insertion a.rec.entry_size a.limit n t)
+    (put_there a.table.now a.rec a.key.now a.place.left a.place.at p.rec_value p.sought p.key_value_2 c.entry_body-content.result.now a.«data».now a.mtime a.offset c.entry_body-content.ensures m b l)
+
+pub returns-clause-by_index_2 : goal.returns-clause-by_index_2
+returns-clause-by_index_2 c =
     let a = c.args in
     let p = c.requires in
     let s = a.table.now in
-    let k = a.key.now in
-    let body = body_there s a.rec k a.place.left a.place.at p.rec_value p.sought p.key_value_2 in
-    let with = other_content s a.rec a.limit k w.result a.work.now w.new.work a.«data».now a.mtime a.offset (body_of (entry_at s a.place.at)) in
-    let left = g.ensures a.limit k in
-    record { by_index = λ m b l. (left _ a.work.now (with b (body m b l) w.ensures)).0; by_index_2 = λ m b l. (left _ a.work.now (with b (body m b l) w.ensures)).1; work_after = (left _ a.work.now w.ensures).2 }
+    let b = c.in_ok-begun in
+    let new = put a.key.now (own a.mtime (spliced a.offset a.«data».now c.entry_body-content.result.now)) (table_in s a.rec) in
+    let u = same_used s a.rec b.begun.merge.left b.begun.merge.at p.rec_value b.ensures.end in
+    λ m x l. c.finish.ensures.table_after new a.key.now b.ensures.merged u
+    ∙ ap (λ (t : Table). padded (length s) (encode t))
+    (put_there s a.rec a.key.now a.place.left a.place.at p.rec_value p.sought p.key_value_2 c.entry_body-content.result.now a.«data».now a.mtime a.offset c.entry_body-content.ensures m x l)

@@ -2,12 +2,10 @@
 use mathlib.Core.Path.{refl, ap, ◌∙◌}
 use Prim.Native.Nat.{ℕ, ◌+◌}
 use lib.ListN.{length}
-use native.Mathlib.Omega.{arith}
 use Rattle.model.specs.Tree.{deleted}
 use Rattle.model.specs.Table.{capped, table_in}
 use Rattle.model.proofs.Codec.{decoded}
-use Rattle.table_entries.proofs.Entries.{table_stands}
-use Rattle.table_splice.proofs.Lengths.{within, over, full, within_both}
+use Rattle.table_splice.proofs.Lengths.{over, full, within_both}
 use mathlib.Core.Bool.{not}
 use Rattle.table_splice.proofs.judge_length.Goals as goal
 
@@ -31,14 +29,6 @@ returns-then-not-sum_within c =
     let s = a.table.now in
     full a.rec.entry_size a.limit (length s) a.key.now (table_in s a.rec) p.result a.len z.result (p.ensures deleted refl)
     (z.ensures ∙ ap (λ (n : ℕ). capped (p.result.charge + n)) q.ensures) c.if-limit-charge.false r.result r.ensures (ap not c.if-not-sum_within.true)
-
-pub overflow_add-result : goal.overflow_add-result
-overflow_add-result c =
-    let r = c.sum_within in
-    let p = c.projected_record-bare in
-    let a = c.args in
-    let t = table_stands a.table.now a.rec c.requires.rec_value in
-    omega (arith, t.small, within (p.result.used + a.len) (length a.table.now) r.result r.ensures (ap not c.if-not-sum_within.false))
 
 pub returns : goal.returns
 returns c =

@@ -1,45 +1,30 @@
 -- `write_spliced` meets its contract: what is refused writes nothing, and what is done is written up to the entry.
-use mathlib.Core.Path.{refl, sym}
-use lib.ListN.{length}
+use Rattle.std.proofs.Common.{sym, refl, [], length, arith}
+use Rattle.model.specs.Map.{put}
 use Rattle.model.specs.Tree.{own}
+use Rattle.model.specs.Table.{table_in}
 use Rattle.model.specs.Content.{spliced}
 use Rattle.table_entries.proofs.Entries.{table_stands}
-use Rattle.table_splice.specs.declared.Splice.{Splice}
-use Rattle.table_splice.proofs.Begins.{is_refused, is_done_lem, refused, room_in, begun}
-use mathlib.Core.Path.{ap}
-use mathlib.Core.Bool.{not}
+use Rattle.table_write.proofs.Merges.{merge_begun}
+use Rattle.table_insert.proofs.Inserts.{room, fits_done}
 use Rattle.table_splice.proofs.write_spliced.Goals as goal
 
-pub returns-then-not-is_done : goal.returns-then-not-is_done
-returns-then-not-is_done c =
-    let d = c.is_done in
-    let j = c.judge_length-answer in
-    let l = c.spliced_len-len in
-    let a = c.args in
-    let v = own a.mtime (spliced a.offset a.«data».now a.content.now) in
-    let f = j.ensures v (sym (l.ensures a.content.now a.«data».now refl refl)) in
-    refused a.table.now a.rec a.limit a.key.now v _ a.work.now f (is_refused j.result d.result d.ensures (ap not c.if-not-is_done.true))
+pub put_next_spliced-merge-requires-clause-standing : goal.put_next_spliced-merge-requires-clause-standing
+put_next_spliced-merge-requires-clause-standing c = table_stands c.args.table.now c.args.rec c.requires.rec_value
 
-pub put_next_spliced-merge-requires : goal.put_next_spliced-merge-requires
-put_next_spliced-merge-requires c =
-    let d = c.is_done in
-    let j = c.judge_length-answer in
-    let l = c.spliced_len-len in
+pub put_next_spliced-merge-requires-clause-content_in_bounds : goal.put_next_spliced-merge-requires-clause-content_in_bounds
+put_next_spliced-merge-requires-clause-content_in_bounds c =
+    let a = c.args in
+    let t = table_in a.table.now a.rec in
+    let n = length a.table.now in
+    let v = own a.mtime (spliced a.offset a.«data».now a.content.now) in
+    let j = c.in_ok-after.ensures v (sym (c.spliced_len-len.ensures a.content.now a.«data».now refl refl)) in
+    let f = room a.key.now v t n (fits_done a.rec.entry_size a.limit n (put a.key.now v t) c.in_ok-after.after j) in
+    let h = c.requires.data_bound.1 in
+    omega arith
+
+pub returns-clause-merged : goal.returns-clause-merged
+returns-clause-merged c =
     let a = c.args in
     let s = a.table.now in
-    let v = own a.mtime (spliced a.offset a.«data».now a.content.now) in
-    let f = j.ensures v (sym (l.ensures a.content.now a.«data».now refl refl)) in
-    let x : Splice = record { answer = j.result; merge = record { at = 0; left = a.rec.count; out = 0 } } in
-    record { standing = table_stands s a.rec c.requires.rec_value; content_in_bounds = room_in s a.rec a.limit a.key.now v x f (is_done_lem j.result d.result d.ensures (ap not c.if-not-is_done.false)) (length a.work.now) c.requires.data_bound.1 }
-
-pub returns : goal.returns
-returns c =
-    let p = c.put_next_spliced-merge in
-    let d = c.is_done in
-    let j = c.judge_length-answer in
-    let l = c.spliced_len-len in
-    let a = c.args in
-    let v = own a.mtime (spliced a.offset a.«data».now a.content.now) in
-    let f = j.ensures v (sym (l.ensures a.content.now a.«data».now refl refl)) in
-    begun a.table.now a.rec a.limit a.key.now v _ a.work.now _ c.requires.rec_value f
-    (is_done_lem j.result d.result d.ensures (ap not c.if-not-is_done.false)) c.requires.key_value.0 p.ensures.merged p.ensures.work_len_unchanged p.ensures.at_value
+    c.put_next_spliced-merge.ensures.merged (table_in s a.rec) [] (merge_begun s a.work.now a.rec c.requires.rec_value) c.requires.key_value.0

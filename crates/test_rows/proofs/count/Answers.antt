@@ -14,8 +14,8 @@ returns-then-n-le-MOST c =
       c.if-n-le-MOST.true,
     )
 
-pub returns : goal.returns
-returns c =
+pub returns-else-n-le-MOST : goal.returns-else-n-le-MOST
+returns-else-n-le-MOST c =
     let a = c.args in
     let row = c.row in
     let byte = c.byte_at-n in (

@@ -9,8 +9,8 @@ returns-then-is_own c =
     let own = c.is_own in
     lent_none a.tree.now a.i (sym own.ensures ∙ c.if-is_own.true)
 
-pub returns : goal.returns
-returns c =
+pub returns-else-is_own : goal.returns-else-is_own
+returns-else-is_own c =
     let a = c.args in
     let own = c.is_own in
     c.content.ensures ∙ lent_content a.tree.now a.i (sym own.ensures ∙ c.if-is_own.false)

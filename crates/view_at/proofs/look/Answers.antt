@@ -16,7 +16,7 @@ step_once-stepped-requires c = (c.requires.sees.listing, c.requires.sees.walks, 
 
 pub returns : goal.returns
 returns c =
-    let o = c.over-visible in
+    let o = c.over in
     let t = c.step_once-stepped in
     let g = c.get_from-got in
     let a = c.args in

@@ -1,37 +1,16 @@
--- `head_at` meets its contract: what has ended is never told, and of two that go on the one with the smaller path is.
-use native.Mathlib.Omega.{arith}
-use borrow.Author.Rules.{rules}
-use Rattle.view_merge.specs.Merges.{Next}
-use Rattle.view_merge.specs.declared.Head.TheVariants as head
-use Rattle.view_merge.proofs.Told.{smaller, equal, larger}
+-- `head_at` meets its contract: of two that go on the one with the smaller path is told.
+use Rattle.std.proofs.Common.{rules}
+use Rattle.view_merge.proofs.Told.{equal, larger, next_told}
 use Rattle.view_merge.proofs.head_at.Goals as goal
 
-pub returns-then-entries-eq0 : goal.returns-then-entries-eq0
-returns-then-entries-eq0 c = let e = c.if-entries-eq0.true in (search rules, λ h. absurd (omega arith))
-
-pub returns-then-records-eq0-2 : goal.returns-then-records-eq0-2
-returns-then-records-eq0-2 c = let e = c.if-records-eq0-2.true in (search rules, λ h. absurd (omega arith))
-
-pub returns-then-order-eq0 : goal.returns-then-order-eq0
-returns-then-order-eq0 c =
-    let k = c.entry_key-key in
-    let p = c.record_path-path in
-    let o = c.compared-order in
-    (search rules, λ h. smaller _ _ _ _ k.ensures p.ensures o.result o.ensures c.if-order-eq0.true)
-
-pub returns-then-order-eq1 : goal.returns-then-order-eq1
-returns-then-order-eq1 c =
-    let k = c.entry_key-key in
-    let p = c.record_path-path in
-    let o = c.compared-order in
+pub returns-in-Equal-clause-next : goal.returns-in-Equal-clause-next
+returns-in-Equal-clause-next c =
     let a = c.args in
-    let u : Next a.own.now a.part.now a.merge head.Both
-    = (search rules, search rules, equal _ _ _ _ k.ensures p.ensures o.result o.ensures c.if-order-eq1.true) in
-    u
+    λ h e. next_told a.own.now a.part.now a.merge e
+    (search rules, search rules, equal _ _ _ _ c.entry_key-key.ensures c.record_path-path.ensures c.in-Equal.ensures)
 
-pub returns : goal.returns
-returns c =
-    let k = c.entry_key-key in
-    let p = c.record_path-path in
-    let o = c.compared-order in
-    (search rules, λ h. larger _ _ _ _ k.ensures p.ensures o.result o.ensures c.if-order-eq0.false c.if-order-eq1.false)
+pub returns-in-Greater-clause-next : goal.returns-in-Greater-clause-next
+returns-in-Greater-clause-next c =
+    let a = c.args in
+    λ h e. next_told a.own.now a.part.now a.merge e
+    (search rules, λ b. larger _ _ _ _ c.entry_key-key.ensures c.record_path-path.ensures c.in-Greater.ensures)

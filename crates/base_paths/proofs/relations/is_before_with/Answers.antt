@@ -3,8 +3,8 @@ use borrow.Author.Rules.{rules}
 use Rattle.base_paths.proofs.Related.{with_over, with_apart, with_next}
 use Rattle.base_paths.proofs.relations.is_before_with.Goals as goal
 
-pub returns-then-key-n : goal.returns-then-key-n
-returns-then-key-n c =
+pub returns-then-n-key : goal.returns-then-n-key
+returns-then-n-key c =
     let a = c.args in
     let n = c.shared-n in
     with_over a.key.now a.dir.now a.b n.result n.ensures.value (search rules)
@@ -15,8 +15,8 @@ returns-then-n-dir c =
     let n = c.shared-n in
     with_apart a.key.now a.dir.now a.b n.result n.ensures.value (search rules) (search rules)
 
-pub returns : goal.returns
-returns c =
+pub returns-else-n-dir : goal.returns-else-n-dir
+returns-else-n-dir c =
     let a = c.args in
     let n = c.shared-n in
     with_next a.key.now a.dir.now a.b n.result n.ensures.value (search rules) (search rules)

@@ -1,22 +1,26 @@
 -- `is_below` meets its contract: the directory's bytes are all in common, and a slash follows.
+use mathlib.Core.Path.{◌∙◌}
+use mathlib.Core.Logic.{inl, inr}
 use native.Mathlib.Omega.{arith}
-use borrow.Author.Rules.{rules}
+use borrow.Author.Tests.{le-ltb, ne_eqb}
 use Rattle.base_paths.proofs.Related.{below_apart, below_over, below_next}
 use Rattle.base_paths.proofs.relations.is_below.Goals as goal
-
-pub returns-then-n-dir : goal.returns-then-n-dir
-returns-then-n-dir c =
-    let a = c.args in
-    below_apart a.dir.now a.path.now (omega (arith, c.shared-n.ensures.value, c.if-n-dir.true))
+use Rattle.base_paths.proofs.relations.is_below.Goals.{then-n-dir, else-n-dir}
 
 pub returns-then-n-path : goal.returns-then-n-path
 returns-then-n-path c =
-    let a = c.args in
     let n = c.shared-n in
-    below_next a.dir.now a.path.now n.result n.ensures.value (search rules) (search rules)
+    below_next c.args.dir.now c.args.path.now n.result n.ensures.value (omega arith) c.if-n-path.true.1
 
-pub returns : goal.returns
-returns c =
-    let a = c.args in
+pub returns-else-n-path : goal.returns-else-n-path
+returns-else-n-path c =
     let n = c.shared-n in
-    below_over a.dir.now a.path.now (omega (arith, n.ensures.value, c.if-n-path.false))
+    let d = c.args.dir.now in
+    let q = c.args.path.now in
+    elim c.if-n-dir.branch [
+      | then-n-dir w ↦ elim c.if-n-path.either [
+        | inl h ↦ w.t-5-is ∙ le-ltb _ _ h.1 ∙ below_over d q (omega (arith, n.ensures.value, h.1))
+        | inr h ↦ absurd (h w.if-n-dir.true)
+      ]
+      | else-n-dir w ↦ w.t-5-is ∙ ne_eqb _ _ w.if-n-dir.false ∙ below_apart d q (omega (arith, n.ensures.value, n.ensures.within, w.if-n-dir.false))
+    ]

@@ -1,46 +1,35 @@
--- `is_child` meets its contract: the directory's bytes are all in common, a slash follows, and no other behind it.
+-- `is_child` meets its contract: the path lies below the directory, and no slash stands behind the first.
+use mathlib.Core.Path.{◌≡◌, sym, ap, ◌∙◌}
+use mathlib.Core.Bool.{Bool, true, not, ◌&&◌}
+use Prim.Native.Nat.{ℕ, ◌+◌, ◌≤◌}
 use native.Mathlib.Omega.{arith}
+use lib.Dec.{eqb}
+use lib.ListN.{length, drop}
 use borrow.Author.Rules.{rules}
-use Rattle.model.specs.Path.{child}
-use Rattle.base_paths.proofs.Related.{child_apart, child_over, child_other, child_slash, slash_here, slash_on, slash_none}
+use Rattle.std.specs.List.{list_any}
+use Rattle.std.proofs.lemmas.Slice.{between_to_end}
+use Rattle.model.specs.Path.{below, slashless}
+use Rattle.base_paths.proofs.Related.{below_long, child_below, none_any}
 use Rattle.base_paths.proofs.relations.is_child.Goals as goal
 
-pub returns-then-n-dir : goal.returns-then-n-dir
-returns-then-n-dir c =
-    let a = c.args in
-    child_apart a.dir.now a.path.now (omega (arith, c.shared-n.ensures.value, c.if-n-dir.true))
+pub slice_bounds-contains-count : goal.slice_bounds-contains-count
+slice_bounds-contains-count c = omega (arith, below_long c.args.dir.now c.args.path.now (sym c.is_below.ensures ∙ c.if-is_below.true))
 
-pub returns-then-path-n : goal.returns-then-path-n
-returns-then-path-n c =
-    let a = c.args in
-    child_over a.dir.now a.path.now (omega (arith, c.shared-n.ensures.value, c.if-path-n.true))
+pub slice_bounds-contains-start : goal.slice_bounds-contains-start
+slice_bounds-contains-start c =
+    let e = below_long c.args.dir.now c.args.path.now (sym c.is_below.ensures ∙ c.if-is_below.true) in
+    search rules
 
-pub returns-then-b-ne47 : goal.returns-then-b-ne47
-returns-then-b-ne47 c =
-    let a = c.args in
-    let n = c.shared-n in
-    child_other a.dir.now a.path.now n.result n.ensures.value (search rules) (search rules) (search rules)
+pub returns-then-is_below : goal.returns-then-is_below
+returns-then-is_below c =
+    let d = c.args.dir.now in
+    let q = c.args.path.now in
+    let k : ℕ = length d + 1 in
+    let n : length q ≤ length q = omega arith in
+    let b : below d q ≡ true = sym c.is_below.ensures ∙ c.if-is_below.true in
+    let e : c.contains.result ≡ list_any (λ (y : ℕ). eqb y 47) (drop k q)
+    = c.contains.ensures.value ∙ ap (list_any (λ (y : ℕ). eqb y 47)) (between_to_end q k (length q) n) in
+    ap not e ∙ none_any (drop k q) ∙ sym (child_below d q ∙ ap (λ (t : Bool). t && slashless (drop k q)) b)
 
-pub loop-i-init : goal.loop-i-init
-loop-i-init c =
-    let a = c.args in
-    let n = c.shared-n in
-    child_slash a.dir.now a.path.now n.result n.ensures.value (search rules) (search rules) (search rules)
-
-pub returns-then-path-i-eq47 : goal.returns-then-path-i-eq47
-returns-then-path-i-eq47 c =
-    let l = c.loop-i in
-    let a = c.args in
-    slash_here a.path.now l.i (child a.dir.now a.path.now) l.invariant (search rules) (search rules)
-
-pub loop-i-preserved : goal.loop-i-preserved
-loop-i-preserved c =
-    let l = c.loop-i in
-    let a = c.args in
-    slash_on a.path.now l.i (child a.dir.now a.path.now) l.invariant (search rules) (search rules)
-
-pub returns : goal.returns
-returns c =
-    let l = c.loop-i in
-    let a = c.args in
-    slash_none a.path.now l.i (child a.dir.now a.path.now) l.invariant (search rules)
+pub returns-else-is_below : goal.returns-else-is_below
+returns-else-is_below c = rw (child_below c.args.dir.now c.args.path.now, ← c.is_below.ensures, c.if-is_below.false)

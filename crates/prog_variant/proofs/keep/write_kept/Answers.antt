@@ -7,12 +7,12 @@ use Rattle.prog_variant.proofs.keep.write_kept.Goals as goal
 pub slice_bounds-write_file-end : goal.slice_bounds-write_file-end
 slice_bounds-write_file-end g c =
     let a = c.args in
-    let e = c.write-writing.ensures in
-    made_within a.listing.now a.table.now a.rec a.output.now _ c.write-writing.result _ e.result_value e.output_after
-    c.in-Done.is
+    let e = c.write.ensures in
+    made_within a.listing.now a.table.now a.rec a.output.now _ c.write.result _ e.result_value e.output_after
+    c.in-Ok.is
 
-pub slice_bounds-write_file-end-in-Done : goal.slice_bounds-write_file-end-in-Done
-slice_bounds-write_file-end-in-Done g c =
+pub slice_bounds-write_file-end-in-Ok : goal.slice_bounds-write_file-end-in-Ok
+slice_bounds-write_file-end-in-Ok g c =
     let a = c.args in
-    let e = c.write-writing.ensures in
-    sym (length-take-le _ _ (made_within a.listing.now a.table.now a.rec a.output.now _ c.write-writing.result _ e.result_value e.output_after c.in-Done.is))
+    let e = c.write.ensures in
+    sym (length-take-le _ _ (made_within a.listing.now a.table.now a.rec a.output.now _ c.write.result _ e.result_value e.output_after c.in-Ok.is))

@@ -5,8 +5,8 @@ use Rattle.view_merge.specs.Merges.{Merging, remaining, passed}
 use Rattle.test_lines.specs.Totals.{total}
 use Rattle.test_lines.proofs.counts.count.Given as goal
 
-abbrev pub invariant-loop-merge : goal.invariant-loop-merge
-invariant-loop-merge l = Merging l.own l.part l.merge × (total l.counts ≤ passed l.merge)
+abbrev pub invariant-loop-head : goal.invariant-loop-head
+invariant-loop-head l = Merging l.own l.part l.merge × (total l.counts ≤ passed l.merge)
 
-abbrev pub decreases-loop-merge : goal.decreases-loop-merge
-decreases-loop-merge l = remaining l.merge
+abbrev pub decreases-loop-head : goal.decreases-loop-head
+decreases-loop-head l = remaining l.merge

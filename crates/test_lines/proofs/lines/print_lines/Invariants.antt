@@ -4,8 +4,8 @@ use Rattle.view_merge.specs.Merges.{Merging, remaining}
 use Prim.Native.Nat.{◌≤◌}
 use Rattle.test_lines.proofs.lines.print_lines.Given as goal
 
-abbrev pub invariant-loop-merge : goal.invariant-loop-merge
-invariant-loop-merge g l = Merging l.own l.part l.merge × (remaining l.merge ≤ remaining l.initial.merge)
+abbrev pub invariant-loop-head : goal.invariant-loop-head
+invariant-loop-head g l = Merging l.own l.part l.merge × (remaining l.merge ≤ remaining l.initial.merge)
 
-abbrev pub decreases-loop-merge : goal.decreases-loop-merge
-decreases-loop-merge g l = remaining l.merge
+abbrev pub decreases-loop-head : goal.decreases-loop-head
+decreases-loop-head g l = remaining l.merge

@@ -1,9 +1,0 @@
--- `seek` meets its contract: an entry whose key is before the key is passed, and the first other one is where it ends.
-use Rattle.table_entries.proofs.Seeks.{Seeking}
-use Rattle.table_entries.proofs.seek.Given as goal
-
-abbrev pub invariant-loop-left : goal.invariant-loop-left
-invariant-loop-left l = Seeking l.table l.key l.initial.left l.initial.at l.left l.at
-
-abbrev pub decreases-loop-left : goal.decreases-loop-left
-decreases-loop-left l = l.left

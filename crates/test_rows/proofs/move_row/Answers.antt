@@ -1,9 +1,0 @@
--- `move_row` is safe: the length stays.
-use mathlib.Core.Path.{refl}
-use Rattle.test_rows.proofs.move_row.Goals as goal
-
-pub loop-j-init : goal.loop-j-init
-loop-j-init c = refl
-
-pub shape_of-tree : goal.shape_of-tree
-shape_of-tree c = c.loop-j.invariant
