@@ -42,10 +42,7 @@ fn is_same_table(table: &[u8], old: &[u8]) -> bool
 fn is_same_record(a: Record, b: Record) -> bool
     ensures { result ≡ same_record a b }
 {
-    (a.used == b.used)
-        & (a.count == b.count)
-        & (a.charge == b.charge)
-        & (a.entry_size == b.entry_size)
+    a == b
 }
 
 // Whether table and record are those of before `prepare`.
