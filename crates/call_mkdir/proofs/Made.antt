@@ -24,7 +24,7 @@ use Rattle.model.specs.declared.Refusal.{Refusal}
 use Rattle.base_paths.specs.declared.prefixes.Dirs.{Dirs}
 use Rattle.base_paths.specs.Dirs.{ends_of, climbs, prefixes}
 use Rattle.std.specs.Prelude.{Result, Ok, Err, IfOk}
-use Rattle.call_mkdir.specs.Step.{Makes}
+use Rattle.call_mkdir.specs.Judged.{Makes}
 use Rattle.check_parents.specs.Missing.{missing_ends}
 
 -- the ancestors of a path are what ends where they end, and so are the missing ones

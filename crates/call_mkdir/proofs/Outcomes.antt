@@ -26,7 +26,7 @@ use Rattle.check_judged.proofs.Thens.{then_assoc}
 use Rattle.call_answer.specs.Meets.{requested, stored, last, Meets, answered_of}
 use Rattle.call_answer.proofs.Settles.{refused_meets, unchanged_meets, inserted_meets}
 use Rattle.call_answer.proofs.Admits.{given_verdict}
-use Rattle.call_mkdir.specs.Step.{mkdir_checks, after_judging}
+use Rattle.call_mkdir.specs.Judged.{mkdir_checks, after_judging}
 
 -- mkdir behind 1 and 2, with the work buffer w
 module _ (l s : Bytes) (r : Record) (w : Bytes) (p : Path) (up ok : Bool) (mtime limit : ℕ) (g : Given l s r) (h : length s ≤ length w) where

@@ -17,7 +17,7 @@ ghost use Rattle.view_at.specs.Sight.{visible_kind};
 ghost use Rattle.check_judged.specs.Judged.{check_of};
 ghost use Rattle.base_paths.specs.Dirs.{ends_of, climbs, prefixes};
 ghost use Rattle.call_answer.specs.Meets.{requested, stored, Meets};
-ghost use Rattle.call_mkdir.specs.Step.{mkdir_checks, after_judging, Makes};
+ghost use Rattle.call_mkdir.specs.Judged.{mkdir_checks, after_judging, Makes};
 
 use base_paths::Dirs;
 use check_judged::Judged;

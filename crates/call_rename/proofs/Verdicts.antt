@@ -9,7 +9,7 @@ use borrow.Author.Tests.{leb-true}
 use Rattle.model.specs.Bytes.{Bytes, every}
 use Rattle.model.specs.Path.{Path, is_path, short}
 use Rattle.model.specs.Map.{keys, rekey}
-use Rattle.model.specs.Tree.{Table, Tree, shown}
+use Rattle.model.specs.Tree.{Table, Tree, shown, Kind, a_directory, a_file, kind, is_directory}
 use Rattle.model.specs.Listing.{tree_in}
 use Rattle.model.specs.Table.{encode, padded, charge, record_of, table_in}
 use Rattle.model.specs.Checks.{Check, pass, refuse, ◌then◌, unless, Memory, limited, charged}
@@ -31,6 +31,7 @@ use Rattle.call_answer.specs.Meets.{requested, stored, Meets}
 use Rattle.call_answer.proofs.Settles.{told_so, unchanged_meets}
 use Rattle.call_answer.proofs.Admits.{given_verdict}
 use Rattle.rename_checks.specs.Early.{EarlyPassed}
+use Rattle.rename_checks.proofs.Passed.{kind_whole}
 use Rattle.rename_settle.specs.Settled.{last_checks}
 
 -- the checks from 3 on, in the groups in which they are made: each path by itself; behind that both together with the plan and the walk, then 11 to 13
@@ -143,6 +144,11 @@ module _ (l s : Bytes) (r : Record) (w : Bytes) (a b : Path) (limit : ℕ) (give
         paths = (then_pass (forms (rename a b)) (rename_paths t g a b) p).1;
         types = types;
       }
+
+      -- what the source shows, by whether it moves with all below it
+      pub source_kind : (k : Kind) → k ≡ kind (shown t g) a → (x : Bool) → x ≡ is_directory k
+          → kind (shown t g) a ≡ cond x a_directory a_file
+      source_kind = kind_whole t g a b early
 
       decides : verdict l q (stored s r) ≡ rest
       decides = move_verdict ∙ ap (λ (y : Check). y then rest) (sym h)

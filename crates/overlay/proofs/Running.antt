@@ -10,7 +10,7 @@ use Rattle.model.specs.Outcome.{Request}
 use Rattle.model.specs.Runs.{State}
 use Rattle.model.specs.declared.Record.{Record}
 use Rattle.call_answer.specs.Meets.{stored}
-use Rattle.run_calls.specs.Runs.{Result, Ran, ran_on, ran_new, Gives, Holds}
+use Rattle.run_calls.specs.Runs.{RunOutcome, Ran, ran_on, ran_new, Gives, Holds}
 use Rattle.std.specs.Prelude.{Ok, Err}
 use Rattle.run_calls.specs.declared.RunError.TheVariants.{MalformedTable, MalformedScript, ShortReport}
 use Rattle.overlay_packed.specs.Packed.{numbers, record_in, ran_number, ran_numbers}
@@ -19,7 +19,7 @@ use Rattle.overlay.proofs.Leaving.{four_back, chosen, otherwise}
 
 -- a run on the table t with the record n
 module _ (l t : Bytes) (n : List ℕ) (work script report : Bytes) where
-  abbrev x : Result Ran
+  abbrev x : RunOutcome
   x = ran_on l (stored t (record_in n)) work script report
 
   pub not_run : (length n ≡ 4 → ⊥) → run_left 1 n t work report ≡ script_run l t n work script report
@@ -44,7 +44,7 @@ module _ (l t : Bytes) (n : List ℕ) (work script report : Bytes) where
 
 -- a run on t, opened for entries of size E
 module _ (l : Bytes) (E : ℕ) (t : Bytes) (n : List ℕ) (work script report : Bytes) where
-  abbrev y : Result Ran
+  abbrev y : RunOutcome
   y = ran_new l E t work script report
 
   pub not_run_new : (length n ≡ 4 → ⊥) → run_left 1 n t work report ≡ new_script_run l E t n work script report

@@ -8,7 +8,7 @@ use Prim.Native.Nat.{ℕ, zero, suc, ◌+◌, ◌-◌, ◌≤◌, ◌<◌}
 use native.Mathlib.Omega.{arith}
 use lib.Dec.{eqb}
 use lib.ListN.{length}
-use Rattle.std.specs.Prelude as maybe
+use Rattle.std.specs.Prelude as code
 use Rattle.model.specs.Bytes.{Bytes, every, same, before}
 use Rattle.model.specs.Path.{Path}
 use Rattle.model.specs.Map.{is_none, lookup, ascends}
@@ -175,11 +175,11 @@ pub one_done : (s w w' : Bytes) (x x' : Merge) (b : Path) (e f : Entry) → e �
 one_done s w w' x x' b e f h y = subst (λ (o : Entry). AllPut s w w' ((b, o) ∷ []) x x') h y
 
 -- what is listed, as an entry, from what `find` tells
-abbrev pub found_entry : maybe.Option Found → Path → Entry
-found_entry (maybe.Some (found.Directory m)) p = directory m
-found_entry (maybe.Some (found.File m z)) p = reference m z p
-found_entry (maybe.Some found.Link) p = deleted
-found_entry maybe.None p = deleted
+abbrev pub found_entry : code.Option Found → Path → Entry
+found_entry (code.Some (found.Directory m)) p = directory m
+found_entry (code.Some (found.File m z)) p = reference m z p
+found_entry (code.Some found.Link) p = deleted
+found_entry code.None p = deleted
 
 node_entry : (r : ListingRecord) (p : Path) → r.path ≡ p → found_entry (found_of (some (node_of r))) p ≡ as_entry (node_of r)
 node_entry r p e = elim (test (eqb r.type 1)) [
@@ -191,17 +191,17 @@ found_entry_lem : (rs : List ListingRecord) (p : Path) → found_entry (found_of
 found_entry_lem [] p = refl
 found_entry_lem (r ∷ rs) p = elim (split r.path p) [ Split.eq e w ↦ rw w (node_entry r p e) | Split.ne e w ↦ rw w (found_entry_lem rs p) ]
 
-pub told_entry : (s : Bytes) (p : Path) (f x : maybe.Option Found) → f ≡ found_of (lookup (tree_in s) p) → f ≡ x → found_entry x p ≡ top_of none (lookup (tree_in s) p)
-told_entry s p f x h e = ap (λ (o : maybe.Option Found). found_entry o p) (sym e ∙ h) ∙ found_entry_lem (records s) p
+pub told_entry : (s : Bytes) (p : Path) (f x : code.Option Found) → f ≡ found_of (lookup (tree_in s) p) → f ≡ x → found_entry x p ≡ top_of none (lookup (tree_in s) p)
+told_entry s p f x h e = ap (λ (o : code.Option Found). found_entry o p) (sym e ∙ h) ∙ found_entry_lem (records s) p
 
-pub told_some : (s : Bytes) (p : Path) (f : maybe.Option Found) (y x : Found) → f ≡ found_of (lookup (tree_in s) p) → f ≡ maybe.Some y → y ≡ x
-    → found_entry (maybe.Some x) p ≡ top_of none (lookup (tree_in s) p)
-told_some s p f y x h e d = told_entry s p f (maybe.Some x) h (e ∙ ap (λ (o : Found). maybe.Some o) d)
+pub told_some : (s : Bytes) (p : Path) (f : code.Option Found) (y x : Found) → f ≡ found_of (lookup (tree_in s) p) → f ≡ code.Some y → y ≡ x
+    → found_entry (code.Some x) p ≡ top_of none (lookup (tree_in s) p)
+told_some s p f y x h e d = told_entry s p f (code.Some x) h (e ∙ ap (λ (o : Found). code.Some o) d)
 
-pub told_deleted : (s : Bytes) (p : Path) (f : maybe.Option Found) → f ≡ found_of (lookup (tree_in s) p) → (f ≡ maybe.Some found.Link) ⊎ (f ≡ maybe.None)
+pub told_deleted : (s : Bytes) (p : Path) (f : code.Option Found) → f ≡ found_of (lookup (tree_in s) p) → (f ≡ code.Some found.Link) ⊎ (f ≡ code.None)
     → deleted ≡ top_of none (lookup (tree_in s) p)
-told_deleted s p f h (inl e) = told_entry s p f (maybe.Some found.Link) h e
-told_deleted s p f h (inr e) = told_entry s p f maybe.None h e
+told_deleted s p f h (inl e) = told_entry s p f (code.Some found.Link) h e
+told_deleted s p f h (inr e) = told_entry s p f code.None h e
 
 pub directory_written : (m : ℕ) → Written 3 m 0 []
 directory_written m = record { type = refl; time = refl; long = refl; content = refl }

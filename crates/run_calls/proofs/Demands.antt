@@ -11,8 +11,7 @@ use Rattle.model.specs.Outcome.{Store, Request, Outcome, outcome, opened}
 use Rattle.model.specs.Runs.{step, after, begin, WordedCall, WordedCalls}
 use Rattle.model.specs.declared.Record.{Record}
 use Rattle.model.specs.declared.Refusal.{Refusal}
-use Rattle.std.specs.Prelude as code
-use Rattle.std.specs.Prelude.{Ok, Err}
+use Rattle.std.specs.Prelude.{Result, Ok, Err}
 use Rattle.model.proofs.Words.{IsBytes}
 use Rattle.model.proofs.Formed.{bytes_drop, number_below}
 use Rattle.model.proofs.Demand3 as demand
@@ -66,7 +65,7 @@ module _ (script : Bytes) (b : IsBytes script) where
       }
 
 -- opening, and what follows
-module _ (listing : Bytes) (E : ℕ) (buffer work script report : Bytes) (a : code.Result ℕ Refusal) (told-so : told a ≡ (opened E buffer).reply) where
+module _ (listing : Bytes) (E : ℕ) (buffer work script report : Bytes) (a : Result ℕ Refusal) (told-so : told a ≡ (opened E buffer).reply) where
   module _ (v : ℕ) (e : a ≡ Ok v) where
     pub accepts : (opened E buffer).reply ≡ accepted v
     accepts = sym told-so ∙ ap told e

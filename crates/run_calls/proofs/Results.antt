@@ -1,4 +1,4 @@
--- From what the code found to the result that the definition gives.
+-- From what the code found to the outcome that the definition gives.
 use mathlib.Core.Path.{◌≡◌, refl, ap, ap₂, sym, ◌∙◌, subst⁻¹}
 use mathlib.Core.Bool.{Bool, true, false}
 use mathlib.Core.List.{◌++◌}
@@ -12,7 +12,7 @@ use Rattle.model.specs.declared.Record.{Record}
 use Rattle.model.proofs.Orders.{bot, and_true, test, yea, nay}
 use Rattle.call_answer.specs.Meets.{stored}
 use Rattle.run_script.specs.Script.{is_two, step_count, steps_in, filled, marked, is_script}
-use Rattle.run_calls.specs.Runs.{RunLeft, left_after, rows, Result, done, unchanged, Ran, ran_on, Gives, Finished}
+use Rattle.run_calls.specs.Runs.{RunLeft, left_after, rows, RunOutcome, done, unchanged, Ran, ran_on, Gives, Finished}
 use Rattle.run_calls.specs.declared.RunError.{RunError}
 use Rattle.run_calls.specs.declared.RunError.TheVariants.{MalformedScript, ShortReport}
 use Rattle.std.specs.Prelude.{Ok, Err}
@@ -56,7 +56,7 @@ module _ (listing : Bytes) (s : Store) (work script report : Bytes) where
       module _ {b : Bool} (eb : b ≡ leb (32 * step_count script) (length report)) where
         pub short : b ≡ false → Gives (ran_on listing s work script report) (Err ShortReport) s.table work report
         short h =
-            subst⁻¹ (λ (x : Result Ran). Gives x (Err ShortReport) s.table work report) (is_short well (sym (by_count eb) ∙ h))
+            subst⁻¹ (λ (x : RunOutcome). Gives x (Err ShortReport) s.table work report) (is_short well (sym (by_count eb) ∙ h))
             (record { answer = refl; bytes = refl; buffer = refl; told = refl })
 
         module _ (hb : b ≡ true) where
@@ -64,7 +64,7 @@ module _ (listing : Bytes) (s : Store) (work script report : Bytes) where
               → Gives (ran_on listing s work script report) (Ok r) table' work' report'
           finished r {table'} {work'} {report'} f =
               let w : Bytes = rows (left_after listing (steps_in script) s work).told in
-              subst⁻¹ (λ (x : Result Ran). Gives x (Ok r) table' work' report') (is_done_lem well (sym (by_count eb) ∙ hb))
+              subst⁻¹ (λ (x : RunOutcome). Gives x (Ok r) table' work' report') (is_done_lem well (sym (by_count eb) ∙ hb))
               (record {
                 answer = ap (λ (x : Store). done_with x.rec) f.store;
                 bytes = ap (λ (x : Store). x.table) f.store;
@@ -76,12 +76,12 @@ module _ (listing : Bytes) (s : Store) (work script report : Bytes) where
   pub done_leaves : (last : Record) → (ran_on listing s work script report).answer ≡ Ok last
       → stored (ran_on listing s work script report).table last ≡ (left_after listing (steps_in script) s work).store
   done_leaves last h = elim (test (is_script script)) [
-    | nay e ↦ absurd (run_or_not MalformedScript last (sym (ap (λ (x : Result Ran). x.answer) (is_malformed e)) ∙ h))
+    | nay e ↦ absurd (run_or_not MalformedScript last (sym (ap (λ (x : RunOutcome). x.answer) (is_malformed e)) ∙ h))
     | yea e ↦ elim (test enough) [
-      | nay f ↦ absurd (run_or_not ShortReport last (sym (ap (λ (x : Result Ran). x.answer) (is_short e f)) ∙ h))
+      | nay f ↦ absurd (run_or_not ShortReport last (sym (ap (λ (x : RunOutcome). x.answer) (is_short e f)) ∙ h))
       | yea f ↦
           let y : RunLeft = left_after listing (steps_in script) s work in
-          let x : done_with y.store.rec ≡ done_with last = sym (ap (λ (x : Result Ran). x.answer) (is_done_lem e f)) ∙ h in
-          ap₂ stored (ap (λ (x : Result Ran). x.table) (is_done_lem e f)) (sym (cc))
+          let x : done_with y.store.rec ≡ done_with last = sym (ap (λ (x : RunOutcome). x.answer) (is_done_lem e f)) ∙ h in
+          ap₂ stored (ap (λ (x : RunOutcome). x.table) (is_done_lem e f)) (sym (cc))
     ]
   ]

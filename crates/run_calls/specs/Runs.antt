@@ -1,6 +1,5 @@
 -- What a script's calls answer and leave, and demand 3 of document 01 on them.
-use Rattle.std.specs.Prelude.{◌≡◌, cond, List, [], ◌∷◌, ◌++◌, ℕ, ◌*◌, leb, length, drop, Ok, Err}
-use Rattle.std.specs.Prelude as code
+use Rattle.std.specs.Prelude.{◌≡◌, cond, List, [], ◌∷◌, ◌++◌, ℕ, ◌*◌, leb, length, drop, Result, Ok, Err}
 use Rattle.model.specs.Bytes.{Bytes, bytes}
 use Rattle.model.specs.Answer.{Reply, accepted, refused}
 use Rattle.model.specs.Outcome.{Store, Request, outcome, opened}
@@ -54,19 +53,19 @@ abbrev pub rows : List Told → Bytes
 rows [] = []
 rows (x ∷ xs) = row_bytes (row_of x.reply) x.charge ++ rows xs
 
+-- the record after the last call, or why the script is not run
+abbrev pub Ran : Type 0
+Ran = Result Record RunError
+
 -- an answer, and the table, the work buffer and the report beside it
-pub record Result (A : Type 0) : Type 0 where
-  pub answer : A
+pub record RunOutcome : Type 0 where
+  pub answer : Ran
   pub table : Bytes
   pub work : Bytes
   pub report : Bytes
 
--- the record after the last call, or why the script is not run
-abbrev pub Ran : Type 0
-Ran = code.Result Record RunError
-
 -- a report has the rows, then the bytes that stood there
-abbrev pub done : RunLeft → Bytes → Result Ran
+abbrev pub done : RunLeft → Bytes → RunOutcome
 done l report = record {
   answer = Ok l.store.rec;
   table = l.store.table;
@@ -74,11 +73,11 @@ done l report = record {
   report = rows l.told ++ drop (length (rows l.told)) report;
 }
 
-abbrev pub unchanged : Ran → Store → Bytes → Bytes → Result Ran
+abbrev pub unchanged : Ran → Store → Bytes → Bytes → RunOutcome
 unchanged a s work report = record { answer = a; table = s.table; work = work; report = report }
 
 -- running the script on a table with its record: all of it, or nothing changes
-abbrev pub ran_on : Bytes → Store → Bytes → Bytes → Bytes → Result Ran
+abbrev pub ran_on : Bytes → Store → Bytes → Bytes → Bytes → RunOutcome
 ran_on listing s work script report =
     cond (is_script script)
     (cond (leb (32 * length (steps_in script)) (length report))
@@ -86,19 +85,19 @@ ran_on listing s work script report =
     (unchanged (Err ShortReport) s work report))
     (unchanged (Err MalformedScript) s work report)
 
-abbrev pub if_opened : Reply → Result Ran → Result Ran → Result Ran
+abbrev pub if_opened : Reply → RunOutcome → RunOutcome → RunOutcome
 if_opened (accepted v) x y = x
 if_opened (refused n w k) x y = y
 
 -- opening a buffer, and running the script on the empty table
-abbrev pub ran_new : Bytes → ℕ → Bytes → Bytes → Bytes → Bytes → Result Ran
+abbrev pub ran_new : Bytes → ℕ → Bytes → Bytes → Bytes → Bytes → RunOutcome
 ran_new listing E buffer work script report =
     let o = opened E buffer in
     if_opened o.reply (ran_on listing o.store work script report)
     (record { answer = Err MalformedTable; table = buffer; work = work; report = report })
 
--- what the code answers and leaves is the result x
-pub record Gives {A : Type 0} (x : Result A) (r : A) (table work report : Bytes) : Type 0 where
+-- what the code answers and leaves is the outcome x
+pub record Gives (x : RunOutcome) (r : Ran) (table work report : Bytes) : Type 0 where
   pub answer : r ≡ x.answer
   pub bytes : table ≡ x.table
   pub buffer : work ≡ x.work

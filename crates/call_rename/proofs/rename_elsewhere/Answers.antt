@@ -1,10 +1,7 @@
 -- `rename_elsewhere` meets its contract: refused by the checks of both paths, the plan or the walk, by 11, 12 or 13, or written anew.
 use Rattle.std.proofs.Common.{refl}
-use Rattle.model.specs.Listing.{tree_in}
-use Rattle.model.specs.Table.{table_in}
 use Rattle.view_at.specs.Sight.{visible_kind}
-use Rattle.rename_checks.proofs.Passed.{kind_whole}
-use Rattle.call_rename.proofs.Verdicts.{move_refused, paths, early, settled_refused, settled_fits, settled_done}
+use Rattle.call_rename.proofs.Verdicts.{move_refused, paths, early, source_kind, settled_refused, settled_fits, settled_done}
 use Rattle.call_rename.proofs.rename_elsewhere.Goals as goal
 
 pub judge_move-requires-clause-source_value : goal.judge_move-requires-clause-source_value
@@ -34,10 +31,9 @@ last_checks-requires-clause-early_passed c =
 pub last_checks-requires-clause-source_value_2 : goal.last_checks-requires-clause-source_value_2
 last_checks-requires-clause-source_value_2 c =
     let a = c.args in
-    let e = early a.listing.now a.table.now a.rec a.work.now a.source.now a.destination.now a.limit c.requires.given c.requires.table_in_bounds
-    c.requires.destination_value c.requires.destination_value_2 c.in_default.ensures in
-    kind_whole (table_in a.table.now a.rec) (tree_in a.listing.now) a.source.now a.destination.now e (visible_kind c.visible_at.result) c.visible_at.ensures
-    c.is_directory-whole.result c.is_directory-whole.ensures
+    source_kind a.listing.now a.table.now a.rec a.work.now a.source.now a.destination.now a.limit c.requires.given c.requires.table_in_bounds
+    c.requires.destination_value c.requires.destination_value_2 c.in_default.ensures
+    (visible_kind c.visible_at.result) c.visible_at.ensures c.is_directory-whole.result c.is_directory-whole.ensures
 
 pub write_move-requires-clause-early_passed : goal.write_move-requires-clause-early_passed
 write_move-requires-clause-early_passed c =
@@ -48,10 +44,9 @@ write_move-requires-clause-early_passed c =
 pub write_move-requires-clause-source_value : goal.write_move-requires-clause-source_value
 write_move-requires-clause-source_value c =
     let a = c.args in
-    let e = early a.listing.now a.table.now a.rec a.work.now a.source.now a.destination.now a.limit c.requires.given c.requires.table_in_bounds
-    c.requires.destination_value c.requires.destination_value_2 c.in_default.ensures in
-    kind_whole (table_in a.table.now a.rec) (tree_in a.listing.now) a.source.now a.destination.now e (visible_kind c.visible_at.result) c.visible_at.ensures
-    c.is_directory-whole.result c.is_directory-whole.ensures
+    source_kind a.listing.now a.table.now a.rec a.work.now a.source.now a.destination.now a.limit c.requires.given c.requires.table_in_bounds
+    c.requires.destination_value c.requires.destination_value_2 c.in_default.ensures
+    (visible_kind c.visible_at.result) c.visible_at.ensures c.is_directory-whole.result c.is_directory-whole.ensures
 
 pub write_move-requires-clause-source_value_2 : goal.write_move-requires-clause-source_value_2
 write_move-requires-clause-source_value_2 c =
