@@ -46,10 +46,10 @@ fn name_size<'a>(own: &'a [u8], part: &'a [u8], merge: Merge, head: Head, dir: &
         part.now merge head))) ≡ true }
     ensures { Sized dir.now own.now part.now merge head result }
 {
-    if !view_merge::head_exists(own, part, merge, head) {
+    if !view_merge::head_exists(own, part, merge, Some(head)) {
         return 0;
     }
-    let path = view_merge::head_path(own, part, merge, head);
+    let path = view_merge::head_path(own, part, merge, Some(head));
     let start = name_start(dir);
     if is_one_component(path, start) {
         return LENGTH + (path.len() - start);
@@ -111,7 +111,7 @@ fn put_name<'a>(
     if size == 0 {
         return at;
     }
-    let path = view_merge::head_path(own, part, merge, head);
+    let path = view_merge::head_path(own, part, merge, Some(head));
     let start = path.len() + LENGTH - size;
     put_sized(output, at, &path[start..]);
     at + size

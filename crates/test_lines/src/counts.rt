@@ -54,7 +54,7 @@ pub fn count(own: &[u8], part: &[u8], first: Merge) -> Counts
     };
     let mut merge = first;
     while let Some(head) = view_merge::head_at(own, part, merge) {
-        let mark = view_marks::mark_at(own, part, merge, head);
+        let mark = view_marks::mark_at(own, part, merge, Some(head));
         counts = counted(counts, mark);
         merge = view_merge::advance(own, part, merge, head);
     }

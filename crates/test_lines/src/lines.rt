@@ -137,7 +137,7 @@ pub fn print_lines(
 {
     let mut merge = first;
     while let Some(head) = view_merge::head_at(own, part, merge) {
-        let mark = view_marks::mark_at(own, part, merge, head);
+        let mark = view_marks::mark_at(own, part, merge, Some(head));
         line(rt, own, part, merge, mark, changes)?;
         merge = view_merge::advance(own, part, merge, head);
     }

@@ -1,5 +1,6 @@
 -- How what is visible at a path stands to what is listed there.
-use Rattle.std.specs.Prelude.{◌≡◌, Bool, true, false, ◌<◌}
+use Rattle.std.specs.Prelude.{◌≡◌, Bool, true, false, ◌<◌, Some, None}
+use Rattle.std.specs.Prelude as code
 use Rattle.std.proofs.Math.Option.{Option, none, some}
 use Rattle.model.specs.Bytes.{Bytes}
 use Rattle.model.specs.Map.{is_none}
@@ -20,6 +21,11 @@ abbrev pub listed_node : Bytes → Merge → Head → Option Node
 listed_node part m head.Entry = none
 listed_node part m head.Record = some (node_of (record_at part m.records.at))
 listed_node part m head.Both = some (node_of (record_at part m.records.at))
+
+-- the same of what `head_at` tells: where nothing is next, nothing is listed
+abbrev pub next_listed : Bytes → Merge → code.Option Head → Option Node
+next_listed part m (Some h) = listed_node part m h
+next_listed part m None = none
 
 -- the mark of a path where v is visible and l is listed: no two marks hold of the same
 abbrev pub Marks : Option Node → Option Node → Mark → Type 0

@@ -3,15 +3,15 @@
 // the entry and the record that are next, once.
 #![tactic(auto)]
 
-ghost use Rattle.std.specs.Prelude.{◌≡◌, ◌<◌};
+ghost use Rattle.std.specs.Prelude.{◌≡◌, ◌<◌, IfSome};
 ghost use Rattle.std.proofs.Math.Option.{some};
 ghost use Rattle.model.specs.Tree.{view, dir, file, listed};
 ghost use Rattle.model.specs.Listing.{record_at, node_of};
 ghost use Rattle.model.specs.Table.{entry_at, key_at};
 ghost use Rattle.table_entries.specs.Place.{Standing};
-ghost use Rattle.view_merge.specs.Merges.{Merging, Next, head_node};
+ghost use Rattle.view_merge.specs.Merges.{Merging, Next, head_node, next_node};
 ghost use Rattle.view_merge.specs.declared.Head.TheVariants as head;
-ghost use Rattle.view_marks.specs.Marks.{Tells, listed_node, Marks, There};
+ghost use Rattle.view_marks.specs.Marks.{Tells, listed_node, next_listed, Marks, There};
 
 use listing_records::Found;
 use view_merge::{Head, Merge};
@@ -97,17 +97,18 @@ fn of_both(own: &[u8], part: &[u8], merge: Merge) -> Mark
     }
 }
 
-// The mark of what is next.
-pub fn mark_at(own: &[u8], part: &[u8], merge: Merge, head: Head) -> Mark
+// The mark of what is next; where nothing is, nothing is visible or listed.
+pub fn mark_at(own: &[u8], part: &[u8], merge: Merge, head: Option<Head>) -> Mark
     requires merging { Merging own.now part.now merge }
-    requires next { Next own.now part.now merge head }
-    ensures marks { Marks (head_node own.now part.now merge head)
-        (listed_node part.now merge head) result }
+    requires next { IfSome head (Next own.now part.now merge) }
+    ensures marks { Marks (next_node own.now part.now merge head)
+        (next_listed part.now merge head) result }
     ensures there { There merge result }
 {
     match head {
-        Head::Entry => of_entry(own, part, merge),
-        Head::Record => Mark::Same,
-        Head::Both => of_both(own, part, merge),
+        Some(Head::Entry) => of_entry(own, part, merge),
+        Some(Head::Record) => Mark::Same,
+        Some(Head::Both) => of_both(own, part, merge),
+        None => Mark::Nothing,
     }
 }

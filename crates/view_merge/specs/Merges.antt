@@ -1,5 +1,6 @@
 -- Entries in `own` and records in `part`, both ascending, read as one: what they show together.
-use Rattle.std.specs.Prelude.{◌≡◌, true, [], ◌∷◌, ℕ, ◌+◌, ◌<◌}
+use Rattle.std.specs.Prelude.{◌≡◌, true, [], ◌∷◌, ℕ, ◌+◌, ◌<◌, Some, None}
+use Rattle.std.specs.Prelude as code
 use Rattle.std.proofs.Math.Option.{Option, none, some}
 use Rattle.model.specs.Bytes.{Bytes, before}
 use Rattle.model.specs.Path.{Path}
@@ -54,6 +55,15 @@ abbrev pub head_node : Bytes → Bytes → Merge → Head → Option Node
 head_node own part m head.Entry = view (entry_at own m.entries.at)
 head_node own part m head.Record = some (node_of (record_at part m.records.at))
 head_node own part m head.Both = view (entry_at own m.entries.at)
+
+-- the same of what `head_at` tells: where nothing is next, the path is empty and nothing is visible
+abbrev pub next_path : Bytes → Bytes → Merge → code.Option Head → Path
+next_path own part m (Some h) = head_path own part m h
+next_path own part m None = []
+
+abbrev pub next_node : Bytes → Bytes → Merge → code.Option Head → Option Node
+next_node own part m (Some h) = head_node own part m h
+next_node own part m None = none
 
 -- as a tree of one path or of none
 abbrev pub tree_of : Path → Option Node → Tree

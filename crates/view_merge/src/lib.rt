@@ -3,7 +3,7 @@
 // and at each step the two paths that are next once more.
 #![tactic(auto)]
 
-ghost use Rattle.std.specs.Prelude.{◌≡◌, ◌++◌, ◌+◌, ◌≤◌, ◌<◌, length, Some, None};
+ghost use Rattle.std.specs.Prelude.{◌≡◌, true, false, ◌++◌, ◌+◌, ◌≤◌, ◌<◌, length, Some, None, IfSome};
 ghost use Rattle.std.proofs.Math.Option.{some};
 ghost use Rattle.model.specs.Tree.{view, kind_of};
 ghost use Rattle.model.specs.Listing.{record_at, node_of};
@@ -12,7 +12,7 @@ ghost use Rattle.listing_records.specs.Place as listing;
 ghost use Rattle.table_entries.specs.Place.{Standing};
 ghost use Rattle.model.specs.Calls.{exists, says};
 ghost use Rattle.view_merge.specs.Merges.{ahead, remaining, passed, Merging, Next, head_path, head_node};
-ghost use Rattle.view_merge.specs.Merges.{tree_of};
+ghost use Rattle.view_merge.specs.Merges.{next_path, next_node, tree_of};
 
 use std::cmp::Ordering;
 
@@ -31,17 +31,24 @@ pub enum Head {
     Both,
 }
 
+// Whether anything is to come.
+pub fn has_next(merge: Merge) -> bool
+    ensures { (result ≡ true → 0 < remaining merge) × (result ≡ false → remaining merge ≤ 0) }
+{
+    0 < merge.entries.left || 0 < merge.records.left
+}
+
 // What is next, where anything is to come. It reads no more than the two paths at the places.
 pub fn head_at(own: &[u8], part: &[u8], merge: Merge) -> Option<Head>
     requires { Merging own.now part.now merge }
     ensures next { (h : Head) → result ≡ Some h → Next own.now part.now merge h }
     ensures ended { result ≡ None → remaining merge ≡ 0 }
 {
+    if !has_next(merge) {
+        return None;
+    }
     let Merge { entries, records } = merge;
     if entries.left == 0 {
-        if records.left == 0 {
-            return None;
-        }
         return Some(Head::Record);
     }
     if records.left == 0 {
@@ -85,15 +92,16 @@ pub fn advance(own: &[u8], part: &[u8], merge: Merge, head: Head) -> Merge
     }
 }
 
-// The path of what is next.
-pub fn head_path<'a>(own: &'a [u8], part: &'a [u8], merge: Merge, head: Head) -> &'a [u8]
+// The path of what is next; where nothing is, the empty one.
+pub fn head_path<'a>(own: &'a [u8], part: &'a [u8], merge: Merge, head: Option<Head>) -> &'a [u8]
     requires merging { Merging own.now part.now merge }
-    requires next { Next own.now part.now merge head }
-    ensures { result.now ≡ head_path own.now part.now merge head }
+    requires next { IfSome head (Next own.now part.now merge) }
+    ensures { result.now ≡ next_path own.now part.now merge head }
 {
     match head {
-        Head::Entry | Head::Both => table_entries::entry_key(own, merge.entries),
-        Head::Record => listing_records::record_path(part, merge.records),
+        Some(Head::Entry | Head::Both) => table_entries::entry_key(own, merge.entries),
+        Some(Head::Record) => listing_records::record_path(part, merge.records),
+        None => &own[0..0],
     }
 }
 
@@ -117,13 +125,14 @@ fn is_no_link(part: &[u8], records: listing_records::Place) -> bool
 }
 
 // Whether something other than a link is visible at what is next.
-pub fn head_exists(own: &[u8], part: &[u8], merge: Merge, head: Head) -> bool
+pub fn head_exists(own: &[u8], part: &[u8], merge: Merge, head: Option<Head>) -> bool
     requires merging { Merging own.now part.now merge }
-    requires next { Next own.now part.now merge head }
-    ensures { result ≡ says exists (kind_of (head_node own.now part.now merge head)) }
+    requires next { IfSome head (Next own.now part.now merge) }
+    ensures { result ≡ says exists (kind_of (next_node own.now part.now merge head)) }
 {
     match head {
-        Head::Entry | Head::Both => is_live(own, merge.entries),
-        Head::Record => is_no_link(part, merge.records),
+        Some(Head::Entry | Head::Both) => is_live(own, merge.entries),
+        Some(Head::Record) => is_no_link(part, merge.records),
+        None => false,
     }
 }
