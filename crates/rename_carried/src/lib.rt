@@ -4,7 +4,7 @@
 // are next once more, of at most 512 bytes each.
 #![tactic(auto)]
 
-ghost use Rattle.std.specs.Prelude.{◌≡◌, Bool, true, List, [], ◌∷◌, ◌+◌, ◌≤◌, ◌<◌, length, MatchOption};
+ghost use Rattle.std.specs.Prelude.{◌≡◌, Bool, true, false, List, [], ◌∷◌, ◌+◌, ◌≤◌, ◌<◌, length, MatchOption};
 ghost use Rattle.model.specs.Bytes.{Bytes};
 ghost use Rattle.model.specs.Path.{Path, below};
 ghost use Rattle.model.specs.Map.{ascends, only};
@@ -31,6 +31,13 @@ pub enum Head {
     Listed,
 }
 
+// Whether an item is to come.
+pub fn has_next(stream: Stream) -> bool
+    ensures { (result ≡ true → 0 < remaining stream) × (result ≡ false → remaining stream ≤ 0) }
+{
+    0 < stream.entries.left || 0 < stream.listed.left
+}
+
 // Which stream is next, and none where both are at their end. It reads no more than the two keys at the stream's
 // places.
 pub fn head_at(own: &[u8], part: &[u8], stream: Stream) -> Option<Head>
@@ -43,12 +50,12 @@ pub fn head_at(own: &[u8], part: &[u8], stream: Stream) -> Option<Head>
     ensures stream_value { (t : Table) (a : Path) → ascends [] (ahead t a own.now part.now stream)
         ≡ true }
 {
+    if !has_next(stream) {
+        return None;
+    }
     let entries = stream.entries;
     let listed = stream.listed;
     if entries.left == 0 {
-        if listed.left == 0 {
-            return None;
-        }
         return Some(Head::Listed);
     }
     if listed.left == 0 {

@@ -8,11 +8,10 @@ use Rattle.rename_carried.specs.declared.Head.TheVariants as next
 use Rattle.rename_carried.proofs.Steps.{told}
 use Rattle.rename_carried.proofs.head_at.Goals as goal
 
-pub returns-then-listed-eq0 : goal.returns-then-listed-eq0
-returns-then-listed-eq0 c =
+pub returns-then-not-has_next : goal.returns-then-not-has_next
+returns-then-not-has_next c =
     let a = c.args in
-    let e = c.if-entries-eq0.true in
-    let f = c.if-listed-eq0.true in
+    let e = c.has_next.ensures.1 c.if-not-has_next.true in
     let u = told a.own.now a.part.now a.stream c.requires.standing c.requires.standing_2 None (omega arith) in
     record { next = u.next; ending = u.ending; stream_value = u.up }
 
@@ -20,14 +19,15 @@ pub returns-then-entries-eq0 : goal.returns-then-entries-eq0
 returns-then-entries-eq0 c =
     let a = c.args in
     let e = c.if-entries-eq0.true in
+    let f = c.has_next.ensures.0 c.if-not-has_next.false in
     let u =
     told a.own.now a.part.now a.stream c.requires.standing c.requires.standing_2 (Some next.Listed) (search rules, λ h. absurd (omega arith)) in
     record { next = u.next; ending = u.ending; stream_value = u.up }
 
-pub returns-then-listed-eq0-2 : goal.returns-then-listed-eq0-2
-returns-then-listed-eq0-2 c =
+pub returns-then-listed-eq0 : goal.returns-then-listed-eq0
+returns-then-listed-eq0 c =
     let a = c.args in
-    let e = c.if-listed-eq0-2.true in
+    let e = c.if-listed-eq0.true in
     let u =
     told a.own.now a.part.now a.stream c.requires.standing c.requires.standing_2 (Some next.Entry) (search rules, λ h. absurd (omega arith)) in
     record { next = u.next; ending = u.ending; stream_value = u.up }
