@@ -58,6 +58,7 @@ fn to_create(
     requires path_value { (is_path path.now ≡ true) × (0 < length path.now) }
     ensures judged_value { check_of result ≡ mkdir_parents (shown_in listing.now table.now rec)
         path.now parents }
+    ensures count_bound { IfOk result (λ dirs. (dirs.count ≤ 32) × (climbs 0 (length path.now) (ends_of dirs) ≡ true)) }
     ensures makes { IfOk result (λ dirs. is_nothing (kind (shown_in listing.now table.now rec) path.now) ≡ true
         → Makes listing.now table.now rec path.now dirs) }
 {

@@ -11,6 +11,11 @@ returns-then-parents-clause-makes c =
     let x = c.overlay_dirs_to_create in
     made_dirs a.listing.now a.table.now a.rec a.path.now c.requires.given.table_is x.result x.ensures.dirs_value x.ensures.count_bound
 
+pub returns-clause-count_bound : goal.returns-clause-count_bound
+returns-clause-count_bound c =
+    let a = c.args in
+    (omega arith, one_climbs (length a.path.now) _ refl c.requires.path_value.1)
+
 pub returns-clause-makes : goal.returns-clause-makes
 returns-clause-makes c =
     let a = c.args in
