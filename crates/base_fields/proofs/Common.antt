@@ -80,6 +80,12 @@ module _ (a b : Bytes) (n : ℕ) (e : n ≡ common a b) where
   pub order_first_ends : length a ≤ n → n < length b → order a b ≡ Ordering.lt
   order_first_ends h k = behind ∙ rw (drop_of_length-le a h, drop-cons b n 0 k)
 
+  pub order_second_ends : n < length a → length b ≤ n → order a b ≡ Ordering.gt
+  order_second_ends h k = behind ∙ rw (drop_of_length-le b k, drop-cons a n 0 h)
+
+  pub order_both_end : length a ≤ n → length b ≤ n → order a b ≡ Ordering.eq
+  order_both_end h k = behind ∙ rw (drop_of_length-le a h, drop_of_length-le b k)
+
   pub before_ended : length b ≤ n → before a b ≡ false
   before_ended k = rw (behind, drop_of_length-le b k) (none_before (drop n a))
 

@@ -1,4 +1,5 @@
 pub mod Common
+pub mod Numbers
 mod Slices
 pub mod Writes
 pub mod Zeros

@@ -28,6 +28,9 @@ zeros_of (suc n) = zeros_of n
 pub zeros_behind : (s : Bytes) (n : ℕ) → zeros (drop n s) ≡ true → drop n s ≡ replicate (length s - n) 0
 zeros_behind s n h = zeros_are (drop n s) h ∙ rw length-drop
 
+pub behind_zeros : (s : Bytes) (n : ℕ) → drop n s ≡ replicate (length s - n) 0 → zeros (drop n s) ≡ true
+behind_zeros s n e = rw e (zeros_of (length s - n))
+
 -- what zeroing leaves: all of a buffer, and what is behind bs, once bs is written to its start
 pub zeroed_all : (t : Bytes) → take 0 t ++ replicate (length t - 0) 0 ≡ replicate (length t) 0
 zeroed_all t = let e : length t - 0 ≡ length t = omega arith in rw e

@@ -31,6 +31,9 @@ module _ (p : Path) (i : ℕ) where
   pub next_here : i < length p → get_or p i 0 ≡ 47 → next_slash p i ≡ i
   next_here h e = rw (here h e)
 
+  pub next_past : i < length p → (get_or p i 0 ≡ 47 → ⊥) → next_slash p i ≡ next_slash p (i + 1)
+  next_past h n = ap (first_or (length p)) (past h n)
+
   pub next_over : length p ≤ i → next_slash p i ≡ length p
   next_over h = rw (over h)
 

@@ -9,11 +9,11 @@ use native.Mathlib.Nat.{le_of_suc-le-suc, not-suc-le-zero}
 use native.Mathlib.Omega.{arith}
 use lib.Dec.{eqb, ltb}
 use lib.ListN.{length, get_or, replicate}
-use borrow.Author.Tests.{eqb-true}
+use borrow.Author.Tests.{eqb-true, lt-ltb, le-ltb}
 use Rattle.model.specs.Utf8.{within, Row, rows, nowhere, after_in}
 use Rattle.model.proofs.Orders.{yea, nay, test}
 use Rattle.base_paths.specs.Classes.{row_in, after_row}
-use Rattle.base_paths.proofs.Table.{each, from, each_below}
+use Rattle.base_paths.proofs.Table.{each, from, each_below, below}
 
 -- the table of the code, from byte C0 on, in runs of one class
 abbrev from_e0 : List ℕ
@@ -39,6 +39,17 @@ right_byte b = right b (class_of b)
 -- the test of all 256 bytes
 pub every_right : each_below right_byte 0x100 ≡ true
 every_right = refl
+
+-- the rule, for every byte
+pub class_row : (b : ℕ) → b < 0x100 → class_of b ≡ row_in rows b
+class_row b h = eqb-true (class_of b) (row_in rows b) (below right_byte 0x100 every_right b h)
+
+-- and so for each of the code's three answers
+pub ascii_row : (b : ℕ) → b < 0x80 → 0 ≡ row_in rows b
+ascii_row b h = cc (lt-ltb b 0x80 h, class_row b (omega arith))
+
+pub low_row : (b : ℕ) → 0x80 ≤ b → b < 0xC0 → 9 ≡ row_in rows b
+low_row b l h = cc (le-ltb b 0x80 l, lt-ltb b 0xC0 h, class_row b (omega arith))
 
 pub table_row : (b : ℕ) → 0xC0 ≤ b → b < 0x100 → get_or classes (b - 0xC0) 0 ≡ row_in rows b
 table_row b l h =

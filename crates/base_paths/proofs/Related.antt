@@ -44,6 +44,46 @@ below_next (a ∷ d) (b ∷ q) (suc n) e h k = elim (heads a d b q) [
   | apart z m o ↦ absurd (omega arith)
 ]
 
+-- `child`: the same, and no other slash
+pub child_apart : (d q : Path) → common d q < length d → false ≡ child d q
+child_apart [] q h = absurd (omega arith)
+child_apart (a ∷ d) [] h = refl
+child_apart (a ∷ d) (b ∷ q) h = elim (heads a d b q) [
+  | alike e n o ↦ rw (eq-eqb a b e) (child_apart d q (omega arith))
+  | apart e n o ↦ rw (ne_eqb a b e)
+]
+
+pub child_over : (d q : Path) → length q ≤ common d q → false ≡ child d q
+child_over [] [] h = refl
+child_over [] (b ∷ q) h = absurd (omega arith)
+child_over (a ∷ d) [] h = refl
+child_over (a ∷ d) (b ∷ q) h = elim (heads a d b q) [
+  | alike e n o ↦ rw (eq-eqb a b e) (child_over d q (omega arith))
+  | apart e n o ↦ rw (ne_eqb a b e)
+]
+
+-- behind all of the directory's bytes: a slash, and no other
+child_next : (d q : Path) (n : ℕ) → n ≡ common d q → length d ≤ n → n < length q
+    → (eqb (get_or q n 0) 47 && slashless (drop (suc n) q)) ≡ child d q
+child_next [] [] n e h k = absurd (omega arith)
+child_next [] (b ∷ q) zero e h k = refl
+child_next [] (b ∷ q) (suc n) e h k = absurd (omega arith)
+child_next (a ∷ d) [] n e h k = absurd (omega arith)
+child_next (a ∷ d) (b ∷ q) zero e h k = absurd (omega arith)
+child_next (a ∷ d) (b ∷ q) (suc n) e h k = elim (heads a d b q) [
+  | alike z m o ↦ rw (eq-eqb a b z) (child_next d q n (omega arith) (omega arith) (omega arith))
+  | apart z m o ↦ absurd (omega arith)
+]
+
+module _ (d q : Path) (n : ℕ) (e : n ≡ common d q) (h : length d ≤ n) (k : n < length q) where
+  pub child_other : (get_or q n 0 ≡ 47 → ⊥) → false ≡ child d q
+  child_other z = let c = child_next d q n e h k in ap (λ (t : Bool). t && slashless (drop (suc n) q)) (sym (ne_eqb (get_or q n 0) 47 z)) ∙ c
+
+  pub child_slash : get_or q n 0 ≡ 47 → slashless (drop (n + 1) q) ≡ child d q
+  child_slash z =
+      let c = child_next d q n e h k in
+      rw (add-one n) (ap (λ (t : Bool). t && slashless (drop (suc n) q)) (sym (eq-eqb (get_or q n 0) 47 z)) ∙ c)
+
 pub below_long : (d q : Path) → below d q ≡ true → length d < length q
 below_long [] [] h = absurd (bot (cc))
 below_long [] (c ∷ q) h = omega arith
