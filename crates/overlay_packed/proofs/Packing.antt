@@ -1,5 +1,5 @@
 -- What is packed of a reply, and when its parts fit; the record stored where a call is accepted; a run, a writing, a reading and a report by their cases.
-use mathlib.Core.Path.{◌≡◌, sym, subst}
+use mathlib.Core.Path.{◌≡◌, sym, ap, subst, ◌∙◌}
 use Prim.Native.Nat.{ℕ, ◌<◌}
 use native.Mathlib.Omega.{arith}
 use Rattle.model.specs.Answer.{Reply, accepted, refused, told_refusal}
@@ -18,6 +18,10 @@ use Rattle.overlay_packed.specs.Packed.{packed, Fits}
 pub row_fits : (a : Reply) (w : Row) → w ≡ row_of a → Fits a → Fits (refused w.number w.path w.len)
 row_fits (accepted v) w e h = subst (λ (x : Row). Fits (refused x.number x.path x.len)) (sym e) (omega arith, omega arith, h)
 row_fits (refused n p l) w e h = subst (λ (x : Row). Fits (refused x.number x.path x.len)) (sym e) h
+
+pub row_packed : (a : Reply) (w : Row) → w ≡ row_of a → packed (refused w.number w.path w.len) ≡ packed a
+row_packed (accepted v) w e = ap (λ (x : Row). packed (refused x.number x.path x.len)) e ∙ omega arith
+row_packed (refused n p l) w e = ap (λ (x : Row). packed (refused x.number x.path x.len)) e
 
 -- a writing that is done, with a file of n bytes
 pub writing_fits : (w : Result ℕ WriteError) (n : ℕ) → w ≡ Ok n → Fits (told_writing w) → n < 0x1_0000_0000_0000

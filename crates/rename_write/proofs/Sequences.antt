@@ -39,6 +39,10 @@ use Rattle.rename_write.specs.Stretch.{movable, turned, Listed, Movables, Room, 
 use Rattle.rename_write.specs.Sequence.{Fits, AllPut, lower, top_of}
 use Rattle.rename_write.proofs.Loops.{into_append}
 
+-- nothing
+pub none_put : (s w : Bytes) (x : Merge) → AllPut s w w [] x x
+none_put s w x = record { merged = λ t k later m u. record { k = k; merged = m; up = u }; long = refl; end = refl }
+
 -- one entry
 pub one_room : (s w : Bytes) (x : Merge) (i : Path × Entry) → Fits s w (i ∷ []) x → Room s w x i
 one_room s w x i f =

@@ -79,6 +79,16 @@ no_slash_lem k i h r e =
 
 -- the names of k alone, with what is visible there
 module _ (p k : Path) where
+  pub nothing_named : (o : Option Node) → says exists (kind_of o) ≡ false → names p (tree_of k o) ≡ []
+  nothing_named none h = refl
+  nothing_named (some n) h =
+      let e : not (is_link (kind_of (some n))) ≡ false = shows_node n ∙ h in
+      rw e (and_false (child_of p k))
+    where
+      and_false : (b : Bool) → cons_if (b && false) (drop (name_start p) k) [] ≡ []
+      and_false true = refl
+      and_false false = refl
+
   named_if : (n : Node) → says exists (kind_of (some n)) ≡ true → inside p k ≡ true
       → names p (tree_of k (some n)) ≡ cons_if (slashless (drop (name_start p) k)) (drop (name_start p) k) []
   named_if n h i =
