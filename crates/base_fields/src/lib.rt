@@ -114,12 +114,15 @@ pub fn is_before(a: &[u8], b: &[u8]) -> bool
     compared(a, b).is_lt()
 }
 
-// Writes all of src from `at` on. One pass over src, however long the buffer is.
+// Writes all of src from `at` on. One pass over src, however long the buffer is. A loop of its own: the library's
+// `copy_from_slice` would have every archive for C ask for `memmove` from outside.
 pub fn copy_in(t: &mut [u8], at: usize, src: &[u8])
     requires { at + length src.now ≤ length t.old }
     ensures { t.new ≡ overwritten t.old at src.now }
 {
-    t[at..at + src.len()].copy_from_slice(src);
+    for (i, &byte) in src.iter().enumerate() {
+        t[at + i] = byte;
+    }
 }
 
 // Writes 0 to every byte from `from` up to `to`; then to every byte from `from` on.
