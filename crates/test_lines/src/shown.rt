@@ -2,9 +2,14 @@
 // and for each byte that is part of no character.
 use std::io;
 
+// Each character is written by itself.
 fn characters(out: &impl Print, text: &str) -> io::Result<()> {
     for c in text.chars() {
-        out.print(if c.is_control() { '?' } else { c })?;
+        if c.is_control() {
+            out.write_all(b"?")?;
+        } else {
+            out.write_all(c.encode_utf8(&mut [0; 4]).as_bytes())?;
+        }
     }
     Ok(())
 }
