@@ -792,6 +792,12 @@ fn run() -> State {
     )
 }
 
+// A number behind a text, each a write of its own.
+fn say(rt: &impl Print, s: &[u8], n: u64) -> io::Result<()> {
+    rt.write_all(s)?;
+    rt.print(n)
+}
+
 fn main(rt: HostRuntime) -> io::Result<()> {
     let State {
         rec: _,
@@ -804,7 +810,12 @@ fn main(rt: HostRuntime) -> io::Result<()> {
         inside,
         wrong,
     } = run();
-    print!(&rt; "random calls: accepted {accepted}, of these renames {moved}, appends {added}")?;
-    print!(&rt; ", writings inside {inside}; refused {refused}, of these at the limit {limited}")?;
-    println!(&rt; "; differences {wrong}")
+    say(&rt, b"random calls: accepted ", accepted)?;
+    say(&rt, b", of these renames ", moved)?;
+    say(&rt, b", appends ", added)?;
+    say(&rt, b", writings inside ", inside)?;
+    say(&rt, b"; refused ", refused)?;
+    say(&rt, b", of these at the limit ", limited)?;
+    say(&rt, b"; differences ", wrong)?;
+    rt.write_all(b"\n")
 }

@@ -1,4 +1,5 @@
-// What is said on standard error, which is lent: a line, with the name of the file that it is about.
+// What is said on standard error, which is lent: a line, with the name of the file that it is about. Each text and each
+// number is a write of its own.
 use crate::args::NAME_SIZE;
 use std::io;
 use std::io::{Error, ErrorKind};
@@ -17,7 +18,8 @@ fn name(rt: &impl Env, err: &impl Print, i: usize) -> io::Result<()> {
     let length = rt.arg(i, &mut name).unwrap_or(0);
     text(err, b"variant: ")?;
     if length == 0 {
-        print!(err; "argument {i}")?;
+        text(err, b"argument ")?;
+        err.print(i)?;
     }
     test_lines::bytes(err, &name[..length])?;
     text(err, b": ")
@@ -62,5 +64,7 @@ pub fn unmade(rt: &impl Env, err: &impl Print, i: usize, error: Error) -> io::Re
 // That it is no script, and where it goes wrong.
 pub fn no_script(rt: &impl Env, err: &impl Print, i: usize, at: usize) -> io::Result<()> {
     name(rt, err, i)?;
-    println!(err; "is not a script: wrong at byte {at}, counted from 0")
+    text(err, b"is not a script: wrong at byte ")?;
+    err.print(at)?;
+    text(err, b", counted from 0\n")
 }

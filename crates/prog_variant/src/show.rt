@@ -67,13 +67,25 @@ fn answer(rt: &impl Print, number: u64, path: u64, len: u64) -> io::Result<()> {
     column(rt, len, 8)
 }
 
+// A number behind a text, each a write of its own.
+fn number(rt: &impl Print, s: &[u8], n: u64) -> io::Result<()> {
+    text(rt, s)?;
+    rt.print(n)
+}
+
 // What a call's line has behind its path: a rename's destination, how many bytes are added and how many lent for it, or
 // how many are written inside and where; a write's data are not shown.
 fn behind(rt: &impl Print, order: Order, second: &[u8], third: &[u8]) -> io::Result<()> {
-    let added = second.len();
+    let added = second.len() as u64;
     match order.kind {
-        Kind::Append => print!(rt; ", {added} bytes, lent {}", third.len())?,
-        Kind::WriteInside => print!(rt; ", {added} bytes at {}", order.offset)?,
+        Kind::Append => {
+            number(rt, b", ", added)?;
+            number(rt, b" bytes, lent ", third.len() as u64)?;
+        }
+        Kind::WriteInside => {
+            number(rt, b", ", added)?;
+            number(rt, b" bytes at ", order.offset)?;
+        }
         Kind::Rename => {
             text(rt, b" -> ")?;
             bytes(rt, second)?;

@@ -7,15 +7,24 @@ pub fn text(rt: &impl Print, s: &[u8]) -> io::Result<()> {
     rt.write_all(s)
 }
 
+// A number behind a text, each a write of its own.
+fn number(rt: &impl Print, s: &[u8], n: u64) -> io::Result<()> {
+    text(rt, s)?;
+    rt.print(n)
+}
+
 // A refusal's number, and in brackets its path and length.
 fn refused(rt: &impl Print, refusal: Refusal) -> io::Result<()> {
     let row = call_values::told_refusal(refusal);
-    print!(rt; ": {} ({}, {})", row.number, row.path, row.len)
+    number(rt, b": ", row.number)?;
+    number(rt, b" (", row.path)?;
+    number(rt, b", ", row.len)?;
+    text(rt, b")")
 }
 
 pub fn answer(rt: &impl Print, answer: Answer) -> io::Result<()> {
     match answer {
-        Ok(value) => print!(rt; ": accepted {value}"),
+        Ok(value) => number(rt, b": accepted ", value),
         Err(refusal) => refused(rt, refusal),
     }
 }
@@ -30,7 +39,8 @@ pub fn finding(rt: &impl Print, finding: Finding) -> io::Result<()> {
 
 pub fn rec(rt: &impl Print, rec: Record) -> io::Result<()> {
     let Record { count, charge, .. } = rec;
-    print!(rt; "; charge {charge}, entries {count}")
+    number(rt, b"; charge ", charge)?;
+    number(rt, b", entries ", count)
 }
 
 // The end of a line, if what it says is so.
@@ -40,7 +50,7 @@ pub fn end(rt: &impl Print, right: bool, s: &[u8]) -> io::Result<()> {
 
 pub fn bytes(rt: &impl Print, s: &[u8]) -> io::Result<()> {
     for b in s {
-        print!(rt; " {b}")?;
+        number(rt, b" ", u64::from(*b))?;
     }
     Ok(())
 }

@@ -19,8 +19,13 @@ pub fn text(rt: &impl Print, s: &[u8]) -> io::Result<()> {
     rt.write_all(s)
 }
 
-// A number at the right of a column of this width. A blank stands before it however wide it is.
+// A number at the right of a column of this width, which is at most 20. A blank stands before it however wide it is.
+// That blank, the other blanks and the number are three writes.
 pub fn column(rt: &impl Print, n: u64, width: usize) -> io::Result<()> {
-    let behind_blank = width.saturating_sub(1);
-    print!(rt; " {n:>behind_blank$}")
+    let power = n.checked_ilog10().unwrap_or(0) as usize;
+    text(rt, b" ")?;
+    if let Some(blanks) = [b' '; 20].get(power + 2..width) {
+        text(rt, blanks)?;
+    }
+    rt.print(n)
 }
