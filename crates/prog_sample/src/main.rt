@@ -41,10 +41,16 @@ fn text(rt: &impl Print, s: &[u8]) -> io::Result<()> {
     rt.write_all(s)
 }
 
+// A number, and a text behind it, each a write of its own.
+fn number(rt: &impl Print, n: u64, s: &[u8]) -> io::Result<()> {
+    rt.print(n)?;
+    text(rt, s)
+}
+
 // The line of a list that differs.
 fn differs(rt: &impl Print, list: u64, how: &[u8]) -> io::Result<bool> {
-    print!(rt; "list {list}")?;
-    text(rt, how)?;
+    text(rt, b"list ")?;
+    number(rt, list, how)?;
     Ok(true)
 }
 
@@ -54,7 +60,8 @@ fn answer_differs(rt: &impl Print, list: u64, report: &[u8], rows: &[u8]) -> io:
     if rows.len() <= same {
         return Ok(false);
     }
-    print!(rt; "call {} of ", same / ROW_SIZE + 1)?;
+    text(rt, b"call ")?;
+    number(rt, (same / ROW_SIZE) as u64 + 1, b" of ")?;
     differs(rt, list, b": another answer or charge\n")
 }
 
@@ -155,18 +162,20 @@ fn replay_all(rt: &impl Print, err: &impl Print, count: u64, lists: &[u8]) -> io
     let mut calls: u64 = 0;
     let mut differ: u64 = 0;
     for i in 0..count {
-        let number = i + 1;
         let Some((list, behind)) = first_list(rest) else {
-            return println!(err; "prog_sample: the file ends within list {number}");
+            say(err, b"prog_sample: the file ends within list ")?;
+            return number(err, i + 1, b"\n");
         };
         rest = behind;
         calls = calls.saturating_add((list.rows.len() / ROW_SIZE) as u64);
-        differ = differ.saturating_add(u64::from(list_differs(rt, number, list)?));
+        differ = differ.saturating_add(u64::from(list_differs(rt, i + 1, list)?));
     }
     if !rest.is_empty() {
         return say(err, b"prog_sample: the file goes on behind its last list\n");
     }
-    println!(rt; "{count} lists, {calls} calls, {differ} lists differ")
+    number(rt, count, b" lists, ")?;
+    number(rt, calls, b" calls, ")?;
+    number(rt, differ, b" lists differ\n")
 }
 
 fn replay_file(rt: &impl Print, err: &impl Print, sample: &[u8]) -> io::Result<()> {
@@ -251,7 +260,7 @@ fn held(rt: &(impl Env + Files + Print), err: &impl Print) -> io::Result<()> {
 
 fn main(rt: HostRuntime) -> io::Result<()> {
     let err = rt.stderr();
-    if test_args::count(&rt) != 2 {
+    if !test_args::is_given(&rt, 1) || test_args::is_given(&rt, 2) {
         return say(&err, b"usage: prog_sample SAMPLE\n");
     }
     held(&rt, &err)
