@@ -7,6 +7,8 @@
 // original was asked (host/README.md, "The sample").
 #![tactic(auto)]
 
+ghost use Rattle.std.specs.Prelude.{◌<◌, length, IfSome};
+
 use model::Record;
 use run_calls::RunError;
 use std::fs::File;
@@ -141,7 +143,9 @@ fn list_differs(rt: &impl Print, number: u64, list: List<'_>) -> io::Result<bool
 
 // The list that the bytes begin with, by the lengths at its head, and what stands behind it; none where they end within
 // it.
-fn first_list(s: &[u8]) -> Option<(List<'_>, &[u8])> {
+fn first_list(s: &[u8]) -> Option<(List<'_>, &[u8])>
+    ensures { IfSome result (λ p. length p.0.rows.now < 0x1_0000_0000) }
+{
     let (head, s) = s.split_at_checked(LIST_HEAD)?;
     let (listing, s) = s.split_at_checked(base_fields::le32(head, 0) as usize)?;
     let (script, s) = s.split_at_checked(base_fields::le32(head, 4) as usize)?;
@@ -156,8 +160,10 @@ fn first_list(s: &[u8]) -> Option<(List<'_>, &[u8])> {
     Some((list, s))
 }
 
-// All lists, one after another, and what they came to. No file has so many calls that a sum ends at its type's top.
-fn replay_all(rt: &impl Print, err: &impl Print, count: u64, lists: &[u8]) -> io::Result<()> {
+// All lists, one after another, and what they came to.
+fn replay_all(rt: &impl Print, err: &impl Print, count: u64, lists: &[u8]) -> io::Result<()>
+    requires { count < 0x1_0000_0000 }
+{
     let mut rest = lists;
     let mut calls: u64 = 0;
     let mut differ: u64 = 0;
@@ -167,8 +173,8 @@ fn replay_all(rt: &impl Print, err: &impl Print, count: u64, lists: &[u8]) -> io
             return number(err, i + 1, b"\n");
         };
         rest = behind;
-        calls = calls.saturating_add((list.rows.len() / ROW_SIZE) as u64);
-        differ = differ.saturating_add(u64::from(list_differs(rt, i + 1, list)?));
+        calls += (list.rows.len() / ROW_SIZE) as u64;
+        differ += u64::from(list_differs(rt, i + 1, list)?);
     }
     if !rest.is_empty() {
         return say(err, b"prog_sample: the file goes on behind its last list\n");
