@@ -19,13 +19,78 @@ pub fn text(rt: &impl Print, s: &[u8]) -> io::Result<()> {
     rt.write_all(s)
 }
 
-// A number at the right of a column of this width, which is at most 20. A blank stands before it however wide it is.
-// That blank, the other blanks and the number are three writes.
+// A number at the right of a column of this width. A blank stands before it however wide it is. That blank, the other
+// blanks and the number are three writes; in a column wider than 20 each blank is a write.
 pub fn column(rt: &impl Print, n: u64, width: usize) -> io::Result<()> {
     let power = n.checked_ilog10().unwrap_or(0) as usize;
     text(rt, b" ")?;
     if let Some(blanks) = [b' '; 20].get(power + 2..width) {
         text(rt, blanks)?;
+    } else {
+        for _ in power + 2..width {
+            text(rt, b" ")?;
+        }
     }
     rt.print(n)
+}
+
+#[cfg(test)]
+mod tests {
+    use super::*;
+    use std::cell::RefCell;
+    use std::fmt::Display;
+    use std::io::Write;
+    use std::test::Fail;
+
+    // What is printed, kept.
+    #[derive(Drop)]
+    struct Kept {
+        written: RefCell<Vec<u8>>,
+    }
+
+    impl Print for Kept {
+        fn print<D: Display + Drop>(&self, value: D) -> io::Result<()> {
+            let mut written = self
+                .written
+                .try_borrow_mut()
+                .map_err(|_| io::ErrorKind::Other)?;
+            write!(&mut *written, "{value}")
+        }
+
+        fn println<D: Display + Drop>(&self, value: D) -> io::Result<()> {
+            self.print(value)?;
+            self.write_all(b"\n")
+        }
+
+        fn write_all(&self, bytes: &[u8]) -> io::Result<()> {
+            let mut written = self
+                .written
+                .try_borrow_mut()
+                .map_err(|_| io::ErrorKind::Other)?;
+            Ok(written.extend_from_slice(bytes)?)
+        }
+    }
+
+    #[test]
+    fn columns(rt: HostRuntime) -> Result<(), Fail> {
+        for (n, width, want) in [
+            (0, 0, b" 0".as_slice()),
+            (7, 5, b"    7".as_slice()),
+            (12345, 3, b" 12345".as_slice()),
+            (7, 20, b"                   7".as_slice()),
+            (7, 21, b"                    7".as_slice()),
+            (98765, 25, b"                    98765".as_slice()),
+        ] {
+            let kept = Kept {
+                written: RefCell::new(Vec::new(rt.alloc())),
+            };
+            column(&kept, n, width)?;
+            assert_eq!(rt;
+                kept.written.into_inner().as_slice(),
+                want,
+                "{n} in {width}"
+            );
+        }
+        Ok(())
+    }
 }
