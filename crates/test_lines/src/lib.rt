@@ -19,8 +19,8 @@ pub fn text(rt: &impl Print, s: &[u8]) -> io::Result<()> {
     rt.write_all(s)
 }
 
-// A number at the right of a column of this width. A blank stands before it however wide it is. That blank, the other
-// blanks and the number are three writes; in a column wider than 20 each blank is a write.
+// A number at the right of a column of this width. A blank stands before it however wide it is. That blank, the blanks
+// behind it and the number are writes of their own; in a column wider than 20 each blank is one.
 pub fn column(rt: &impl Print, n: u64, width: usize) -> io::Result<()> {
     let power = n.checked_ilog10().unwrap_or(0) as usize;
     text(rt, b" ")?;
@@ -42,7 +42,7 @@ mod tests {
     use std::io::Write;
     use std::test::Fail;
 
-    // What is printed, kept.
+    // What is printed, kept, with a bar behind each write.
     #[derive(Drop)]
     struct Kept {
         written: RefCell<Vec<u8>>,
@@ -54,7 +54,7 @@ mod tests {
                 .written
                 .try_borrow_mut()
                 .map_err(|_| io::ErrorKind::Other)?;
-            write!(&mut *written, "{value}")
+            write!(&mut *written, "{value}|")
         }
 
         fn println<D: Display + Drop>(&self, value: D) -> io::Result<()> {
@@ -67,19 +67,28 @@ mod tests {
                 .written
                 .try_borrow_mut()
                 .map_err(|_| io::ErrorKind::Other)?;
-            Ok(written.extend_from_slice(bytes)?)
+            written.extend_from_slice(bytes)?;
+            Ok(written.push(b'|')?)
         }
     }
 
     #[test]
     fn columns(rt: HostRuntime) -> Result<(), Fail> {
         for (n, width, want) in [
-            (0, 0, b" 0".as_slice()),
-            (7, 5, b"    7".as_slice()),
-            (12345, 3, b" 12345".as_slice()),
-            (7, 20, b"                   7".as_slice()),
-            (7, 21, b"                    7".as_slice()),
-            (98765, 25, b"                    98765".as_slice()),
+            (0, 0, b" |0|".as_slice()),
+            (7, 5, b" |   |7|".as_slice()),
+            (12345, 3, b" |12345|".as_slice()),
+            (7, 20, b" |                  |7|".as_slice()),
+            (
+                7,
+                21,
+                b" | | | | | | | | | | | | | | | | | | | |7|".as_slice(),
+            ),
+            (
+                98765,
+                25,
+                b" | | | | | | | | | | | | | | | | | | | |98765|".as_slice(),
+            ),
         ] {
             let kept = Kept {
                 written: RefCell::new(Vec::new(rt.alloc())),
